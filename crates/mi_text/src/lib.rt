@@ -1,0 +1,21 @@
+//! Texts and what is made of them: names of the volume and maps from names, paths, codes, versions
+//! and the look-ups that formatted text and conditions ask for.
+#![tactic(auto)]
+
+mod answers;
+mod bytes;
+mod env;
+mod guid;
+mod name;
+mod path;
+mod plain_env;
+mod text;
+
+pub use answers::{IdtFault, Settled};
+pub use bytes::Bytes;
+pub use env::{Env, Sign};
+pub use guid::{Guid, NotGuid};
+pub use name::{Name, NameError};
+pub use path::{PathError, PathFault, PathText};
+pub use plain_env::PlainEnv;
+pub use text::{NoMemory, Text, fold};
