@@ -1,0 +1,111 @@
+// A volume as the crates above see it.
+ghost use Rattle.std.specs.Prelude.{◌≡◌, ◌-◌, ◌≤◌, ◌++◌, List, ℕ, length, take, drop, IfOk, OnErr, IfSome, IsSome, IsErrOf};
+ghost use Rattle.std.specs.Option.{option_copied, option_map};
+ghost use Rattle.std.specs.FinMap.{get};
+ghost use Rattle.mi_volume.specs.Maps.{Map, size, bytes_or_none, IsAbove, IsNext, HoldsByte};
+ghost use Rattle.mi_volume.specs.State.{State, Images, ImagesOf, GoesOn, Stays, Rose, MayLeave};
+ghost use Rattle.mi_volume.specs.Calls.{Writes, Removes, Marks, Syncs};
+
+use mi_text::{Bytes, Name};
+use std::alloc::Global;
+
+/// The volume has failed.
+#[derive(Clone, Copy, Debug, PartialEq, Eq)]
+pub struct Failed;
+
+#[derive(Clone, Copy, Debug, PartialEq, Eq)]
+pub enum VolFault {
+    NoMemory,
+    Failed,
+}
+
+#[derive(Clone, Copy, Debug, PartialEq, Eq)]
+pub enum PutFault {
+    NoMemory,
+    Failed,
+    Full,
+}
+
+/// The longest piece that is read or written at once.
+pub const PIECE: usize = 65_536;
+
+pub trait Volume {
+    /// Whether the volumes of this type tell what they hold. What is held is claimed only then.
+    ghost told: { Type 0 };
+
+    /// The volume at this moment.
+    ghost state: { Self → State };
+
+    /// The least held name above `after`, in byte order.
+    fn next(&mut self, alloc: Global, after: Option<&Name>) -> Result<Option<Name>, VolFault>
+        ensures value { told → IfOk result (IsNext (state self.old).held (option_copied after.entry)) }
+        ensures above { IfOk result (λ name. IfSome name (IsAbove (option_copied after.entry))) }
+        ensures stays { told → Stays (state self.old) (state self.new) }
+        ensures moments { GoesOn (state self.old) (state self.new) (Images (state self.old)) }
+        ensures failed { IsErrOf result VolFault.Failed → Rose (state self.old) (state self.new) };
+
+    /// The length of the name's bytes, or None where it isn't held.
+    fn size(&mut self, name: &Name) -> Result<Option<u64>, Failed>
+        ensures value { told → IfOk result (λ n. n ≡ option_map length (get (state self.old).held name.now)) }
+        ensures stays { told → Stays (state self.old) (state self.new) }
+        ensures moments { GoesOn (state self.old) (state self.new) (Images (state self.old)) }
+        ensures failed { OnErr result (Rose (state self.old) (state self.new)) };
+
+    /// The bytes from `at`, at most `want`, and fewer only at the end.
+    fn read(&mut self, alloc: Global, name: &Name, at: u64, want: usize) -> Result<Bytes, VolFault>
+        requires { want ≤ PIECE }
+        ensures value { told → IfOk result (λ bytes. bytes ≡ take want (drop at (bytes_or_none (get (state self.old).held name.now)))) }
+        ensures short { IfOk result (λ bytes. length bytes ≤ want) }
+        ensures stays { told → Stays (state self.old) (state self.new) }
+        ensures moments { GoesOn (state self.old) (state self.new) (Images (state self.old)) }
+        ensures failed { IsErrOf result VolFault.Failed → Rose (state self.old) (state self.new) };
+
+    /// Gives the name exactly these bytes.
+    fn put(&mut self, alloc: Global, name: &Name, bytes: &[u8]) -> Result<(), PutFault>
+        requires { length bytes.now ≤ PIECE }
+        ensures writes { told → Writes name.now bytes.now (state self.old) (state self.new) result }
+        ensures moments { GoesOn (state self.old) (state self.new) (ImagesOf name.now (state self.old)) }
+        ensures failed { IsErrOf result PutFault.Failed → Rose (state self.old) (state self.new) }
+        ensures full { IsErrOf result PutFault.Full → told × IsSome (state self.old).capacity };
+
+    /// Adds the bytes at the end, and makes the name where it isn't held.
+    fn append(&mut self, alloc: Global, name: &Name, bytes: &[u8]) -> Result<(), PutFault>
+        requires { length bytes.now ≤ PIECE }
+        ensures writes { told → Writes name.now (bytes_or_none (get (state self.old).held name.now) ++ bytes.now) (state self.old) (state self.new) result }
+        ensures moments { GoesOn (state self.old) (state self.new) (ImagesOf name.now (state self.old)) }
+        ensures failed { IsErrOf result PutFault.Failed → Rose (state self.old) (state self.new) }
+        ensures full { IsErrOf result PutFault.Full → told × IsSome (state self.old).capacity };
+
+    /// Replaces the one byte of the name.
+    fn mark(&mut self, name: &Name, byte: u8) -> Result<(), Failed>
+        requires { told → HoldsByte (state self.old).held name.now }
+        ensures marks { told → Marks name.now byte (state self.old) (state self.new) result }
+        ensures moments { GoesOn (state self.old) (state self.new) (ImagesOf name.now (state self.old)) }
+        ensures failed { OnErr result (Rose (state self.old) (state self.new)) };
+
+    /// Takes the name away, if it is held.
+    fn remove(&mut self, name: &Name) -> Result<(), Failed>
+        ensures removes { told → Removes name.now (state self.old) (state self.new) result }
+        ensures moments { GoesOn (state self.old) (state self.new) (ImagesOf name.now (state self.old)) }
+        ensures failed { OnErr result (Rose (state self.old) (state self.new)) };
+
+    /// After it, a crash leaves what reads give.
+    fn sync(&mut self) -> Result<(), Failed>
+        ensures syncs { told → Syncs (state self.old) (state self.new) result }
+        ensures moments { GoesOn (state self.old) (state self.new) (Images (state self.old)) }
+        ensures failed { OnErr result (Rose (state self.old) (state self.new)) };
+
+    /// The capacity less the size of what is held, or None where no capacity is told.
+    fn free(&mut self) -> Result<Option<u64>, Failed>
+        ensures value { told → IfOk result (λ n. n ≡ option_map (λ c. c - size (state self.old).held) (state self.old).capacity) }
+        ensures stays { told → Stays (state self.old) (state self.new) }
+        ensures moments { GoesOn (state self.old) (state self.new) (Images (state self.old)) }
+        ensures failed { OnErr result (Rose (state self.old) (state self.new)) };
+
+    /// How often the volume has failed.
+    fn faults(&self) -> u64
+        ensures { result ≡ (state self.now).faults };
+
+    /// This moment is one of those since an earlier one.
+    ghost counts_now: { told → (v : Self) (t : ℕ) (d : Map) → t ≤ (state v).moment → Images (state v) d → (state v).left_since t d };
+}
