@@ -1,24 +1,19 @@
 -- The size of a map after a change.
-use Rattle.std.proofs.Common.{◌≡◌, ℕ, ◌+◌, Bool, true, false, cond, ◌&&◌, List, [], ◌∷◌, length, Option, Some, None, T, refl, sym, ap, subst, ◌∙◌, arith}
+use Rattle.std.proofs.Common.{◌≡◌, ℕ, ◌+◌, Bool, true, false, cond, ◌&&◌, List, [], ◌∷◌, length, Some, None, T, refl, sym, ap, subst, ◌∙◌, arith}
 use Rattle.std.specs.Ordering.{nat_cmp, is_eq, is_lt}
 use Rattle.std.specs.declared.cmp.Ordering.{Ordering}
 use Rattle.std.specs.declared.cmp.Ordering.TheVariants.{Less, Equal, Greater}
 use Rattle.std.specs.Cmp.Lexicographic.{slice_cmp, nat_list_cmp_total}
 use Rattle.std.specs.FinMap.{get, insert, entries, entries_sorted, entries-insert, get-entries}
 use Rattle.std.specs.FinMap.Entries.{put, find, is_sorted, below_all, by_order}
-use Rattle.mi_volume.specs.Maps.{Map, size, weight}
-use Rattle.mi_volume.proofs.MapLemmas.{ties}
+use Rattle.mi_text.proofs.MapLemmas.{names_exact}
+use Rattle.mi_volume.specs.Maps.{Map, size, weight, slot_size}
 
 abbrev Pairs : Type 0
 Pairs = List (List ℕ × List ℕ)
 
 abbrev order : List ℕ → List ℕ → Ordering
 order = slice_cmp nat_cmp
-
--- what a name counts
-abbrev pub slot_size : List ℕ → Option (List ℕ) → ℕ
-slot_size n None = 0
-slot_size n (Some b) = length n + length b
 
 both_parts : (a b : Bool) → T (a && b) → T a × T b
 both_parts true b p = (tt, p)
@@ -52,7 +47,7 @@ size_put k v (e ∷ es) sorted =
           let here : length k + length v + (length e.0 + length e.1 + weight es) + slot_size k (find order k es) ≡ length e.0 + length e.1 + weight es + (length k + length v) = omega arith in
           here
       | Equal ↦ λ same.
-          let key : length k ≡ length e.0 = ap length (ties k e.0 same) in
+          let key : length k ≡ length e.0 = ap length (names_exact k e.0 same) in
           let here : length e.0 + length v + weight es + (length k + length e.1) ≡ length e.0 + length e.1 + weight es + (length k + length v) = omega arith in
           here
       | Greater ↦ λ more.

@@ -2,27 +2,41 @@
 ghost use Rattle.std.specs.Prelude.{◌≡◌, ◌-◌, ◌≤◌, ◌++◌, List, ℕ, length, take, drop, IfOk, OnErr, IfSome, IsSome, IsErrOf};
 ghost use Rattle.std.specs.Option.{option_copied, option_map};
 ghost use Rattle.std.specs.FinMap.{get};
-ghost use Rattle.mi_volume.specs.Maps.{Map, size, bytes_or_none, IsAbove, IsNext, HoldsByte};
-ghost use Rattle.mi_volume.specs.State.{State, Images, ImagesOf, GoesOn, Stays, Rose, MayLeave};
+ghost use Rattle.mi_text.specs.Next.{next_name};
+ghost use Rattle.mi_volume.specs.Maps.{Map, size, bytes_or_none, IsAbove, HoldsByte};
+ghost use Rattle.mi_volume.specs.State.{State, Images, ImagesOf, GoesOn, Stays, StaysDirty, Rose};
 ghost use Rattle.mi_volume.specs.Calls.{Writes, Removes, Marks, Syncs};
 
 use mi_text::{Bytes, Name};
 use std::alloc::Global;
+use thiserror::Error;
 
 /// The volume has failed.
 #[derive(Clone, Copy, Debug, PartialEq, Eq)]
 pub struct Failed;
 
-#[derive(Clone, Copy, Debug, PartialEq, Eq)]
+/// Why a name or its bytes can't be told.
+#[derive(Clone, Copy, Debug, Error, PartialEq, Eq)]
 pub enum VolFault {
+    /// No memory for the answer.
+    #[error("out of memory")]
     NoMemory,
+    /// The volume has failed, and counts it.
+    #[error("the volume has failed")]
     Failed,
 }
 
-#[derive(Clone, Copy, Debug, PartialEq, Eq)]
+/// Why bytes can't be written.
+#[derive(Clone, Copy, Debug, Error, PartialEq, Eq)]
 pub enum PutFault {
+    /// No memory for the bytes, and nothing is changed.
+    #[error("out of memory")]
     NoMemory,
+    /// The volume has failed, and counts it.
+    #[error("the volume has failed")]
     Failed,
+    /// The size would pass the capacity, and nothing is changed.
+    #[error("the volume is full")]
     Full,
 }
 
@@ -38,9 +52,10 @@ pub trait Volume {
 
     /// The least held name above `after`, in byte order.
     fn next(&mut self, alloc: Global, after: Option<&Name>) -> Result<Option<Name>, VolFault>
-        ensures value { told → IfOk result (IsNext (state self.old).held (option_copied after.entry)) }
+        ensures value { told → IfOk result (λ name. name ≡ next_name (state self.old).held (option_copied after.entry)) }
         ensures above { IfOk result (λ name. IfSome name (IsAbove (option_copied after.entry))) }
         ensures stays { told → Stays (state self.old) (state self.new) }
+        ensures still { told → StaysDirty (state self.old) (state self.new) }
         ensures moments { GoesOn (state self.old) (state self.new) (Images (state self.old)) }
         ensures failed { IsErrOf result VolFault.Failed → Rose (state self.old) (state self.new) };
 
@@ -48,6 +63,7 @@ pub trait Volume {
     fn size(&mut self, name: &Name) -> Result<Option<u64>, Failed>
         ensures value { told → IfOk result (λ n. n ≡ option_map length (get (state self.old).held name.now)) }
         ensures stays { told → Stays (state self.old) (state self.new) }
+        ensures still { told → StaysDirty (state self.old) (state self.new) }
         ensures moments { GoesOn (state self.old) (state self.new) (Images (state self.old)) }
         ensures failed { OnErr result (Rose (state self.old) (state self.new)) };
 
@@ -57,6 +73,7 @@ pub trait Volume {
         ensures value { told → IfOk result (λ bytes. bytes ≡ take want (drop at (bytes_or_none (get (state self.old).held name.now)))) }
         ensures short { IfOk result (λ bytes. length bytes ≤ want) }
         ensures stays { told → Stays (state self.old) (state self.new) }
+        ensures still { told → StaysDirty (state self.old) (state self.new) }
         ensures moments { GoesOn (state self.old) (state self.new) (Images (state self.old)) }
         ensures failed { IsErrOf result VolFault.Failed → Rose (state self.old) (state self.new) };
 
@@ -99,6 +116,7 @@ pub trait Volume {
     fn free(&mut self) -> Result<Option<u64>, Failed>
         ensures value { told → IfOk result (λ n. n ≡ option_map (λ c. c - size (state self.old).held) (state self.old).capacity) }
         ensures stays { told → Stays (state self.old) (state self.new) }
+        ensures still { told → StaysDirty (state self.old) (state self.new) }
         ensures moments { GoesOn (state self.old) (state self.new) (Images (state self.old)) }
         ensures failed { OnErr result (Rose (state self.old) (state self.new)) };
 
