@@ -1,5 +1,5 @@
 // A volume as the crates above see it.
-ghost use Rattle.std.specs.Prelude.{◌≡◌, ◌-◌, ◌≤◌, ◌++◌, List, ℕ, length, take, drop, IfOk, OnErr, IfSome, IsSome, IsErrOf};
+ghost use Rattle.std.specs.Prelude.{◌≡◌, ◌-◌, ◌^◌, ◌<◌, ◌≤◌, ◌++◌, List, ℕ, length, take, drop, IfOk, OnErr, IfSome, IsSome, IsErrOf};
 ghost use Rattle.std.specs.Option.{option_copied, option_map};
 ghost use Rattle.std.specs.FinMap.{get};
 ghost use Rattle.mi_text.specs.Next.{next_name};
@@ -112,9 +112,11 @@ pub trait Volume {
         ensures moments { GoesOn (state self.old) (state self.new) (Images (state self.old)) }
         ensures failed { OnErr result (Rose (state self.old) (state self.new)) };
 
-    /// The capacity less the size of what is held, or None where no capacity is told.
+    /// The capacity less the size of what is held, or None where no capacity is told. A told capacity is below the
+    /// greatest u64.
     fn free(&mut self) -> Result<Option<u64>, Failed>
         ensures value { told → IfOk result (λ n. n ≡ option_map (λ c. c - size (state self.old).held) (state self.old).capacity) }
+        ensures small { IfSome (state self.old).capacity (λ c. c < 2 ^ 64 - 1) }
         ensures stays { told → Stays (state self.old) (state self.new) }
         ensures still { told → StaysDirty (state self.old) (state self.new) }
         ensures moments { GoesOn (state self.old) (state self.new) (Images (state self.old)) }
