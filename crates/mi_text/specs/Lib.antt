@@ -6,3 +6,5 @@ pub mod Next
 pub mod Path
 pub mod PathReads
 pub mod Plain
+pub mod Version
+pub mod VersionParts

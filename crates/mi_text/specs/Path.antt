@@ -1,6 +1,6 @@
--- Paths.
-use Rattle.std.specs.Prelude.{ℕ, ◌==◌, nat_lt, nat_le, ◌&&◌, ◌||◌, not, Bool, false, if◌then◌else◌, List, [], ◌∷◌, ◌++◌, length, Option, Some, None, Result, Ok, Err, codes}
-use Rattle.std.specs.List.{slice_split, list_all}
+-- Paths of the drive (this project's own spelling of Windows paths).
+use Rattle.std.specs.Prelude.{ℕ, ◌==◌, ◌-◌, nat_lt, nat_le, ◌&&◌, ◌||◌, not, Bool, false, if◌then◌else◌, List, [], ◌∷◌, ◌++◌, length, take, Option, Some, None, Result, Ok, Err, codes}
+use Rattle.std.specs.List.{slice_split, list_any, list_all}
 use Rattle.std.specs.Str.{bytes_eq}
 use Rattle.mi_text.specs.declared.path.PathFault.{PathFault}
 use Rattle.mi_text.specs.declared.path.PathFault.TheVariants.{NotAbsolute, BadPart, Length}
@@ -35,3 +35,51 @@ folder_at (Some rest) = folder_in (slice_split (λ b. b == 92) rest)
 -- the folder that a text names, or the first fault
 abbrev pub folder_of : List ℕ → Result (List ℕ) PathFault
 folder_of text = folder_at (drive_rest text)
+
+abbrev pub is_backslash : ℕ → Bool
+is_backslash b = b == 92
+
+-- the name of one folder or file: not empty, without a backslash, and good
+abbrev pub is_part : List ℕ → Bool
+is_part p = not (length p == 0) && list_all (λ b. not (is_backslash b)) p && good_part p
+
+-- a path has at most 259 bytes
+abbrev pub fitted : List ℕ → Result (List ℕ) PathFault
+fitted path = if nat_lt 259 (length path) then Err Length else Ok path
+
+-- the folder of that name in a folder
+abbrev pub below_of : List ℕ → List ℕ → Result (List ℕ) PathFault
+below_of folder part = if is_part part then fitted (folder ++ part ++ 92 ∷ []) else Err BadPart
+
+-- the file of that name in a folder
+abbrev pub file_of : List ℕ → List ℕ → Result (List ℕ) PathFault
+file_of folder part = if is_part part then fitted (folder ++ part) else Err BadPart
+
+-- a text up to and with its last backslash, or nothing where it has none
+abbrev pub up_to_last : List ℕ → List ℕ
+up_to_last [] = []
+up_to_last (b ∷ bs) = if list_any is_backslash (b ∷ bs) then b ∷ up_to_last bs else []
+
+-- what stands behind the last backslash, or all where there is none
+abbrev pub last_part : List ℕ → List ℕ
+last_part [] = []
+last_part (b ∷ bs) = if list_any is_backslash (b ∷ bs) then last_part bs else b ∷ bs
+
+-- up to and with the last backslash that isn't the last byte; the drive for itself
+unfoldable pub parent_of : List ℕ → List ℕ
+parent_of path = if bytes_eq path (codes "C:\\") then path else up_to_last (take (length path - 1) path)
+
+abbrev pub is_read_as : List ℕ → Result (List ℕ) PathFault → Bool
+is_read_as path (Ok p) = bytes_eq p path
+is_read_as path (Err f) = false
+
+-- a folder's canonical path: the text that is read as itself
+unfoldable pub is_folder_path : List ℕ → Bool
+is_folder_path path = is_read_as path (folder_of path)
+
+-- a file's canonical path: a folder's, and the file's name
+unfoldable pub is_file_path : List ℕ → Bool
+is_file_path path = is_folder_path (up_to_last path) && is_part (last_part path) && nat_le (length path) 259
+
+unfoldable pub is_path : List ℕ → Bool
+is_path path = is_folder_path path || is_file_path path

@@ -10,6 +10,7 @@ mod name;
 mod path;
 mod plain_env;
 mod text;
+mod version;
 
 pub use answers::{IdtFault, Settled};
 pub use bytes::Bytes;
@@ -19,3 +20,4 @@ pub use name::{Name, NameError};
 pub use path::{PathError, PathFault, PathText};
 pub use plain_env::PlainEnv;
 pub use text::{NoMemory, Text, fold};
+pub use version::{NotVersion, Version};
