@@ -1,5 +1,5 @@
 -- A source in memory.
-use Rattle.std.specs.Prelude.{ℕ, List}
+use Rattle.std.specs.Prelude.{ℕ}
 use Rattle.mi_source.specs.Paths.{Files}
 use Rattle.mi_source.specs.Memory.{files_of}
 use Rattle.mi_source.specs.declared.meter.Meter.{Meter}

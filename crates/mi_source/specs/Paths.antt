@@ -1,5 +1,5 @@
 -- The content of a source: a map from paths to bytes. Paths use `/` and compare by bytes.
-use Rattle.std.specs.Prelude.{ℕ, ◌==◌, ◌+◌, List, [], ◌∷◌, ◌++◌, length, drop, nat_eq, Option, Some, None, if◌then◌else◌, option_and_then}
+use Rattle.std.specs.Prelude.{ℕ, ◌==◌, List, [], ◌∷◌, ◌++◌, length, drop, nat_eq, Option, Some, None, if◌then◌else◌, option_and_then}
 use Rattle.std.specs.List.{starts_with, list_any, filter_map}
 use Rattle.std.specs.FinMap.{keys}
 use Rattle.mi_text.specs.Maps.{Name, Map}

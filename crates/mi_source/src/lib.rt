@@ -14,3 +14,6 @@ pub use mem_sink::MemSink;
 pub use mem_source::MemSource;
 pub use sink::Sink;
 pub use source::{PIECE, Source};
+
+#[cfg(test)]
+mod tests;

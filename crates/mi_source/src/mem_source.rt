@@ -60,7 +60,11 @@ fn name_of<'a>(folder: &str, path: &'a str) -> Option<&'a str>
 }
 
 /// The names of the files directly in the folder, in byte order.
-fn names_of(alloc: Global, files: &BTreeMap<String, Bytes>, folder: &str) -> Result<Vec<Text>, NoMemory>
+fn names_of(
+    alloc: Global,
+    files: &BTreeMap<String, Bytes>,
+    folder: &str,
+) -> Result<Vec<Text>, NoMemory>
     ensures { IfOk result (λ names. names.items ≡ names_in (files_of files.now.entries) folder.now) }
 {
     let mut names = Vec::new(alloc);

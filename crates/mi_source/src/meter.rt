@@ -1,6 +1,8 @@
 //! Which calls fail, and how many have failed.
 
-ghost use Rattle.std.specs.Prelude.{◌≡◌, ◌||◌, if◌then◌else◌};
+ghost use Rattle.std.specs.Prelude.{◌≡◌, ◌≤◌, ◌||◌, if◌then◌else◌};
+ghost use Rattle.std.specs.Bool.{OnTrue};
+ghost use Rattle.mi_source.specs.Counts.{Rose};
 ghost use Rattle.mi_source.specs.Memory.{is_listed, one_more};
 
 /// Calls are numbered from 0.
@@ -29,6 +31,8 @@ impl Meter {
     pub fn fails_now(&mut self, cause: bool) -> bool
         ensures value { result ≡ (is_listed self.old.fails.items self.old.number || cause) }
         ensures next { self.new ≡ record { fails = self.old.fails; number = one_more self.old.number; faults = (if result then one_more self.old.faults else self.old.faults) } }
+        ensures counts { self.old.faults ≤ self.new.faults }
+        ensures failed { OnTrue result (Rose self.old.faults self.new.faults) }
     {
         let listed = self.fails.contains(&self.number);
         self.number = self.number.saturating_add(1);
