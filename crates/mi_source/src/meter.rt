@@ -1,0 +1,45 @@
+//! Which calls fail, and how many have failed.
+
+ghost use Rattle.std.specs.Prelude.{◌≡◌, ◌≤◌, ◌||◌, if◌then◌else◌};
+ghost use Rattle.std.specs.Bool.{OnTrue};
+ghost use Rattle.mi_source.specs.Counts.{Rose};
+ghost use Rattle.mi_source.specs.Memory.{is_listed, one_more};
+
+/// Calls are numbered from 0.
+#[derive(Drop)]
+pub struct Meter {
+    /// The numbers of the calls that fail.
+    pub fails: Vec<u64>,
+    /// The number of the next call.
+    pub number: u64,
+    /// How many calls have failed.
+    pub faults: u64,
+}
+
+impl Meter {
+    pub fn new(fails: Vec<u64>) -> Meter
+        ensures { result ≡ record { fails = fails; number = 0; faults = 0 } }
+    {
+        Meter {
+            fails,
+            number: 0,
+            faults: 0,
+        }
+    }
+
+    /// Numbers a call, and tells whether it fails: where its number is listed, or for a cause of its own.
+    pub fn fails_now(&mut self, cause: bool) -> bool
+        ensures value { result ≡ (is_listed self.old.fails.items self.old.number || cause) }
+        ensures next { self.new ≡ record { fails = self.old.fails; number = one_more self.old.number; faults = (if result then one_more self.old.faults else self.old.faults) } }
+        ensures counts { self.old.faults ≤ self.new.faults }
+        ensures failed { OnTrue result (Rose self.old.faults self.new.faults) }
+    {
+        let listed = self.fails.contains(&self.number);
+        self.number = self.number.saturating_add(1);
+        let fails = listed || cause;
+        if fails {
+            self.faults = self.faults.saturating_add(1);
+        }
+        fails
+    }
+}
