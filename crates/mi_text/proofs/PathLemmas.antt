@@ -1,5 +1,5 @@
 -- Canonical paths: the parts that make them, and what a folder, a name below it and a parent give.
-use Rattle.std.proofs.Common.{◌≡◌, ℕ, suc, ◌+◌, ◌-◌, ◌<◌, ◌≤◌, ◌≢◌, ◌⊎◌, Bool, true, false, not, cond, ◌&&◌, ◌||◌, List, [], ◌∷◌, ◌++◌, length, take, drop, Result, Ok, Err, Option, Some, None, refl, sym, ap, ◌∙◌, subst, inl, inr, ⊎_elim, arith, add-one, get_or, get_or-drop, drop-cons, length-drop, length-append, append_assoc, append-nil}
+use Rattle.std.proofs.Common.{◌≡◌, ℕ, suc, ◌+◌, ◌-◌, ◌<◌, ◌≤◌, ◌≢◌, ◌↔◌, ◌⊎◌, Bool, true, false, not, cond, ◌&&◌, ◌||◌, List, [], ◌∷◌, ◌++◌, length, take, drop, Result, Ok, Err, Option, Some, None, refl, sym, ap, ◌∙◌, subst, inl, inr, ⊎_elim, arith, add-one, get_or, get_or-drop, drop-cons, length-drop, length-append, append_assoc, append-nil}
 use Rattle.std.specs.Prelude.{◌==◌, nat_lt, nat_le}
 use Rattle.std.specs.List.{slice_split, onto_first, list_any, list_all}
 use Rattle.std.specs.Str.{bytes_eq}
@@ -7,12 +7,13 @@ use Rattle.std.proofs.lemmas.Bool.{cases_Bool, eqb-true}
 use Rattle.std.proofs.lemmas.Grind.{take_at_read}
 use Rattle.std.proofs.lemmas.Bool.Decides.{nat_tests}
 use Rattle.std.proofs.lemmas.Slice.Eq.{bytes_eq-Decides}
-use Rattle.std.proofs.lemmas.List.{take_at, take-append-drop}
+use Rattle.std.proofs.lemmas.List.Splits.{length-slice_split}
+use Rattle.std.proofs.lemmas.List.{take_at, take-append-drop, same_from_push}
 use Rattle.std.proofs.Math.Seq.{take-append-add}
 use Rattle.std.proofs.lemmas.List.Folds.{list_all-append}
 use Rattle.mi_text.specs.declared.path.PathFault.{PathFault}
 use Rattle.mi_text.specs.declared.path.PathFault.TheVariants.{BadPart, Length}
-use Rattle.mi_text.specs.Path.{good_part, drive_rest, path_on, path_text, folder_in, folder_at, folder_of, is_backslash, is_part, fitted, up_to_last, last_part, parent_of, is_read_as, is_folder_path, is_file_path, is_path}
+use Rattle.mi_text.specs.Path.{good_part, drive_rest, path_on, path_text, folder_in, folder_at, folder_of, is_backslash, is_part, fitted, up_to_last, last_part, parent_of, is_read_as, is_folder_path, is_file_path, is_path, joined, AreJoinedParts}
 
 both : (a b : Bool) → (a && b) ≡ true → (a ≡ true) × (b ≡ true)
 both true b e = (refl, e)
@@ -30,10 +31,6 @@ no_backslash p = list_all (λ b. not (is_backslash b)) p
 
 abbrev pub drive : List ℕ
 drive = 67 ∷ 58 ∷ 92 ∷ []
-
-abbrev pub joined : List (List ℕ) → List ℕ
-joined [] = []
-joined (p ∷ ps) = p ++ 92 ∷ joined ps
 
 abbrev pub all_parts : List (List ℕ) → Bool
 all_parts ps = list_all is_part ps
@@ -465,3 +462,64 @@ parent_of-drive path e = sym (ap (λ b. cond b path (up_to_last (take (length pa
 
 pub other_than_drive : (path : List ℕ) → bytes_eq path drive ≡ false → path ≢ drive
 other_than_drive path e same = let is : bytes_eq path drive ≡ true = (bytes_eq-Decides path drive).1 same in let wrong : true ≡ false = sym is ∙ e in cc
+
+-- joined parts, tested at their backslashes
+split_some : (xs : List ℕ) → 0 < length (slice_split is_backslash xs)
+split_some xs = let n = length-slice_split is_backslash xs in omega arith
+
+joined_onto : (x : ℕ) (ps : List (List ℕ)) → 0 < length ps → joined (onto_first x ps) ≡ x ∷ joined ps
+joined_onto x [] some = absurd (let z : ⊥ = omega arith in z)
+joined_onto x (p ∷ ps) some = refl
+
+onto_push : (x : ℕ) (ps : List (List ℕ)) → 0 < length ps → onto_first x (ps ++ [] ∷ []) ≡ onto_first x ps ++ [] ∷ []
+onto_push x [] some = absurd (let z : ⊥ = omega arith in z)
+onto_push x (p ∷ ps) some = refl
+
+joined_split : (xs : List ℕ) → joined (slice_split is_backslash xs) ≡ xs ++ 92 ∷ []
+joined_split [] = refl
+joined_split (x ∷ xs) =
+    elim (is_backslash x) as (λ b. is_backslash x ≡ b → joined (cond b ([] ∷ slice_split is_backslash xs) (onto_first x (slice_split is_backslash xs))) ≡ x ∷ (xs ++ 92 ∷ [])) [
+      | true ↦ λ is. ap (λ y. y ∷ joined (slice_split is_backslash xs)) (sym (eqb-true x 92 is)) ∙ ap (λ (q : List ℕ). x ∷ q) (joined_split xs)
+      | false ↦ λ is. joined_onto x (slice_split is_backslash xs) (split_some xs) ∙ ap (λ (q : List ℕ). x ∷ q) (joined_split xs)
+    ] refl
+
+split_push : (xs : List ℕ) → slice_split is_backslash (xs ++ 92 ∷ []) ≡ slice_split is_backslash xs ++ [] ∷ []
+split_push [] = refl
+split_push (x ∷ xs) =
+    elim (is_backslash x) as (λ b. cond b ([] ∷ slice_split is_backslash (xs ++ 92 ∷ [])) (onto_first x (slice_split is_backslash (xs ++ 92 ∷ []))) ≡ cond b ([] ∷ slice_split is_backslash xs) (onto_first x (slice_split is_backslash xs)) ++ [] ∷ []) [
+      | true ↦ ap (λ (q : List (List ℕ)). [] ∷ q) (split_push xs)
+      | false ↦ ap (onto_first x) (split_push xs) ∙ onto_push x (slice_split is_backslash xs) (split_some xs)
+    ]
+
+pub parts_by_split : (rest front : List ℕ) → rest ≡ front ++ 92 ∷ [] → all_parts (slice_split is_backslash front) ≡ true → AreJoinedParts rest
+parts_by_split rest front is good = (slice_split is_backslash front, good, is ∙ sym (joined_split front))
+
+pub split_by_parts : (rest front : List ℕ) → rest ≡ front ++ 92 ∷ [] → AreJoinedParts rest → all_parts (slice_split is_backslash front) ≡ true
+split_by_parts rest front is parts =
+    let same : slice_split is_backslash front ++ [] ∷ [] ≡ parts.0 ++ [] ∷ [] =
+    sym (split_push front) ∙ ap (slice_split is_backslash) (sym is ∙ parts.2) ∙ split_joined parts.0 parts.1 in
+    ap all_parts ((same_from_push (slice_split is_backslash front) parts.0 [] [] same).0) ∙ parts.1
+
+pub parts_end : (rest : List ℕ) → AreJoinedParts rest → (rest ≡ []) ⊎ ((front : List ℕ) × (rest ≡ front ++ 92 ∷ []))
+parts_end rest ([], good, is) = inl is
+parts_end rest (p ∷ ps, good, is) = let end = joined_end p ps in inr (end.0, is ∙ end.1)
+
+pub folder_by_parts : (path rest : List ℕ) → path ≡ drive ++ rest → length path ≤ 259 → AreJoinedParts rest → IsFolder path
+folder_by_parts path rest is short parts = record { parts = parts.0; good = parts.1; text = is ∙ ap (λ (q : List ℕ). drive ++ q) parts.2; short = fits (length path) short }
+
+pub parts_by_folder : (path rest : List ℕ) → path ≡ drive ++ rest → IsFolder path → AreJoinedParts rest
+parts_by_folder path rest is f = (f.parts, f.good, let whole : drive ++ rest ≡ drive ++ joined f.parts = sym is ∙ f.text in cc)
+
+pub folder_by_test : (path rest : List ℕ) (b : Bool) → path ≡ drive ++ rest → length path ≤ 259 → (b ≡ true ↔ AreJoinedParts rest) → b ≡ is_folder_path path
+folder_by_test path rest true is short tells = sym (folder_path path (folder_by_parts path rest is short (tells.0 refl)))
+folder_by_test path rest false is short tells =
+    elim (cases_Bool (is_folder_path path)) [
+      | inl folder ↦ let wrong : false ≡ true = tells.1 (parts_by_folder path rest is (folder_is path folder)) in cc
+      | inr not_folder ↦ sym not_folder
+    ]
+
+pub no_folder : (path : List ℕ) → (IsFolder path → ⊥) → false ≡ is_folder_path path
+no_folder path fails = elim (cases_Bool (is_folder_path path)) [ inl folder ↦ absurd (fails (folder_is path folder)) | inr not_folder ↦ sym not_folder ]
+
+pub too_long : (path : List ℕ) → 259 < length path → IsFolder path → ⊥
+too_long path long f = let over : nat_lt 259 (length path) ≡ true = grind (arith, nat_tests) in let under = f.short in cc

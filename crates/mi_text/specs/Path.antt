@@ -1,5 +1,5 @@
 -- Paths of the drive (this project's own spelling of Windows paths).
-use Rattle.std.specs.Prelude.{ℕ, ◌==◌, ◌-◌, nat_lt, nat_le, ◌&&◌, ◌||◌, not, Bool, false, if◌then◌else◌, List, [], ◌∷◌, ◌++◌, length, take, Option, Some, None, Result, Ok, Err, codes}
+use Rattle.std.specs.Prelude.{◌≡◌, true, ℕ, ◌==◌, ◌-◌, nat_lt, nat_le, ◌&&◌, ◌||◌, not, Bool, false, if◌then◌else◌, List, [], ◌∷◌, ◌++◌, length, take, Option, Some, None, Result, Ok, Err, codes}
 use Rattle.std.specs.List.{slice_split, list_any, list_all}
 use Rattle.std.specs.Str.{bytes_eq}
 use Rattle.mi_text.specs.declared.path.PathFault.{PathFault}
@@ -83,3 +83,12 @@ is_file_path path = is_folder_path (up_to_last path) && is_part (last_part path)
 
 unfoldable pub is_path : List ℕ → Bool
 is_path path = is_folder_path path || is_file_path path
+
+-- the text of names, each of which ends with a backslash
+abbrev pub joined : List (List ℕ) → List ℕ
+joined [] = []
+joined (p ∷ ps) = p ++ 92 ∷ joined ps
+
+-- what stands behind the drive in a folder's canonical path: names that are joined
+abbrev pub AreJoinedParts : List ℕ → Type 0
+AreJoinedParts rest = (parts : List (List ℕ)) × (list_all is_part parts ≡ true) × (rest ≡ joined parts)

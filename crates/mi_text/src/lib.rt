@@ -17,7 +17,7 @@ pub use bytes::Bytes;
 pub use env::{Env, Sign};
 pub use guid::{Guid, NotGuid};
 pub use name::{Name, NameError};
-pub use path::{PathError, PathFault, PathText};
+pub use path::{PathError, PathFault, PathText, is_file_path, is_folder_path};
 pub use plain_env::PlainEnv;
 pub use text::{NoMemory, Text, fold};
 pub use version::{NotVersion, Version};

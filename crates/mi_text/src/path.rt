@@ -1,11 +1,11 @@
 //! Paths of folders and files.
 
-ghost use Rattle.std.specs.Prelude.{◌≡◌, ◌==◌, ◌++◌, not, IfOk, OnOk, IsTrue, length, map, string_bytes, MatchResult};
+ghost use Rattle.std.specs.Prelude.{◌≡◌, ◌==◌, ◌++◌, ◌↔◌, not, IfOk, OnOk, IsTrue, length, map, string_bytes, MatchResult};
 ghost use Rattle.std.specs.List.{slice_split, list_all};
 ghost use Rattle.std.specs.Option.{option_copied};
 ghost use Rattle.mi_text.specs.declared.path.PathError.TheVariants.{NoMemory as no_memory};
 ghost use Rattle.mi_text.specs.PathReads.{PathReads};
-ghost use Rattle.mi_text.specs.Path.{good_byte, good_part, drive_rest, path_on, path_text, folder_in, is_backslash, is_part, up_to_last, last_part, parent_of, is_folder_path, is_file_path, is_path};
+ghost use Rattle.mi_text.specs.Path.{good_byte, good_part, drive_rest, path_on, path_text, folder_in, is_backslash, is_part, up_to_last, last_part, parent_of, is_folder_path, is_file_path, is_path, AreJoinedParts};
 
 use crate::text::{NoMemory, Text};
 use std::alloc::{AllocError, Global};
@@ -149,6 +149,51 @@ fn split_last(text: &str) -> (&str, &str)
     }
 }
 
+fn all_parts(text: &str) -> bool
+    ensures { result ≡ list_all is_part (slice_split is_backslash text.now) }
+{
+    text.split('\\').all(|part| is_part(part))
+}
+
+// Whether these are names, each with a backslash behind it.
+fn are_joined_parts(rest: &str) -> bool
+    ensures { IsTrue result ↔ AreJoinedParts rest.now }
+{
+    if rest.is_empty() {
+        return true;
+    }
+    match rest.strip_suffix('\\') {
+        Some(front) => all_parts(front),
+        None => false,
+    }
+}
+
+/// Whether a text is the canonical path of a folder: it begins with `C:\`, and each name in it ends with `\`. No memory.
+pub fn is_folder_path(text: &str) -> bool
+    ensures { result ≡ is_folder_path text.now }
+{
+    match text.strip_prefix("C:\\") {
+        Some(rest) => text.len() <= 259 && are_joined_parts(rest),
+        None => false,
+    }
+}
+
+/// Whether a text is the canonical path of a file: a folder's, and a name behind it. No memory.
+#[tactic(auto, unfolding(crate::specs::Path::is_file_path))]
+pub fn is_file_path(text: &str) -> bool
+    ensures { result ≡ is_file_path text.now }
+{
+    let (folder, part) = split_last(text);
+    is_folder_path(folder) && is_part(part) && text.len() <= 259
+}
+
+#[tactic(auto, unfolding(crate::specs::Path::is_path))]
+fn is_path(text: &str) -> bool
+    ensures { result ≡ is_path text.now }
+{
+    is_folder_path(text) || is_file_path(text)
+}
+
 // The canonical text of the folder whose parts stand behind the drive.
 fn folder_text(alloc: Global, rest: &str) -> Result<Text, PathError>
     ensures { PathReads result (folder_in (slice_split is_backslash rest.now)) }
@@ -250,15 +295,15 @@ impl PathText {
         Ok(PathText { text })
     }
 
-    /// The path that a text spells in its canonical form, and None where it spells none.
-    pub fn read(alloc: Global, text: &str) -> Result<Option<PathText>, NoMemory>
-        ensures { IfOk result (λ p. p ≡ (if is_path text.now then Some text.now else None)) }
+    /// The path of a text that spells one in its canonical form, and None for any other. No memory.
+    pub fn of(text: Text) -> Option<PathText>
+        ensures { result ≡ (if is_path text then Some text else None) }
     {
-        if !is_path(alloc, text)? {
-            return Ok(None);
+        if is_path(text.as_str()) {
+            Some(PathText { text })
+        } else {
+            None
         }
-        let text = Text::copy_of(alloc, text)?;
-        Ok(Some(PathText { text }))
     }
 
     /// Whether the path is a folder's: it ends with `\`.
@@ -284,37 +329,4 @@ impl PathText {
         let text = Text::copy_of(alloc, self.text.as_str())?;
         Ok(PathText { text })
     }
-}
-
-// Whether the text is the canonical path of a folder.
-#[tactic(auto, unfolding(crate::specs::Path::is_folder_path))]
-fn is_folder_path(alloc: Global, text: &str) -> Result<bool, NoMemory>
-    ensures { IfOk result (λ b. b ≡ is_folder_path text.now) }
-{
-    match PathText::folder(alloc, text) {
-        Ok(path) => Ok(path.as_str() == text),
-        Err(PathError::Fault(_)) => Ok(false),
-        Err(PathError::NoMemory) => Err(NoMemory),
-    }
-}
-
-#[tactic(auto, unfolding(crate::specs::Path::is_file_path))]
-fn is_file_path(alloc: Global, text: &str) -> Result<bool, NoMemory>
-    ensures { IfOk result (λ b. b ≡ is_file_path text.now) }
-{
-    let (folder, part) = split_last(text);
-    if !is_part(part) || text.len() > 259 {
-        return Ok(false);
-    }
-    is_folder_path(alloc, folder)
-}
-
-#[tactic(auto, unfolding(crate::specs::Path::is_path))]
-fn is_path(alloc: Global, text: &str) -> Result<bool, NoMemory>
-    ensures { IfOk result (λ b. b ≡ is_path text.now) }
-{
-    if is_folder_path(alloc, text)? {
-        return Ok(true);
-    }
-    is_file_path(alloc, text)
 }
