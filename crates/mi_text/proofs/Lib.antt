@@ -1,3 +1,4 @@
+pub mod GuidLemmas
 pub mod MapLemmas
 pub mod NextLemmas
 pub mod PathLemmas

@@ -1,6 +1,6 @@
 -- Canonical paths: the parts that make them, and what a folder, a name below it and a parent give.
 use Rattle.std.proofs.Common.{◌≡◌, ℕ, suc, ◌+◌, ◌-◌, ◌<◌, ◌≤◌, ◌≢◌, ◌↔◌, ◌⊎◌, Bool, true, false, not, cond, ◌&&◌, ◌||◌, List, [], ◌∷◌, ◌++◌, length, take, drop, Result, Ok, Err, Option, Some, None, refl, sym, ap, ◌∙◌, subst, inl, inr, ⊎_elim, arith, add-one, get_or, get_or-drop, drop-cons, length-drop, length-append, append_assoc, append-nil}
-use Rattle.std.specs.Prelude.{◌==◌, nat_lt, nat_le}
+use Rattle.std.specs.Prelude.{IfOk, IsTrue, ◌==◌, nat_lt, nat_le}
 use Rattle.std.specs.List.{slice_split, onto_first, list_any, list_all}
 use Rattle.std.specs.Str.{bytes_eq}
 use Rattle.std.proofs.lemmas.Bool.{cases_Bool, eqb-true}
@@ -13,7 +13,7 @@ use Rattle.std.proofs.Math.Seq.{take-append-add}
 use Rattle.std.proofs.lemmas.List.Folds.{list_all-append}
 use Rattle.mi_text.specs.declared.path.PathFault.{PathFault}
 use Rattle.mi_text.specs.declared.path.PathFault.TheVariants.{BadPart, Length}
-use Rattle.mi_text.specs.Path.{good_part, drive_rest, path_on, path_text, folder_in, folder_at, folder_of, is_backslash, is_part, fitted, up_to_last, last_part, parent_of, is_read_as, is_folder_path, is_file_path, is_path, joined, AreJoinedParts}
+use Rattle.mi_text.specs.Path.{good_part, drive_rest, path_on, path_text, folder_in, folder_at, folder_of, is_backslash, is_part, fitted, below_of, file_of, up_to_last, last_part, parent_of, is_read_as, is_folder_path, is_file_path, is_path, joined, AreJoinedParts}
 
 both : (a b : Bool) → (a && b) ≡ true → (a ≡ true) × (b ≡ true)
 both true b e = (refl, e)
@@ -523,3 +523,33 @@ no_folder path fails = elim (cases_Bool (is_folder_path path)) [ inl folder ↦ 
 
 pub too_long : (path : List ℕ) → 259 < length path → IsFolder path → ⊥
 too_long path long f = let over : nat_lt 259 (length path) ≡ true = grind (arith, nat_tests) in let under = f.short in cc
+
+-- the laws of paths
+pub folder_law : (path : List ℕ) → is_folder_path path ≡ true ↔ (folder_of path ≡ Ok path)
+folder_law path = (λ e. folder_reads path (folder_is path e), λ e. folder_path path (read_folder path path e))
+
+read_again : (r : Result (List ℕ) PathFault) (text : List ℕ) → folder_of text ≡ r → IfOk r (λ p. folder_of p ≡ Ok p)
+read_again (Ok p) text e = folder_reads p (read_folder text p e)
+read_again (Err f) text e = tt
+
+pub canonical_law : (text : List ℕ) → IfOk (folder_of text) (λ p. folder_of p ≡ Ok p)
+canonical_law text = read_again (folder_of text) text refl
+
+pub apart_law : (path : List ℕ) → is_folder_path path ≡ true → is_file_path path ≡ false
+apart_law path e = let f = folder_is path e in let end = folder_end path f in (only_folder path end.0 (folder_is_path path f) end.1).1
+
+fitted_law : (path : List ℕ) (P : List ℕ → Type 0) → (nat_lt 259 (length path) ≡ false → P path) → IfOk (fitted path) P
+fitted_law path P h = elim (nat_lt 259 (length path)) as (λ b. nat_lt 259 (length path) ≡ b → IfOk (cond b (Err Length) (Ok path)) P) [ true ↦ λ e. tt | false ↦ λ e. h e ] refl
+
+made_law : (part path : List ℕ) (P : List ℕ → Type 0) → (is_part part ≡ true → nat_lt 259 (length path) ≡ false → P path) → IfOk (cond (is_part part) (fitted path) (Err BadPart)) P
+made_law part path P h = elim (is_part part) as (λ b. is_part part ≡ b → IfOk (cond b (fitted path) (Err BadPart)) P) [ true ↦ λ e. fitted_law path P (h e) | false ↦ λ e. tt ] refl
+
+pub below_law : (folder part : List ℕ) → is_folder_path folder ≡ true → IfOk (below_of folder part) (λ p. (parent_of p ≡ folder) × IsTrue (is_folder_path p))
+below_law folder part e =
+    let f = folder_is folder e in
+    made_law part (folder ++ part ++ 92 ∷ []) _ (λ good short. (parent_of-below folder part f good, folder_path _ (folder_below folder part f good short)))
+
+pub file_law : (folder part : List ℕ) → is_folder_path folder ≡ true → IfOk (file_of folder part) (λ p. (parent_of p ≡ folder) × IsTrue (is_file_path p))
+file_law folder part e =
+    let f = folder_is folder e in
+    made_law part (folder ++ part) _ (λ good short. (parent_of-file folder part f good, file_path _ (record { folder = folder; name = part; in_folder = f; good = good; text = refl; short = short })))

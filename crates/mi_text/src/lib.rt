@@ -6,9 +6,12 @@ mod answers;
 mod bytes;
 mod env;
 mod guid;
+mod laws;
 mod name;
 mod path;
 mod plain_env;
+#[cfg(test)]
+mod tests;
 mod text;
 mod version;
 
@@ -16,6 +19,9 @@ pub use answers::{IdtFault, Settled};
 pub use bytes::Bytes;
 pub use env::{Env, Sign};
 pub use guid::{Guid, NotGuid};
+pub use laws::{
+    folder_is_read_again, parent_is_a_folder, parent_is_the_folder, printed_code_is_read,
+};
 pub use name::{Name, NameError};
 pub use path::{PathError, PathFault, PathText, is_file_path, is_folder_path};
 pub use plain_env::PlainEnv;

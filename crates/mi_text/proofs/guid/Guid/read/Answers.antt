@@ -1,16 +1,14 @@
 -- A text of 38 characters that no form of a code fits isn't the braced form.
-use Rattle.std.proofs.Common.{◌≡◌, ℕ, List, length, Option, Some, None, refl, sym, ap, ◌∙◌}
+use Rattle.std.proofs.Common.{◌≡◌, Option, Some, None, refl, sym, ap, ◌∙◌}
 use Rattle.std.specs.Prelude.{option_map}
 use Rattle.std.specs.Int.{w128, from_be_bytes}
 use Rattle.uuid.specs.Text.{parsed, parsed_braced}
+use Rattle.mi_text.proofs.GuidLemmas.{braced_at_38}
 use Rattle.mi_text.proofs.guid.Guid.read.Goals as goal
 
 none_from : {A : Type 0} (o : Option A) → ((u : A) → o ≡ Some u → ⊥) → o ≡ None
 none_from None h = refl
 none_from (Some x) h = absurd (h x refl)
-
-braced_at_38 : (text : List ℕ) → length text ≡ 38 → parsed text ≡ parsed_braced text
-braced_at_38 text e = rw e refl
 
 pub returns-in-Err : goal.returns-in-Err
 returns-in-Err c =
