@@ -6,5 +6,6 @@ pub mod Next
 pub mod Path
 pub mod PathReads
 pub mod Plain
+pub mod PropertyNames
 pub mod Version
 pub mod VersionParts

@@ -10,6 +10,7 @@ mod laws;
 mod name;
 mod path;
 mod plain_env;
+mod property_name;
 #[cfg(test)]
 mod tests;
 mod text;
@@ -25,5 +26,6 @@ pub use laws::{
 pub use name::{Name, NameError};
 pub use path::{PathError, PathFault, PathText, is_file_path, is_folder_path};
 pub use plain_env::PlainEnv;
+pub use property_name::{is_property_name, is_public_name};
 pub use text::{NoMemory, Text, fold};
 pub use version::{NotVersion, Version};

@@ -204,6 +204,27 @@ fn codes_names_and_folded_texts(rt: HostRuntime) -> Result<(), Fail> {
     Ok(())
 }
 
+#[test]
+fn property_names_and_public_names(rt: HostRuntime) {
+    for (name, property, public) in [
+        ("INSTALLLEVEL", true, true),
+        ("_A.9", true, true),
+        ("Installed", true, false),
+        ("a_1.b", true, false),
+        ("9A", false, false),
+        (".A", false, false),
+        ("A B", false, false),
+        ("A-B", false, false),
+        ("\u{c4}", false, false),
+        ("", false, false),
+    ] {
+        assert!(rt;
+            is_property_name(name) == property && is_public_name(name) == public,
+            "{name}"
+        );
+    }
+}
+
 fn item(alloc: Global, name: &str, value: &str) -> Result<(String, String), Fail> {
     Ok((
         String::from_str(alloc, name)?,
@@ -217,7 +238,11 @@ fn texts_bytes_and_look_ups(rt: HostRuntime) -> Result<(), Fail> {
     let mut text = Text::new(alloc);
     assert!(rt; text.is_empty());
     text.push_str("ab")?;
-    assert!(rt; text.len() == 2 && text.as_bytes() == b"ab" && text == Text::copy_of(alloc, "ab")?);
+    assert!(rt;
+        text.len() == 2
+            && text.as_bytes() == b"ab".as_slice()
+            && text == Text::copy_of(alloc, "ab")?
+    );
     assert!(rt; Text::from_string(text.into_string()).as_str() == "ab");
     let mut bytes = Bytes::new(alloc);
     assert!(rt; bytes.is_empty());
