@@ -117,54 +117,87 @@ fn repeated(alloc: Global, times: u32) -> Result<String, Fail> {
     Ok(text)
 }
 
+fn below_text(alloc: Global, folder: &str, part: &str) -> Result<Text, PathError> {
+    let folder = PathText::folder(alloc, folder)?;
+    let path = folder.below(alloc, part)?;
+    Ok(Text::copy_of(alloc, path.as_str())?)
+}
+
+fn file_text(alloc: Global, folder: &str, part: &str) -> Result<Text, PathError> {
+    let folder = PathText::folder(alloc, folder)?;
+    let path = folder.file(alloc, part)?;
+    Ok(Text::copy_of(alloc, path.as_str())?)
+}
+
+fn parent_text(alloc: Global, text: &str) -> Result<Option<Text>, NoMemory> {
+    match PathText::of(Text::copy_of(alloc, text)?) {
+        Some(path) => Ok(Some(Text::copy_of(alloc, path.copy(alloc)?.parent(alloc)?.as_str())?)),
+        None => Ok(None),
+    }
+}
+
 #[test]
-fn names_below_a_folder_and_parents(rt: HostRuntime) -> Result<(), Fail> {
-    let root = PathText::folder(rt.alloc(), "C:")?;
-    assert!(rt; root.parent(rt.alloc())?.as_str() == "C:\\");
-    let app = root.below(rt.alloc(), "App")?;
-    assert!(rt; app.as_str() == "C:\\App\\" && app.is_folder());
-    let file = app.file(rt.alloc(), "tool.exe")?;
-    assert!(rt; file.as_str() == "C:\\App\\tool.exe" && !file.is_folder());
-    assert!(rt; file.parent(rt.alloc())?.as_str() == "C:\\App\\");
-    assert!(rt; app.parent(rt.alloc())?.as_str() == "C:\\");
-    assert!(rt; app.copy(rt.alloc())?.as_str() == "C:\\App\\");
+fn names_below_a_folder(rt: HostRuntime) -> Result<(), Fail> {
+    let alloc = rt.alloc();
+    assert!(rt; below_text(alloc, "C:", "App")?.as_str() == "C:\\App\\");
+    assert!(rt; file_text(alloc, "C:\\App", "tool.exe")?.as_str() == "C:\\App\\tool.exe");
     for part in [
         "", ".", "..", "a\\b", "\\", "a:b", "a\u{1f}", "a?", "a\"", "<", ">", "|",
     ] {
         assert!(rt;
-            app.below(rt.alloc(), part).err() == Some(PathError::Fault(PathFault::BadPart)),
+            below_text(alloc, "C:", part).err() == Some(PathError::Fault(PathFault::BadPart)),
             "{part}"
         );
         assert!(rt;
-            app.file(rt.alloc(), part).err() == Some(PathError::Fault(PathFault::BadPart)),
+            file_text(alloc, "C:", part).err() == Some(PathError::Fault(PathFault::BadPart)),
             "{part}"
         );
     }
-    // 3 bytes of the drive: 256 more for a file and 255 with the backslash of a folder make 259.
-    let most = repeated(rt.alloc(), 256)?;
-    assert!(rt; root.file(rt.alloc(), &most)?.as_str().len() == 259);
-    assert!(rt; root.below(rt.alloc(), &most).err() == Some(PathError::Fault(PathFault::Length)));
-    let more = repeated(rt.alloc(), 257)?;
-    assert!(rt; root.file(rt.alloc(), &more).err() == Some(PathError::Fault(PathFault::Length)));
-    for (text, folder, file) in [
-        ("C:\\", true, false),
-        ("C:\\a\\", true, false),
-        ("C:\\a", false, true),
-        ("C:\\a\\b.c", false, true),
-        ("c:\\a", false, false),
-        ("C:", false, false),
-        ("", false, false),
-        ("C:\\\\a", false, false),
-        ("C:\\a\\..", false, false),
-        ("C:\\a\\..\\", false, false),
-        ("a\\b", false, false),
+    Ok(())
+}
+
+#[test]
+fn a_path_has_at_most_259_bytes(rt: HostRuntime) -> Result<(), Fail> {
+    // Behind the three bytes of the drive.
+    for (bytes, folder, file) in [(255, true, true), (256, false, true), (257, false, false)] {
+        let part = repeated(rt.alloc(), bytes)?;
+        assert!(rt;
+            below_text(rt.alloc(), "C:", &part).is_ok() == folder,
+            "{bytes}"
+        );
+        assert!(rt;
+            file_text(rt.alloc(), "C:", &part).is_ok() == file,
+            "{bytes}"
+        );
+    }
+    Ok(())
+}
+
+#[test]
+fn canonical_paths_and_their_parents(rt: HostRuntime) -> Result<(), Fail> {
+    for (text, folder, file, parent) in [
+        ("C:\\", true, false, "C:\\"),
+        ("C:\\a\\", true, false, "C:\\"),
+        ("C:\\a", false, true, "C:\\"),
+        ("C:\\a\\b.c", false, true, "C:\\a\\"),
+        ("C:\\a\\b\\", true, false, "C:\\a\\"),
+        ("c:\\a", false, false, ""),
+        ("C:", false, false, ""),
+        ("", false, false, ""),
+        ("C:\\\\a", false, false, ""),
+        ("C:\\a\\..", false, false, ""),
+        ("C:\\a\\..\\", false, false, ""),
+        ("a\\b", false, false, ""),
     ] {
         assert!(rt;
             is_folder_path(text) == folder && is_file_path(text) == file,
             "{text}"
         );
-        let path = PathText::of(Text::copy_of(rt.alloc(), text)?);
-        assert!(rt; path.is_some() == (folder || file), "{text}");
+        let same = match parent_text(rt.alloc(), text)? {
+            Some(found) => found.as_str() == parent,
+            None => parent.is_empty(),
+        };
+        assert!(rt; same, "{text}");
     }
     Ok(())
 }
