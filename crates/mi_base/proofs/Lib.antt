@@ -1,0 +1,13 @@
+pub mod ByteLemmas
+pub mod CodeLemmas
+pub mod EntryLemmas
+pub mod FieldLemmas
+pub mod FoldLemmas
+pub mod FrontLemmas
+pub mod HeadLemmas
+pub mod KeyLemmas
+pub mod LoopLemmas
+pub mod MachineLemmas
+pub mod NameLemmas
+pub mod RecordLemmas
+pub mod SpelledLemmas

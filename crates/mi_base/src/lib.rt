@@ -1,0 +1,32 @@
+//! The machine's entries: their names and records on the volume, both ways, and the answers that
+//! the calls above give.
+#![tactic(auto)]
+
+mod answers;
+mod collections;
+mod decode;
+mod encode;
+mod entry;
+mod laws;
+mod limits;
+mod reading;
+mod rec_error;
+mod writing;
+
+pub use answers::{Cause, Fault, Kind, Pause, Place};
+pub use collections::{Languages, Texts};
+pub use decode::{dec_entry, dec_file_head};
+pub use encode::enc_entry;
+pub use entry::{
+    Client, Entry, FileEntry, FileHead, Product, RegValue, Shortcut, ValueKey, Variable,
+};
+pub use laws::{
+    a_head_is_that_of_its_entry, a_machine_is_spelled_by_its_volume, a_record_is_read_as_its_entry,
+    a_volume_spells_a_machine, machines_that_agree_are_the_same, what_is_read_is_spelled_so,
+};
+pub use mi_text::{
+    Bytes, Env, Guid, IdtFault, Name, NameError, NoMemory, NotGuid, NotVersion, PathError,
+    PathFault, PathText, PlainEnv, Settled, Sign, Text, Version, fold, is_file_path,
+    is_folder_path, is_property_name, is_public_name,
+};
+pub use rec_error::{EncError, RecError, RecFault};
