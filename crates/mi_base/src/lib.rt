@@ -30,3 +30,6 @@ pub use mi_text::{
     is_folder_path, is_property_name, is_public_name,
 };
 pub use rec_error::{EncError, RecError, RecFault};
+
+#[cfg(test)]
+mod tests;
