@@ -1,12 +1,12 @@
 -- What is kept, after a change at one name.
 use Rattle.std.proofs.Common.{◌≡◌, ℕ, Bool, true, false, cond, not, List, ◌++◌, Option, Some, None, Result, Ok, Err, OnErr, refl, sym, ap, subst, ◌∙◌}
-use Rattle.std.specs.Prelude.{option_map, unwrap_or, is_some}
+use Rattle.std.specs.Prelude.{option_map, option_and_then, unwrap_or, is_some}
 use Rattle.std.specs.Option.{option_map_or}
-use Rattle.std.specs.FinMap.{get, insert, get-insert, get-empty}
+use Rattle.std.specs.FinMap.{get, insert, get-insert, get-remove, get-empty}
 use Rattle.mi_text.specs.Maps.{Name, same_name, set_to}
 use Rattle.mi_text.proofs.MapLemmas.{names_total, from_same, same_itself, get-set_to, same}
 use Rattle.mi_volume.specs.Maps.{Map, bytes_or_none}
-use Rattle.mi_volume.specs.Kept.{Kept, changed, changed_if_held, cleaned}
+use Rattle.mi_volume.specs.Kept.{Kept, changed, changed_if_held, cleaned, with_clean}
 use Rattle.mi_volume.specs.Slots.{was, map_of, at_name, before_of, kept_of, Sets, Cleans, HaveSlots, noted_as, saved_as, is_unnoted}
 use Rattle.mi_volume.specs.declared.before.Before.{Before}
 use Rattle.mi_volume.specs.declared.before.Before.TheVariants.{Clean, Same, Absent, OneByte, Held}
@@ -48,6 +48,10 @@ same_shown : (held : Map) (name : Name) (at : Option (List ℕ)) (o : Option Bef
 same_shown held name at None is = is
 same_shown held name at (Some b) is = ap (λ (x : Option (List ℕ)). unwrap_or (was b x) x) is
 
+-- what a slot shows, by what the name holds now
+abbrev shown_as : Option (List ℕ) → Option Before → Option (Option (List ℕ))
+shown_as at slot = option_and_then (λ b. was b at) slot
+
 slot_view : (h h' : List (Name × List ℕ)) (es es' : List (Name × Before)) (name : Name) (now : Option (List ℕ)) (b : Before)
     → Sets name now h h' → Sets name (Some b) es es' → was b now ≡ Some (unwrap_or (get (before_of (map_of h) es) name) (get (map_of h) name))
     → kept_of h' es' ≡ changed (kept_of h es) name now
@@ -59,10 +63,6 @@ slot_view h h' es es' name now b sets slot is =
           | false ↦ λ e. ap (λ (o : Option (List ℕ)). shown_as o (at_name es q)) (get-map_of h' q ∙ sets q ∙ ap (λ t. cond t now (at_name h q)) e ∙ sym (get-map_of h q)) ∙ sym (get-before_of (map_of h) es q)
         ] refl
         ∙ sym (get-noted (kept_of h es) name now q)))
-  where
-    shown_as : Option (List ℕ) → Option Before → Option (Option (List ℕ))
-    shown_as at None = None
-    shown_as at (Some x) = was x at
 
 -- the slot may have been made just before
 pub changed_view : (h h' : List (Name × List ℕ)) (es es' new : List (Name × Before)) (name : Name) (now : Option (List ℕ)) (saved : Before)
@@ -204,3 +204,13 @@ pub unextended : (h h' : List (Name × List ℕ)) (es : List (Name × Before)) (
 unextended h h' es k name view sets =
     ap (λ m. record { held = m; before = before_of m es }) (same (map_of h') (map_of h) (λ q. get-map_of h' q ∙ sets q
         ∙ elim (same_name q name) as (λ t. same_name q name ≡ t → cond t (at_name h name) (at_name h q) ≡ at_name h q) [ true ↦ λ e. ap (at_name h) (sym (from_same q name e)) | false ↦ λ e. refl ] refl ∙ sym (get-map_of h q))) ∙ view
+
+-- a name that holds these bytes, and held them at the last good sync
+pub clean_view : (h h' : List (Name × List ℕ)) (es new : List (Name × Before)) (name : Name) (bytes : List ℕ) → Sets name (Some bytes) h h' → Sets name (Some Clean) es new → kept_of h' new ≡ with_clean (kept_of h es) name bytes
+clean_view h h' es new name bytes sets slots =
+    same_kept _ _ (held_view h h' name (Some bytes) sets) (same _ _ (λ q. get-before_of (map_of h') new q ∙ ap (shown (map_of h') q) (slots q)
+        ∙ elim (same_name q name) as (λ t. same_name q name ≡ t → shown (map_of h') q (cond t (Some Clean) (at_name es q)) ≡ cond t None (get (before_of (map_of h) es) q)) [
+          | true ↦ λ e. refl
+          | false ↦ λ e. ap (λ (o : Option (List ℕ)). shown_as o (at_name es q)) (get-map_of h' q ∙ sets q ∙ ap (λ t. cond t (Some bytes) (at_name h q)) e ∙ sym (get-map_of h q)) ∙ sym (get-before_of (map_of h) es q)
+        ] refl
+        ∙ sym (get-remove names_total (before_of (map_of h) es) name q)))

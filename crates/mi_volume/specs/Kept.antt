@@ -2,7 +2,7 @@
 use Rattle.std.specs.Prelude.{◌≡◌, ℕ, ◌/◌, Bool, true, cond, List, length, take, Option, None, Some, is_some, option_map, if◌then◌else◌, refl}
 use Rattle.std.specs.Option.{option_map_or}
 use Rattle.std.specs.Coded.{Coded, code_by, coded×, coded_ℕ, coded_list, coded_option}
-use Rattle.std.specs.FinMap.{get, insert, empty, keys, code}
+use Rattle.std.specs.FinMap.{get, insert, remove, empty, keys, code}
 use Rattle.mi_text.specs.Maps as names
 use Rattle.mi_text.specs.Maps.{Name, set_to, each_name}
 use Rattle.mi_volume.specs.Maps.{Map}
@@ -56,3 +56,11 @@ chosen Gone was now = None
 -- what a crash leaves, where it treats all dirty names alike
 unfoldable pub crashed : Choice → Kept → Map
 crashed choice k = each_name k.held (keys k.before) (λ name now. option_map_or (λ was. chosen choice was now) (get k.before name) now)
+
+-- what a volume that is opened after the crash keeps
+abbrev pub imaged : Choice → Kept → Kept
+imaged choice k = record { held = crashed choice k; before = empty }
+
+-- this stands at the name, and held at the last good sync
+abbrev pub with_clean : Kept → Name → List ℕ → Kept
+with_clean k name bytes = record { held = insert k.held name bytes; before = remove k.before name }

@@ -1,12 +1,14 @@
 -- How slots show what a volume in memory keeps.
 use Rattle.std.specs.Prelude.{◌≡◌, ℕ, Bool, true, false, List, [], ◌∷◌, Option, None, Some, is_some, option_map, if◌then◌else◌}
+use Rattle.std.specs.Option.{option_map_or}
 use Rattle.std.specs.FinMap.{get, empty, from_entries}
 use Rattle.std.specs.Map.{lookup}
 use Rattle.std.specs.BTreeMap.{is_at}
 use Rattle.mi_text.specs.Maps as names
 use Rattle.mi_text.specs.Maps.{Name, name_cmp, same_name, set_to}
 use Rattle.mi_volume.specs.Maps.{Map}
-use Rattle.mi_volume.specs.Kept.{Kept}
+use Rattle.mi_volume.specs.Kept.{Kept, chosen}
+use Rattle.mi_volume.specs.declared.choice.Choice.{Choice}
 use Rattle.mi_volume.specs.declared.before.Before.{Before}
 use Rattle.mi_volume.specs.declared.before.Before.TheVariants.{Clean, Same, Absent, OneByte, Held}
 
@@ -67,3 +69,7 @@ saved_as (Some bytes) = Held bytes
 -- after a good sync the slots are those of the held names, and clean
 abbrev pub Cleans : List (Name × List ℕ) → List (Name × Before) → List (Name × Before) → Type 0
 Cleans held old new = (q : Name) → at_name new q ≡ (if is_some (at_name held q) then option_map (λ _. Clean) (at_name old q) else None)
+
+-- what a crash leaves at a name, by its slot
+abbrev pub left_by : Choice → Option (List ℕ) → Before → Option (List ℕ)
+left_by choice now slot = option_map_or (λ held. chosen choice held now) (was slot now) now

@@ -5,9 +5,10 @@ ghost use Rattle.std.specs.FinMap.{get, insert, remove};
 ghost use Rattle.std.specs.Option.{option_copied, option_map};
 ghost use Rattle.mi_text.specs.Next.{next_name};
 ghost use Rattle.mi_volume.specs.Maps.{HoldsByte, bytes_or_none};
-ghost use Rattle.mi_volume.specs.Kept.{nothing_kept, changed, changed_if_held, cleaned};
+ghost use Rattle.mi_volume.specs.Kept.{nothing_kept, changed, changed_if_held, cleaned, imaged, with_clean};
 
 use crate::before::{Before, add_slot, clean, is_noted, note};
+use crate::choice::{Choice, left};
 use crate::held::{extend_held, first_above, mark_held};
 use mi_text::{Bytes, Name, NoMemory};
 use std::alloc::Global;
@@ -115,6 +116,28 @@ impl Slots {
         if self.held.contains_key(name) {
             note(&mut self.before, name, Before::Same);
         }
+    }
+
+    /// Gives the name these bytes, which it held at the last good sync too.
+    fn keep(&mut self, alloc: Global, name: &Name, bytes: Bytes) -> Result<(), NoMemory>
+        ensures { OnOk result (self.new ≡ with_clean self.old name.now bytes) }
+    {
+        self.before.insert(name.copy(alloc)?, Before::Clean)?;
+        self.held.insert(name.copy(alloc)?, bytes)?;
+        Ok(())
+    }
+
+    /// The slots of a volume that is opened after a crash.
+    pub fn image(&self, alloc: Global, choice: Choice) -> Result<Slots, NoMemory>
+        ensures { IfOk result (λ image. image ≡ imaged choice self.now) }
+    {
+        let mut image = Slots::new(alloc);
+        for (name, slot) in &self.before {
+            if let Some(bytes) = left(alloc, choice, self.held.get(name), slot)? {
+                image.keep(alloc, name, bytes)?;
+            }
+        }
+        Ok(image)
     }
 
     /// Makes all names clean, which takes no memory.
