@@ -1,16 +1,17 @@
 -- A volume in memory, and what each of its calls does exactly.
-use Rattle.std.specs.Prelude.{◌≡◌, ℕ, ◌+◌, ◌-◌, ◌^◌, ◌==◌, Bool, true, false, ◌||◌, List, [], ◌∷◌, ◌++◌, Option, None, Some, Result, Ok, Err, min, nat_le, if◌then◌else◌}
+use Rattle.std.specs.Prelude.{◌≡◌, ℕ, ◌+◌, ◌-◌, ◌^◌, ◌<◌, ◌==◌, Bool, true, false, ◌||◌, List, [], ◌∷◌, ◌++◌, Option, None, Some, Result, Ok, Err, min, nat_le, if◌then◌else◌}
 use Rattle.std.specs.Option.{option_map_or}
 use Rattle.std.specs.List.{list_any}
 use Rattle.std.specs.FinMap.{get}
 use Rattle.mi_text.specs.Maps.{Name}
-use Rattle.mi_volume.specs.Maps.{bytes_or_none}
+use Rattle.mi_volume.specs.Maps.{size, bytes_or_none, Fits}
 use Rattle.mi_volume.specs.State.{State, MayLeave}
-use Rattle.mi_volume.specs.Kept.{Kept, nothing_kept, is_dirty, changed, changed_if_held, cleaned, imaged, first_half}
+use Rattle.mi_volume.specs.Kept.{Kept, nothing_kept, is_dirty, changed, changed_if_held, cleaned, crashed, imaged, first_half}
 use Rattle.mi_volume.specs.declared.call.Call.{Call}
 use Rattle.mi_volume.specs.declared.call.CallKind.{CallKind}
 use Rattle.mi_volume.specs.declared.call.CallKind.TheVariants.{Put, Append}
 use Rattle.mi_volume.specs.declared.choice.Choice.{Choice}
+use Rattle.mi_volume.specs.declared.choice.Choice.TheVariants.{Old}
 use Rattle.mi_volume.specs.declared.volume.PutFault.{PutFault}
 use Rattle.mi_volume.specs.declared.volume.PutFault.TheVariants.{NoMemory, Failed, Full}
 
@@ -29,6 +30,13 @@ pub record Memory : Type 0 where
   pub faults : ℕ
   -- the puts and appends that were made
   pub calls : List Call
+
+-- what the room of a volume in memory says: where there is a capacity, the size that is used, which is within it, now and at the last good sync
+pub record HasRoom (k : Kept) (capacity : Option ℕ) (used : ℕ) : Type 0 where
+  pub small : (c : ℕ) → capacity ≡ Some c → c < 2 ^ 64 - 1
+  pub exact : (c : ℕ) → capacity ≡ Some c → used ≡ size k.held
+  pub held : Fits capacity (size k.held)
+  pub before : Fits capacity (size (crashed Old k))
 
 -- It keeps no history: what a crash may have left is what it may leave now.
 abbrev pub state_of : Memory → State

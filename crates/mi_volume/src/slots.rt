@@ -1,6 +1,6 @@
 //! The slots of a volume in memory.
 
-ghost use Rattle.std.specs.Prelude.{◌≡◌, ◌∷◌, [], ◌++◌, List, ℕ, Some, None, OnOk, OnErr, IfOk, is_some};
+ghost use Rattle.std.specs.Prelude.{◌≡◌, ◌∷◌, [], ◌++◌, List, ℕ, Some, None, OnOk, OnErr, IfOk, length};
 ghost use Rattle.std.specs.FinMap.{get, insert, remove};
 ghost use Rattle.std.specs.Option.{option_copied, option_map};
 ghost use Rattle.mi_text.specs.Next.{next_name};
@@ -54,6 +54,16 @@ impl Slots {
         ensures { option_copied result ≡ get self.now.held name.now }
     {
         self.held.get(name)
+    }
+
+    /// The number of bytes that the name holds.
+    pub fn size_of(&self, name: &Name) -> Option<u64>
+        ensures { result ≡ option_map length (get self.now.held name.now) }
+    {
+        match self.get(name) {
+            None => None,
+            Some(bytes) => Some(bytes.len() as u64),
+        }
     }
 
     /// The least held name above `after`.

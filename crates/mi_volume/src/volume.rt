@@ -7,7 +7,7 @@ ghost use Rattle.mi_volume.specs.Maps.{Map, size, bytes_or_none, IsAbove, HoldsB
 ghost use Rattle.mi_volume.specs.State.{State, Images, ImagesOf, GoesOn, Stays, StaysDirty, Rose};
 ghost use Rattle.mi_volume.specs.Calls.{Writes, Removes, Marks, Syncs};
 
-use mi_text::{Bytes, Name};
+use mi_text::{Bytes, Name, NoMemory};
 use std::alloc::Global;
 use thiserror::Error;
 
@@ -38,6 +38,28 @@ pub enum PutFault {
     /// The size would pass the capacity, and nothing is changed.
     #[error("the volume is full")]
     Full,
+}
+
+impl From<NoMemory> for VolFault {
+    ghost use Rattle.std.specs.Prelude.{◌≡◌};
+    ghost use Rattle.mi_volume.specs.declared.volume.VolFault.TheVariants.{NoMemory as no_memory};
+
+    ghost from_gives = { λ _ e. e ≡ no_memory };
+
+    fn from(_e: NoMemory) -> VolFault {
+        VolFault::NoMemory
+    }
+}
+
+impl From<NoMemory> for PutFault {
+    ghost use Rattle.std.specs.Prelude.{◌≡◌};
+    ghost use Rattle.mi_volume.specs.declared.volume.PutFault.TheVariants.{NoMemory as no_memory};
+
+    ghost from_gives = { λ _ e. e ≡ no_memory };
+
+    fn from(_e: NoMemory) -> PutFault {
+        PutFault::NoMemory
+    }
 }
 
 /// The longest piece that is read or written at once.
