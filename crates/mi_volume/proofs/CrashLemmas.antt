@@ -55,3 +55,6 @@ crashed_fits Old k capacity held old = old
 crashed_fits New k capacity held old = fits_less capacity _ _ (less New k (λ q was now. omega arith)) held
 crashed_fits Torn k capacity held old = fits_less capacity _ _ (less Torn k (λ q was now. half_less q now)) held
 crashed_fits Gone k capacity held old = fits_less capacity _ _ (less Gone k (λ q was now. omega arith)) held
+
+pub half_length : (bytes : List ℕ) → length (first_half bytes) ≤ length bytes
+half_length bytes = let half = length-take (length bytes / 2) bytes in omega (arith, half)

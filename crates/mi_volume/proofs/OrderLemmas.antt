@@ -13,6 +13,7 @@ use Rattle.std.proofs.lemmas.Map.Keys.{sorted_head, sorted_tail}
 use Rattle.mi_text.specs.Maps.{Name, name_cmp}
 use Rattle.mi_text.specs.Next.{is_behind, next_name}
 use Rattle.mi_text.proofs.MapLemmas.{names_total, entries-from_entries}
+use Rattle.mi_volume.specs.Maps.{size, weight}
 use Rattle.mi_volume.specs.Slots.{map_of}
 
 both : (a b : Bool) → T a → T b → T (a && b)
@@ -67,3 +68,8 @@ next_first es (x ∷ k) ks sorted is long = ap (find (is_behind None)) (keys-map
 
 pub next_nothing : {X : Type 0} → (es : List (Name × X)) → IsStrictlySortedBy name_cmp (keys_of es) → keys_of es ≡ [] → next_name (map_of es) None ≡ None
 next_nothing es sorted is = ap (find (is_behind None)) (keys-map_of es sorted ∙ is)
+
+-- the size of a tree's map, as the weight of its entries
+pub size-map_of : (es : List (Name × List ℕ)) → IsStrictlySortedBy name_cmp (keys_of es) → size (map_of es) ≡ weight es
+unfolding size
+size-map_of es sorted = ap weight (entries-map_of es sorted)

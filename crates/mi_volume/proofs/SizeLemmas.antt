@@ -1,5 +1,5 @@
 -- The size of a map after a change.
-use Rattle.std.proofs.Common.{◌≡◌, ◌≢◌, ⊎_elim, ℕ, ◌+◌, ◌≤◌, Bool, true, false, cond, ◌&&◌, List, [], ◌∷◌, ◌++◌, length, length-append, Option, Some, None, T, refl, sym, ap, subst, ◌∙◌, arith}
+use Rattle.std.proofs.Common.{◌≡◌, ◌≢◌, ⊎_elim, ℕ, ◌+◌, ◌-◌, ◌^◌, ◌≤◌, min, Bool, true, false, cond, ◌&&◌, List, [], ◌∷◌, ◌++◌, length, length-append, Option, Some, None, T, refl, sym, ap, subst, ◌∙◌, arith}
 use Rattle.std.specs.Ordering.{nat_cmp, is_eq, is_lt}
 use Rattle.std.specs.declared.cmp.Ordering.{Ordering}
 use Rattle.std.specs.declared.cmp.Ordering.TheVariants.{Less, Equal, Greater}
@@ -129,3 +129,25 @@ weight_at_most (e ∷ es) k sorted each =
 pub size-at_most : (m k : Map) → ((q : List ℕ) → slot_size q (get m q) ≤ slot_size q (get k q)) → size m ≤ size k
 unfolding size
 size-at_most m k each = weight_at_most (entries m) k (entries_sorted m) (λ q. subst (λ o. slot_size q o ≤ slot_size q (get k q)) (get-entries m q) (each q))
+
+-- a sum that stands still at the greatest u64, over the entries up to the rest
+pub record Summing (all rest : Pairs) (sum : ℕ) : Type 0 where
+  pub so_far : ℕ
+  pub is : sum ≡ min so_far (2 ^ 64 - 1)
+  pub left : so_far + weight rest ≡ weight all
+
+pub sum_starts : (all : Pairs) → Summing all all 0
+sum_starts all = record { so_far = 0; is = omega arith; left = omega arith }
+
+pub sum_goes_on : (all rest : Pairs) (name bytes : List ℕ) (sum more next : ℕ) → Summing all ((name, bytes) ∷ rest) sum → more ≡ min (length name + length bytes) (2 ^ 64 - 1) → next ≡ min (sum + more) (2 ^ 64 - 1) → Summing all rest next
+sum_goes_on all rest name bytes sum more next summing is_more is_next =
+    let is = summing.is in
+    let left : summing.so_far + (length name + length bytes + weight rest) ≡ weight all = summing.left in
+    record { so_far = summing.so_far + (length name + length bytes); is = omega (arith, is, is_more, is_next); left = omega (arith, left) }
+
+pub sum_ends : (all rest : Pairs) (sum : ℕ) → Summing all rest sum → rest ≡ [] → sum ≡ min (weight all) (2 ^ 64 - 1)
+sum_ends all rest sum summing ended =
+    let is = summing.is in
+    let left = summing.left in
+    let none : weight rest ≡ 0 = ap weight ended in
+    omega (arith, is, left, none)

@@ -106,7 +106,7 @@ pub err_rose : {T E : Type 0} → (r : Result T E) (old new : Memory) (k : Kept)
 err_rose r old new k calls is leaves = on_err_where r (fails_now old) is (λ fails. failed_rose old new k calls leaves fails)
 
 -- a name that is made dirty holds what it held
-touched_holds : (k : Kept) (name q : Name) → get (touched k name).held q ≡ get k.held q
+pub touched_holds : (k : Kept) (name q : Name) → get (touched k name).held q ≡ get k.held q
 touched_holds k name q =
     elim (is_some (get k.held name)) as (λ b. get (cond b (changed k name (get k.held name)) k).held q ≡ get k.held q) [
       | true ↦ get-set_to k.held name (get k.held name) q ∙ elim (same_name q name) as (λ b. same_name q name ≡ b → cond b (get k.held name) (get k.held q) ≡ get k.held q) [ true ↦ λ e. ap (get k.held) (sym (from_same q name e)) | false ↦ λ e. refl ] refl

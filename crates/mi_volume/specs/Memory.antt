@@ -1,10 +1,10 @@
 -- A volume in memory, and what each of its calls does exactly.
-use Rattle.std.specs.Prelude.{◌≡◌, ℕ, ◌+◌, ◌-◌, ◌^◌, ◌<◌, ◌==◌, Bool, true, false, ◌||◌, List, [], ◌∷◌, ◌++◌, Option, None, Some, Result, Ok, Err, min, nat_le, if◌then◌else◌}
+use Rattle.std.specs.Prelude.{◌≡◌, ℕ, ◌+◌, ◌-◌, ◌^◌, ◌<◌, ◌≤◌, ◌==◌, Bool, true, false, ◌||◌, List, [], ◌∷◌, ◌++◌, length, Option, None, Some, Result, Ok, Err, min, nat_le, option_map, unwrap_or, if◌then◌else◌}
 use Rattle.std.specs.Option.{option_map_or}
 use Rattle.std.specs.List.{list_any}
 use Rattle.std.specs.FinMap.{get}
 use Rattle.mi_text.specs.Maps.{Name}
-use Rattle.mi_volume.specs.Maps.{size, bytes_or_none, Fits}
+use Rattle.mi_volume.specs.Maps.{size, slot_size, bytes_or_none, Fits}
 use Rattle.mi_volume.specs.State.{State, MayLeave}
 use Rattle.mi_volume.specs.Kept.{Kept, nothing_kept, is_dirty, changed, changed_if_held, cleaned, crashed, imaged, first_half}
 use Rattle.mi_volume.specs.declared.call.Call.{Call}
@@ -93,11 +93,35 @@ abbrev pub with_piece : CallKind → Option (List ℕ) → List ℕ → List ℕ
 with_piece Put now piece = piece
 with_piece Append now piece = bytes_or_none now ++ piece
 
+-- how many bytes it holds then, by how many it held
+abbrev pub length_after : CallKind → Option ℕ → ℕ → ℕ
+length_after Put now n = n
+length_after Append now n = unwrap_or now 0 + n
+
+-- the size then, where the name counts what it counts now
+abbrev pub IsSizeWith : Memory → CallKind → Name → ℕ → ℕ → Type 0
+IsSizeWith m kind name n after =
+    after + slot_size name (get m.kept.held name) ≡ size m.kept.held + (length name + length_after kind (option_map length (get m.kept.held name)) n)
+
+-- what a put or append of a piece keeps and lists
+abbrev pub stored : CallKind → Name → List ℕ → Memory → Memory
+stored kind name piece m = record m {
+  kept = changed m.kept name (Some (with_piece kind (get m.kept.held name) piece));
+  calls = m.calls ++ record { kind = kind; name = name } ∷ [];
+}
+
 -- after a put or append of a piece: one that failed has written its first half
 abbrev pub written : {T : Type 0} → CallKind → Name → List ℕ → Memory → Result T PutFault → Memory
-written kind name piece m (Ok x) =
-    called false m (changed m.kept name (Some (with_piece kind (get m.kept.held name) piece))) (m.calls ++ record { kind = kind; name = name } ∷ [])
-written kind name piece m (Err Failed) =
-    called true m (changed m.kept name (Some (with_piece kind (get m.kept.held name) (first_half piece)))) (m.calls ++ record { kind = kind; name = name } ∷ [])
+written kind name piece m (Ok x) = let s = stored kind name piece m in called false m s.kept s.calls
+written kind name piece m (Err Failed) = let s = stored kind name (first_half piece) m in called true m s.kept s.calls
 written kind name piece m (Err Full) = called false m m.kept m.calls
 written kind name piece m (Err NoMemory) = called false m m.kept m.calls
+
+-- Where there is a capacity, this is the size once so many bytes of the whole are put or appended, and the whole is within it.
+pub record HasRoomFor (m : Memory) (kind : CallKind) (name : Name) (whole part after : ℕ) : Type 0 where
+  pub exact : (c : ℕ) → m.capacity ≡ Some c → IsSizeWith m kind name part after
+  pub within : (c : ℕ) → m.capacity ≡ Some c → (n : ℕ) → IsSizeWith m kind name whole n → n ≤ c
+
+-- the whole passes the capacity
+abbrev pub HasNoRoomFor : Memory → CallKind → Name → ℕ → Type 0
+HasNoRoomFor m kind name whole = (c : ℕ) × (m.capacity ≡ Some c) × ((n : ℕ) → IsSizeWith m kind name whole n → c < n)

@@ -1,11 +1,13 @@
 //! What the names of a volume in memory hold.
 
-ghost use Rattle.std.specs.Prelude.{◌≡◌, ◌∷◌, [], ◌++◌, List, ℕ, Some, None, OnOk, OnErr, length, is_some};
+ghost use Rattle.std.specs.Prelude.{◌≡◌, ◌∷◌, [], ◌++◌, List, ℕ, Some, None, OnOk, OnErr, length, is_some, min, ◌^◌, ◌-◌};
 ghost use Rattle.std.specs.FinMap.{get};
 ghost use Rattle.std.specs.Option.{option_copied, option_map};
 ghost use Rattle.mi_text.specs.Next.{next_name};
+ghost use Rattle.mi_volume.specs.Maps.{size};
 ghost use Rattle.mi_volume.specs.Slots.{Sets, map_of, at_name};
 
+use crate::room::slot_size;
 use mi_text::{Bytes, Name, NoMemory};
 use std::alloc::Global;
 use std::collections::BTreeMap;
@@ -41,6 +43,17 @@ fn first_name(held: &BTreeMap<Name, Bytes>) -> Option<&Name>
         }
         None => None,
     }
+}
+
+/// The size of what the names hold; at the greatest u64 it stands still.
+pub fn size_of_all(held: &BTreeMap<Name, Bytes>) -> u64
+    ensures { result ≡ min (size (map_of held.now.entries)) (2 ^ 64 - 1) }
+{
+    let mut size = 0u64;
+    for (name, bytes) in held {
+        size = size.saturating_add(slot_size(name, Some(bytes.len() as u64)));
+    }
+    size
 }
 
 /// Adds bytes at the end of what a name holds.

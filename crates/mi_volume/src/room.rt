@@ -2,7 +2,9 @@
 
 ghost use Rattle.std.specs.Prelude.{◌≡◌, ◌+◌, ◌-◌, ◌^◌, ◌≤◌, ◌<◌, ℕ, Some, length, min, IfSome, IfNone, IfOk, IfErr, IsErr, IfNone, OnErr};
 ghost use Rattle.std.specs.Option.{option_map_or};
+ghost use Rattle.mi_volume.specs.Memory.{length_after};
 
+use crate::call::CallKind;
 use mi_text::Name;
 
 /// What a name counts in a size, if it holds so many bytes; at the greatest u64 it stands still.
@@ -12,6 +14,16 @@ pub fn slot_size(name: &Name, len: Option<u64>) -> u64
     match len {
         None => 0,
         Some(len) => (name.as_bytes().len() as u64).saturating_add(len),
+    }
+}
+
+/// How many bytes a name holds once so many are put or appended; at the greatest u64 it stands still.
+pub fn length_after(kind: CallKind, old: Option<u64>, len: u64) -> u64
+    ensures { result ≡ min (length_after kind old len) (2 ^ 64 - 1) }
+{
+    match kind {
+        CallKind::Put => len,
+        CallKind::Append => old.unwrap_or(0).saturating_add(len),
     }
 }
 

@@ -1,15 +1,16 @@
 //! The slots of a volume in memory.
 
-ghost use Rattle.std.specs.Prelude.{◌≡◌, ◌∷◌, [], ◌++◌, List, ℕ, Some, None, OnOk, OnErr, IfOk, length};
+ghost use Rattle.std.specs.Prelude.{◌≡◌, ◌∷◌, [], ◌++◌, List, ℕ, Some, None, OnOk, OnErr, IfOk, length, min, ◌^◌, ◌-◌};
 ghost use Rattle.std.specs.FinMap.{get, insert, remove};
 ghost use Rattle.std.specs.Option.{option_copied, option_map};
 ghost use Rattle.mi_text.specs.Next.{next_name};
-ghost use Rattle.mi_volume.specs.Maps.{HoldsByte, bytes_or_none};
+ghost use Rattle.mi_volume.specs.Maps.{HoldsByte, bytes_or_none, size};
 ghost use Rattle.mi_volume.specs.Kept.{nothing_kept, changed, changed_if_held, cleaned, imaged, with_clean};
 
 use crate::before::{Before, add_slot, clean, is_noted, note};
+use crate::call::CallKind;
 use crate::choice::{Choice, left};
-use crate::held::{extend_held, first_above, mark_held};
+use crate::held::{extend_held, first_above, mark_held, size_of_all};
 use mi_text::{Bytes, Name, NoMemory};
 use std::alloc::Global;
 use std::collections::BTreeMap;
@@ -38,6 +39,8 @@ impl Model for Slots {
 }
 
 impl Slots {
+    ghost use Rattle.mi_volume.specs.Memory.{with_piece};
+
     /// No names, which takes no memory.
     pub fn new(alloc: Global) -> Slots
         ensures { result ≡ nothing_kept }
@@ -99,6 +102,24 @@ impl Slots {
         extend_held(&mut self.held, name, bytes)?;
         note(&mut self.before, name, Before::Held(saved));
         Ok(())
+    }
+
+    /// The size of what is held; at the greatest u64 it stands still.
+    pub fn size(&self) -> u64
+        ensures { result ≡ min (size self.now.held) (2 ^ 64 - 1) }
+    {
+        size_of_all(&self.held)
+    }
+
+    /// Puts or appends a piece.
+    pub fn store(&mut self, alloc: Global, kind: CallKind, name: &Name, piece: &[u8]) -> Result<(), NoMemory>
+        ensures ok { OnOk result (self.new ≡ changed self.old name.now (Some (with_piece kind (get self.old.held name.now) piece.now))) }
+        ensures err { OnErr result (self.new ≡ self.old) }
+    {
+        match kind {
+            CallKind::Put => self.give(alloc, name, Bytes::copy_of(alloc, piece)?),
+            CallKind::Append => self.extend(alloc, name, piece),
+        }
     }
 
     /// Replaces the one byte of the name, which takes no memory.
