@@ -1,5 +1,5 @@
 -- A volume in memory as a volume.
-use Rattle.std.proofs.Common.{◌≡◌, ◌≢◌, ◌⊎◌, inl, inr, ℕ, ◌+◌, ◌-◌, ◌^◌, ◌≤◌, ◌<◌, Bool, true, false, cond, List, [], ◌∷◌, ◌++◌, length, max, Option, Some, None, Result, Ok, Err, OnOk, OnErr, IfSome, refl, sym, ap, subst, ◌∙◌, arith}
+use Rattle.std.proofs.Common.{◌≡◌, ◌≢◌, ◌⊎◌, inl, inr, ℕ, ◌+◌, ◌-◌, ◌^◌, ◌≤◌, ◌<◌, Bool, true, false, cond, List, [], ◌∷◌, ◌++◌, length, length-append, max, Option, Some, None, Result, Ok, Err, OnOk, OnErr, IfSome, refl, sym, ap, subst, ◌∙◌, arith}
 use Rattle.std.specs.Prelude.{is_some, unwrap_or, IsErrOf, option_map}
 use Rattle.std.specs.Result.{is_err}
 use Rattle.std.specs.FinMap.{get, insert, remove, empty, get-empty}
@@ -8,10 +8,15 @@ use Rattle.mi_text.proofs.MapLemmas.{same_itself, get-set_to, from_same, same}
 use Rattle.mi_volume.specs.Maps.{Map, size, bytes_or_none, Exceeds, OthersStay, HoldsByte, HoldsAtMost}
 use Rattle.mi_volume.specs.State.{State, MayLeave, Images, ImagesOf, GoesOn, Stays, StaysDirty, Rose, OnlyDirties, NothingDirty}
 use Rattle.mi_volume.specs.Calls.{Writes, Marks, Removes, Syncs}
-use Rattle.mi_volume.specs.Kept.{Kept, is_dirty, changed, changed_if_held, cleaned}
-use Rattle.mi_volume.specs.Memory.{Memory, state_of, fails_now, counted, called, looked, touched, marked, removed, synced}
+use Rattle.mi_volume.specs.Kept.{Kept, is_dirty, changed, changed_if_held, cleaned, first_half}
+use Rattle.mi_volume.specs.Memory.{Memory, state_of, fails_now, counted, called, looked, touched, marked, removed, synced, with_piece, written}
+use Rattle.mi_volume.specs.declared.call.CallKind.{CallKind}
+use Rattle.mi_volume.specs.declared.call.CallKind.TheVariants.{Put, Append}
+use Rattle.mi_volume.specs.declared.volume.PutFault.{PutFault}
+use Rattle.mi_volume.specs.declared.volume.PutFault.TheVariants.{NoMemory, Failed, Full}
 use Rattle.mi_volume.proofs.MapLemmas.{name_cases, same_name-other}
 use Rattle.mi_volume.proofs.KeptLemmas.{get-noted}
+use Rattle.mi_volume.proofs.CrashLemmas.{half_length}
 
 -- only this name may have changed or become dirty, and no name has become clean
 pub record Changes (name : Name) (k l : Kept) : Type 0 where
@@ -173,3 +178,80 @@ sync_goes old new is later =
     fewer : (f : Bool) (d : Map) → MayLeave (cond f old.kept (cleaned old.kept)).held (λ q. is_dirty (cond f old.kept (cleaned old.kept)) q ≡ true) old.capacity d → Images (state_of old) d
     fewer true d left = left
     fewer false d left = record { agrees = λ q free. left.agrees q (λ dirty. let clash : false ≡ true = sym (ap is_some (get-empty _ q)) ∙ dirty in cc); fits = left.fits }
+
+written_changes : {T : Type 0} → (r : Result T PutFault) (m : Memory) (kind : CallKind) (name : Name) (piece : List ℕ) → Changes name m.kept (written kind name piece m r).kept
+written_changes (Ok x) m kind name piece = changes m.kept name (Some (with_piece kind (get m.kept.held name) piece))
+written_changes (Err Failed) m kind name piece = changes m.kept name (Some (with_piece kind (get m.kept.held name) (first_half piece)))
+written_changes (Err Full) m kind name piece = unchanged name m.kept
+written_changes (Err NoMemory) m kind name piece = unchanged name m.kept
+
+pub write_goes : {T : Type 0} → (r : Result T PutFault) (old new : Memory) (kind : CallKind) (name : Name) (piece : List ℕ) → new ≡ written kind name piece old r → old.faults ≤ new.faults → GoesOn (state_of old) (state_of new) (ImagesOf name (state_of old))
+write_goes {T} r old new kind name piece is later =
+    subst (λ m. GoesOn (state_of old) (state_of m) (ImagesOf name (state_of old))) (sym is) (by_answer r (subst (λ m. old.faults ≤ m.faults) is later))
+  where
+    by_answer : (r : Result T PutFault) → old.faults ≤ (written kind name piece old r).faults → GoesOn (state_of old) (state_of (written kind name piece old r)) (ImagesOf name (state_of old))
+    by_answer (Ok x) later = changing false old (written kind name piece old (Ok x)).kept (old.calls ++ record { kind = kind; name = name } ∷ []) name (written_changes (Ok x) old kind name piece) later
+    by_answer (Err Failed) later = changing true old (changed old.kept name (Some (with_piece kind (get old.kept.held name) (first_half piece)))) (old.calls ++ record { kind = kind; name = name } ∷ []) name (changes old.kept name (Some (with_piece kind (get old.kept.held name) (first_half piece)))) later
+    by_answer (Err Full) later = changing false old old.kept old.calls name (unchanged name old.kept) later
+    by_answer (Err NoMemory) later = changing false old old.kept old.calls name (unchanged name old.kept) later
+
+pub write_rose : {T : Type 0} → (r : Result T PutFault) (old new : Memory) (kind : CallKind) (name : Name) (piece : List ℕ) → new ≡ written kind name piece old r → IsErrOf r Failed → Rose (state_of old) (state_of new)
+write_rose {T} r old new kind name piece is failed = subst (λ m. Rose (state_of old) (state_of m)) (sym is) (by_answer r failed)
+  where
+    by_answer : (r : Result T PutFault) → IsErrOf r Failed → Rose (state_of old) (state_of (written kind name piece old r))
+    by_answer (Ok x) failed = absurd (cc)
+    by_answer (Err Failed) failed = rose old (changed old.kept name (Some (with_piece kind (get old.kept.held name) (first_half piece)))) (old.calls ++ record { kind = kind; name = name } ∷ [])
+    by_answer (Err Full) failed = absurd (cc)
+    by_answer (Err NoMemory) failed = absurd (cc)
+
+-- the first half isn't longer than what was asked for
+half_asked : (kind : CallKind) (now : Option (List ℕ)) (piece : List ℕ) → length (with_piece kind now (first_half piece)) ≤ max (length (bytes_or_none now)) (length (with_piece kind now piece))
+half_asked Put now piece = let half = half_length piece in omega (arith, half)
+half_asked Append now piece =
+    let half = half_length piece in
+    let short = length-append (bytes_or_none now) (first_half piece) in
+    let long = length-append (bytes_or_none now) piece in
+    omega (arith, half, short, long)
+
+pub writes : {T : Type 0} → (r : Result T PutFault) (old new : Memory) (kind : CallKind) (name : Name) (piece : List ℕ) → new ≡ written kind name piece old r
+    → (IsErrOf r Full → Exceeds old.capacity (size (insert old.kept.held name (with_piece kind (get old.kept.held name) piece))))
+    → (Exceeds old.capacity (size (insert old.kept.held name (with_piece kind (get old.kept.held name) piece))) → IsErrOf r Full ⊎ IsErrOf r NoMemory)
+    → Writes name (with_piece kind (get old.kept.held name) piece) (state_of old) (state_of new) r
+writes {T} r old new kind name piece is exceeds fits =
+    subst (λ m. Writes name (with_piece kind (get old.kept.held name) piece) (state_of old) (state_of m) r) (sym is) (record {
+      ok = ok r;
+      others = (written_changes r old kind name piece).others;
+      dirty = (written_changes r old kind name piece).dirties;
+      still = (written_changes r old kind name piece).still;
+      no_memory = no_memory r;
+      full = full r;
+      failed = failed r;
+      exceeds = exceeds;
+      fits = fits;
+    })
+  where
+    ok : (r : Result T PutFault) → OnOk r ((written kind name piece old r).kept.held ≡ insert old.kept.held name (with_piece kind (get old.kept.held name) piece))
+    ok (Ok x) = refl
+    ok (Err e) = tt
+    no_memory : (r : Result T PutFault) → IsErrOf r NoMemory → Stays (state_of old) (state_of (written kind name piece old r))
+    no_memory (Ok x) is = absurd (cc)
+    no_memory (Err Failed) is = absurd (cc)
+    no_memory (Err Full) is = absurd (cc)
+    no_memory (Err NoMemory) is = record { held = refl; dirty = λ q dirty. dirty }
+    full : (r : Result T PutFault) → IsErrOf r Full → Stays (state_of old) (state_of (written kind name piece old r))
+    full (Ok x) is = absurd (cc)
+    full (Err Failed) is = absurd (cc)
+    full (Err Full) is = record { held = refl; dirty = λ q dirty. dirty }
+    full (Err NoMemory) is = absurd (cc)
+    failed : (r : Result T PutFault) → IsErrOf r Failed → HoldsAtMost (written kind name piece old r).kept.held name (max (length (bytes_or_none (get old.kept.held name))) (length (with_piece kind (get old.kept.held name) piece)))
+    failed (Ok x) is = absurd (cc)
+    failed (Err Failed) is =
+        let here : get (set_to old.kept.held name (Some (with_piece kind (get old.kept.held name) (first_half piece)))) name ≡ Some (with_piece kind (get old.kept.held name) (first_half piece)) =
+            get-set_to old.kept.held name (Some (with_piece kind (get old.kept.held name) (first_half piece))) name ∙ ap (λ b. cond b (Some (with_piece kind (get old.kept.held name) (first_half piece))) (get old.kept.held name)) (same_itself name) in
+        subst (λ o. IfSome o (λ bytes. length bytes ≤ max (length (bytes_or_none (get old.kept.held name))) (length (with_piece kind (get old.kept.held name) piece)))) (sym here) (half_asked kind (get old.kept.held name) piece)
+    failed (Err Full) is = absurd (cc)
+    failed (Err NoMemory) is = absurd (cc)
+
+pub exceeds_some : (capacity : Option ℕ) (n : ℕ) → Exceeds capacity n → is_some capacity ≡ true
+exceeds_some None n over = absurd over
+exceeds_some (Some c) n over = refl
