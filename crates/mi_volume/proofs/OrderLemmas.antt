@@ -73,24 +73,3 @@ next_nothing es sorted is = ap (find (is_behind None)) (keys-map_of es sorted �
 pub size-map_of : (es : List (Name × List ℕ)) → IsStrictlySortedBy name_cmp (keys_of es) → size (map_of es) ≡ weight es
 unfolding size
 size-map_of es sorted = ap weight (entries-map_of es sorted)
-
-found_passes : (p : Name → Bool) (ks : List Name) (k : Name) → find p ks ≡ Some k → p k ≡ true
-found_passes p [] k at = cc
-found_passes p (n ∷ ks) k at =
-    elim (p n) as (λ b. p n ≡ b → cond b (Some n) (find p ks) ≡ Some k → p k ≡ true) [
-      | true ↦ λ b here. let same : n ≡ k = cc in ap p (sym same) ∙ b
-      | false ↦ λ b later. found_passes p ks k later
-    ] refl at
-
-above_from : (after : Option Name) (k : Name) → is_behind after k ≡ true → IsAbove after k
-above_from None k behind = tt
-above_from (Some after) k behind = names_total.antisymm after k ∙ less (name_cmp k after) behind
-  where
-    less : (o : Ordering) → is_gt o ≡ true → ordering_reverse o ≡ Less
-    less Less gt = cc
-    less Equal gt = cc
-    less Greater gt = refl
-
--- the next name stands above the last one
-pub next-above : {X : Type 0} → (m : Map X) (after : Option Name) (k : Name) → next_name m after ≡ Some k → IsAbove after k
-next-above m after k next = above_from after k (found_passes (is_behind after) (keys m) k next)

@@ -197,7 +197,8 @@ impl MemVolume {
         ensures leaves { self.new ≡ synced self.old }
         ensures later { self.old.faults ≤ self.new.faults }
     {
-        if self.look() {
+        let failed = self.look();
+        if failed {
             return Err(Failed);
         }
         self.slots.sync();

@@ -2,7 +2,7 @@ use Rattle.std.proofs.Common.{◌≡◌, Some, sym, ap, subst, ◌∙◌}
 use Rattle.std.specs.Option.{option_copied}
 use Rattle.mi_text.specs.Maps.{Name}
 use Rattle.mi_volume.specs.Maps.{IsAbove}
-use Rattle.mi_volume.proofs.OrderLemmas.{next-above}
+use Rattle.mi_volume.proofs.NextLaws.{next-above}
 use Rattle.mi_volume.proofs.memory_volume.MemVolumeVolume.next.Goals as goal
 
 pub returns-in_ok-copy-in-Some-clause-above : goal.returns-in_ok-copy-in-Some-clause-above
