@@ -78,18 +78,23 @@ copying_goes_on choice h all rest name slot image left copying is = record {
   where
     behind : at_name rest name ≡ None
     behind = absent_below name rest (sorted_head name_cmp name (keys_of rest) copying.sorted)
+
     here : at_name ((name, slot) ∷ rest) name ≡ Some slot
     here = ap (λ b. cond b (Some slot) (at_name rest name)) (same_itself name)
+
     absent : get image.held name ≡ None
     absent = copying.copied name ∙ ap (λ o. cond (is_some o) None (left_at choice (at_name h name) (at_name all name))) here
+
     later : (q : Name) (b : Before) → at_name rest q ≡ Some b → at_name ((name, slot) ∷ rest) q ≡ Some b
     later q b at =
         elim (same_name q name) as (λ t. same_name q name ≡ t → cond t (Some slot) (at_name rest q) ≡ Some b) [
           | true ↦ λ e. let clash : None ≡ Some b = sym behind ∙ ap (at_name rest) (sym (from_same q name e)) ∙ at in cc
           | false ↦ λ e. at
         ] refl
+
     all_here : left_at choice (at_name h name) (at_name all name) ≡ left
     all_here = ap (left_at choice (at_name h name)) (copying.part name slot here) ∙ sym is
+
     each : (q : Name) → cond (same_name q name) left (get image.held q) ≡ cond (is_some (at_name rest q)) None (left_at choice (at_name h q) (at_name all q))
     each q =
         elim (same_name q name) as (λ t. same_name q name ≡ t → cond t left (get image.held q) ≡ cond (is_some (at_name rest q)) None (left_at choice (at_name h q) (at_name all q))) [
@@ -109,10 +114,10 @@ get-crashed choice k q = get-each_name k.held (keys k.before) (λ name now. opti
 pub copying_ends : (choice : Choice) (h : List (Name × List ℕ)) (all rest : List (Name × Before)) (image : Kept) → HaveSlots h all → Copying choice h all rest image → rest ≡ [] → image ≡ imaged choice (kept_of h all)
 copying_ends choice h all rest image have copying is =
     same_kept _ _ (same _ _ (λ q. copying.copied q ∙ ap (λ (es : List (Name × Before)). cond (is_some (at_name es q)) None (left_at choice (at_name h q) (at_name all q))) is
-        ∙ by_slot (at_name h q) (at_name all q) (have q)
-        ∙ ap (λ now. option_map_or (λ held. chosen choice held now) (option_and_then (λ b. was b now) (at_name all q)) now) (sym (get-map_of h q))
-        ∙ ap (λ o. option_map_or (λ held. chosen choice held (get (map_of h) q)) o (get (map_of h) q)) (sym (get-before_of (map_of h) all q))
-        ∙ sym (get-crashed choice (kept_of h all) q))) copying.clean
+    ∙ by_slot (at_name h q) (at_name all q) (have q)
+    ∙ ap (λ now. option_map_or (λ held. chosen choice held now) (option_and_then (λ b. was b now) (at_name all q)) now) (sym (get-map_of h q))
+    ∙ ap (λ o. option_map_or (λ held. chosen choice held (get (map_of h) q)) o (get (map_of h) q)) (sym (get-before_of (map_of h) all q))
+    ∙ sym (get-crashed choice (kept_of h all) q))) copying.clean
   where
     by_slot : (now : Option (List ℕ)) (o : Option Before) → (is_some now ≡ true → is_some o ≡ true) → left_at choice now o ≡ option_map_or (λ held. chosen choice held now) (option_and_then (λ b. was b now) o) now
     by_slot None None there = refl

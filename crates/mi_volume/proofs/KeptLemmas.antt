@@ -57,12 +57,12 @@ slot_view : (h h' : List (Name × List ℕ)) (es es' : List (Name × Before)) (n
     → kept_of h' es' ≡ changed (kept_of h es) name now
 slot_view h h' es es' name now b sets slot is =
     same_kept _ _ (held_view h h' name now sets) (same _ _ (λ q.
-        get-before_of (map_of h') es' q ∙ ap (shown (map_of h') q) (slot q)
-        ∙ elim (same_name q name) as (λ t. same_name q name ≡ t → shown (map_of h') q (cond t (Some b) (at_name es q)) ≡ cond t (Some (unwrap_or (get (before_of (map_of h) es) name) (get (map_of h) name))) (get (before_of (map_of h) es) q)) [
-          | true ↦ λ e. ap (was b) (get-map_of h' q ∙ sets q ∙ ap (λ t. cond t now (at_name h q)) e) ∙ is
-          | false ↦ λ e. ap (λ (o : Option (List ℕ)). shown_as o (at_name es q)) (get-map_of h' q ∙ sets q ∙ ap (λ t. cond t now (at_name h q)) e ∙ sym (get-map_of h q)) ∙ sym (get-before_of (map_of h) es q)
-        ] refl
-        ∙ sym (get-noted (kept_of h es) name now q)))
+    get-before_of (map_of h') es' q ∙ ap (shown (map_of h') q) (slot q)
+    ∙ elim (same_name q name) as (λ t. same_name q name ≡ t → shown (map_of h') q (cond t (Some b) (at_name es q)) ≡ cond t (Some (unwrap_or (get (before_of (map_of h) es) name) (get (map_of h) name))) (get (before_of (map_of h) es) q)) [
+      | true ↦ λ e. ap (was b) (get-map_of h' q ∙ sets q ∙ ap (λ t. cond t now (at_name h q)) e) ∙ is
+      | false ↦ λ e. ap (λ (o : Option (List ℕ)). shown_as o (at_name es q)) (get-map_of h' q ∙ sets q ∙ ap (λ t. cond t now (at_name h q)) e ∙ sym (get-map_of h q)) ∙ sym (get-before_of (map_of h) es q)
+    ] refl
+    ∙ sym (get-noted (kept_of h es) name now q)))
 
 -- the slot may have been made just before
 pub changed_view : (h h' : List (Name × List ℕ)) (es es' new : List (Name × Before)) (name : Name) (now : Option (List ℕ)) (saved : Before)
@@ -75,6 +75,7 @@ changed_view h h' es es' new name now saved sets made noted is =
   where
     there : at_name es' name ≡ Some (unwrap_or (at_name es name) Clean)
     there = made name ∙ ap (λ b. cond b (Some (unwrap_or (at_name es name) Clean)) (at_name es name)) (same_itself name)
+
     both : Sets name (Some (noted_as saved (unwrap_or (at_name es name) Clean))) es new
     both q = noted q ∙ ap (λ o. cond (same_name q name) (option_map (noted_as saved) o) (at_name es' q)) there ∙ ap (cond (same_name q name) (Some (noted_as saved (unwrap_or (at_name es name) Clean)))) (made q) ∙ twice (same_name q name)
       where
@@ -86,10 +87,10 @@ changed_view h h' es es' new name now saved sets made noted is =
 pub made_view : (h : List (Name × List ℕ)) (es es' : List (Name × Before)) (name : Name) → Sets name (Some (unwrap_or (at_name es name) Clean)) es es' → kept_of h es' ≡ kept_of h es
 made_view h es es' name made =
     same_kept _ _ refl (same _ _ (λ q. get-before_of (map_of h) es' q ∙ ap (shown (map_of h) q) (made q)
-        ∙ elim (same_name q name) as (λ t. same_name q name ≡ t → shown (map_of h) q (cond t (Some (unwrap_or (at_name es name) Clean)) (at_name es q)) ≡ shown (map_of h) q (at_name es q)) [
-          | true ↦ λ e. clean_shows (at_name es name) q ∙ ap (λ n. shown (map_of h) q (at_name es n)) (sym (from_same q name e))
-          | false ↦ λ e. refl
-        ] refl ∙ sym (get-before_of (map_of h) es q)))
+    ∙ elim (same_name q name) as (λ t. same_name q name ≡ t → shown (map_of h) q (cond t (Some (unwrap_or (at_name es name) Clean)) (at_name es q)) ≡ shown (map_of h) q (at_name es q)) [
+      | true ↦ λ e. clean_shows (at_name es name) q ∙ ap (λ n. shown (map_of h) q (at_name es n)) (sym (from_same q name e))
+      | false ↦ λ e. refl
+    ] refl ∙ sym (get-before_of (map_of h) es q)))
   where
     clean_shows : (o : Option Before) (q : Name) → shown (map_of h) q (Some (unwrap_or o Clean)) ≡ shown (map_of h) q o
     clean_shows None q = refl
@@ -108,9 +109,10 @@ pub changed_held : (h h' : List (Name × List ℕ)) (es new : List (Name × Befo
     → HaveSlots h es → at_name h name ≡ Some old → Sets name now h h' → Sets name (option_map (noted_as saved) (at_name es name)) es new → was saved now ≡ Some (Some old)
     → (kept_of h' new ≡ changed (kept_of h es) name now) × HaveSlots h' new
 changed_held h h' es new name now saved old have held sets noted is =
-    let slot : is_some (at_name es name) ≡ true = have name (ap is_some held) in
-    (changed_view h h' es es new name now saved sets (sets_same es name _ (or_there (at_name es name) Clean true (sym slot) refl)) noted (is ∙ ap Some (sym held)),
-     have_slots h h' es new name now (option_map (noted_as saved) (at_name es name)) have sets noted (λ _. mapped (at_name es name) slot))
+    let slot : is_some (at_name es name) ≡ true = have name (ap is_some held) in (
+      changed_view h h' es es new name now saved sets (sets_same es name _ (or_there (at_name es name) Clean true (sym slot) refl)) noted (is ∙ ap Some (sym held)),
+      have_slots h h' es new name now (option_map (noted_as saved) (at_name es name)) have sets noted (λ _. mapped (at_name es name) slot),
+    )
   where
     mapped : (o : Option Before) → is_some o ≡ true → is_some (option_map (noted_as saved) o) ≡ true
     mapped None none = none
@@ -203,14 +205,14 @@ extended_noted h h' es k name bytes old noted have view held sets is holds =
 pub unextended : (h h' : List (Name × List ℕ)) (es : List (Name × Before)) (k : Kept) (name : Name) → kept_of h es ≡ k → Sets name (at_name h name) h h' → kept_of h' es ≡ k
 unextended h h' es k name view sets =
     ap (λ m. record { held = m; before = before_of m es }) (same (map_of h') (map_of h) (λ q. get-map_of h' q ∙ sets q
-        ∙ elim (same_name q name) as (λ t. same_name q name ≡ t → cond t (at_name h name) (at_name h q) ≡ at_name h q) [ true ↦ λ e. ap (at_name h) (sym (from_same q name e)) | false ↦ λ e. refl ] refl ∙ sym (get-map_of h q))) ∙ view
+    ∙ elim (same_name q name) as (λ t. same_name q name ≡ t → cond t (at_name h name) (at_name h q) ≡ at_name h q) [ true ↦ λ e. ap (at_name h) (sym (from_same q name e)) | false ↦ λ e. refl ] refl ∙ sym (get-map_of h q))) ∙ view
 
 -- a name that holds these bytes, and held them at the last good sync
 pub clean_view : (h h' : List (Name × List ℕ)) (es new : List (Name × Before)) (name : Name) (bytes : List ℕ) → Sets name (Some bytes) h h' → Sets name (Some Clean) es new → kept_of h' new ≡ with_clean (kept_of h es) name bytes
 clean_view h h' es new name bytes sets slots =
     same_kept _ _ (held_view h h' name (Some bytes) sets) (same _ _ (λ q. get-before_of (map_of h') new q ∙ ap (shown (map_of h') q) (slots q)
-        ∙ elim (same_name q name) as (λ t. same_name q name ≡ t → shown (map_of h') q (cond t (Some Clean) (at_name es q)) ≡ cond t None (get (before_of (map_of h) es) q)) [
-          | true ↦ λ e. refl
-          | false ↦ λ e. ap (λ (o : Option (List ℕ)). shown_as o (at_name es q)) (get-map_of h' q ∙ sets q ∙ ap (λ t. cond t (Some bytes) (at_name h q)) e ∙ sym (get-map_of h q)) ∙ sym (get-before_of (map_of h) es q)
-        ] refl
-        ∙ sym (get-remove names_total (before_of (map_of h) es) name q)))
+    ∙ elim (same_name q name) as (λ t. same_name q name ≡ t → shown (map_of h') q (cond t (Some Clean) (at_name es q)) ≡ cond t None (get (before_of (map_of h) es) q)) [
+      | true ↦ λ e. refl
+      | false ↦ λ e. ap (λ (o : Option (List ℕ)). shown_as o (at_name es q)) (get-map_of h' q ∙ sets q ∙ ap (λ t. cond t (Some bytes) (at_name h q)) e ∙ sym (get-map_of h q)) ∙ sym (get-before_of (map_of h) es q)
+    ] refl
+    ∙ sym (get-remove names_total (before_of (map_of h) es) name q)))

@@ -35,11 +35,11 @@ fits_nothing (Some c) n is = omega arith
 
 pub opens : (k : Kept) (capacity : Option ℕ) → k ≡ nothing_kept → IfSome capacity (λ c. c < 2 ^ 64 - 1) → HasRoom k capacity 0
 opens k capacity is small = subst (λ k. HasRoom k capacity 0) (sym is) (record {
-    small = λ c at. at_some capacity (λ c. c < 2 ^ 64 - 1) c small at;
-    exact = λ c at. sym size-empty;
-    held = fits_nothing capacity (size empty) size-empty;
-    before = fits_nothing capacity (size (crashed Old nothing_kept)) (ap size (crashed_clean Old nothing_kept refl) ∙ size-empty);
-  })
+  small = λ c at. at_some capacity (λ c. c < 2 ^ 64 - 1) c small at;
+  exact = λ c at. sym size-empty;
+  held = fits_nothing capacity (size empty) size-empty;
+  before = fits_nothing capacity (size (crashed Old nothing_kept)) (ap size (crashed_clean Old nothing_kept refl) ∙ size-empty);
+})
 
 -- a change of what is held, where the size is known
 pub room_then : (k l : Kept) (capacity : Option ℕ) (used after : ℕ) → HasRoom k capacity used → ((c : ℕ) → capacity ≡ Some c → (after ≡ size l.held) × (after ≤ c)) → crashed Old l ≡ crashed Old k → HasRoom l capacity after
@@ -80,10 +80,10 @@ counts name (Some bytes) = refl
 pub removed_room : (k l : Kept) (capacity : Option ℕ) (used gone : ℕ) (name : Name) → gone ≡ min (slot_size name (get k.held name)) (2 ^ 64 - 1) → l ≡ changed_if_held k name None → HasRoom k capacity used → HasRoom l capacity (used - gone)
 removed_room k l capacity used gone name is_gone is room =
     room_then k l capacity used (used - gone) room (λ c at.
-        let w = within k capacity used room c at in
-        let small = room.small c at in
-        let sum : size l.held + slot_size name (get k.held name) ≡ size k.held = after (get k.held name) refl in
-        (omega (arith, w.0, w.1, small, sum, is_gone), omega (arith, w.1)))
+    let w = within k capacity used room c at in
+    let small = room.small c at in
+    let sum : size l.held + slot_size name (get k.held name) ≡ size k.held = after (get k.held name) refl in
+    (omega (arith, w.0, w.1, small, sum, is_gone), omega (arith, w.1)))
     (ap (crashed Old) is ∙ same_before k name None)
   where
     after : (o : Option (List ℕ)) → get k.held name ≡ o → size l.held + slot_size name o ≡ size k.held
@@ -99,11 +99,11 @@ removed_room k l capacity used gone name is_gone is room =
 
 pub cleaned_room : (k l : Kept) (capacity : Option ℕ) (used : ℕ) → l ≡ cleaned k → HasRoom k capacity used → HasRoom l capacity used
 cleaned_room k l capacity used is room = subst (λ l. HasRoom l capacity used) (sym is) (record {
-    small = room.small;
-    exact = room.exact;
-    held = room.held;
-    before = subst (λ m. Fits capacity (size m)) (sym (crashed_clean Old (cleaned k) refl)) room.held;
-  })
+  small = room.small;
+  exact = room.exact;
+  held = room.held;
+  before = subst (λ m. Fits capacity (size m)) (sym (crashed_clean Old (cleaned k) refl)) room.held;
+})
 
 pub stored_room : (k l : Kept) (capacity : Option ℕ) (used after : ℕ) (name : Name) (whole : List ℕ) → l ≡ changed k name (Some whole) → ((c : ℕ) → capacity ≡ Some c → (after ≡ size (insert k.held name whole)) × (after ≤ c)) → HasRoom k capacity used → HasRoom l capacity after
 stored_room k l capacity used after name whole is sizes room =
@@ -147,10 +147,13 @@ pub no_room_found : (m : Memory) (kind : CallKind) (name : Name) (whole used old
     → old ≡ min (slot_size name (get m.kept.held name)) (2 ^ 64 - 1)
     → new ≡ min (length name + min (length_after kind (option_map length (get m.kept.held name)) whole) (2 ^ 64 - 1)) (2 ^ 64 - 1)
     → (c : ℕ) × (m.capacity ≡ Some c) × (c + old < used + new) → HasNoRoomFor m kind name whole
-no_room_found m kind name whole used old new room is_old is_new passes =
-    (passes.0, passes.1, λ n is.
-        let exact = room.exact passes.0 passes.1 in let small = room.small passes.0 passes.1 in let below = size-remove m.kept.held name in let w = within m.kept m.capacity used room passes.0 passes.1 in
-        omega (arith, exact, small, passes.2, below, w.1, is_old, is_new, is))
+no_room_found m kind name whole used old new room is_old is_new passes = (
+  passes.0,
+  passes.1,
+  λ n is.
+      let exact = room.exact passes.0 passes.1 in let small = room.small passes.0 passes.1 in let below = size-remove m.kept.held name in let w = within m.kept m.capacity used room passes.0 passes.1 in
+      omega (arith, exact, small, passes.2, below, w.1, is_old, is_new, is),
+)
 
 piece_length : (kind : CallKind) (now : Option (List ℕ)) (piece : List ℕ) → length (with_piece kind now piece) ≡ length_after kind (option_map length now) (length piece)
 piece_length Put now piece = refl

@@ -73,8 +73,10 @@ size-remove m n = by_held (get m n) refl
       where
         back : (q : List ℕ) (o : Option (List ℕ)) → get m n ≡ o → q ≡ n → get (set_to (remove m n) n o) q ≡ get m q
         back q o at is = get-set_to (remove m n) n o q ∙ ap (λ (x : List ℕ). cond (same_name x n) o (get (remove m n) x)) is ∙ ap (λ b. cond b o (get (remove m n) n)) (same_itself n) ∙ sym at ∙ ap (get m) (sym is)
+
         apart : (q : List ℕ) → q ≢ n → same_name q n ≡ false
         apart q other = elim (same_name q n) as (λ b. same_name q n ≡ b → b ≡ false) [ true ↦ λ e. absurd (other (from_same q n e)) | false ↦ λ e. refl ] refl
+
     by_held : (o : Option (List ℕ)) → get m n ≡ o → size (remove m n) + slot_size n o ≡ size m
     by_held None at =
         let gone : size (remove m n) ≡ size m = ap size (same (remove m n) m (λ q. ⊎_elim (λ is. ap (get (remove m n)) is ∙ get-remove_same m n ∙ sym (ap (get m) is ∙ at)) (λ other. get-remove_other m n q other) (name_cases q n))) in
@@ -116,6 +118,7 @@ weight_at_most (e ∷ es) k sorted each =
   where
     gone : (q : List ℕ) → T (below_all order e.0 es) → q ≡ e.0 → slot_size q (find order q es) ≤ slot_size q (get (remove k e.0) q)
     gone q below is = let none : slot_size q (find order q es) ≡ 0 = ap (λ (x : List ℕ). slot_size q (find order x es)) is ∙ ap (slot_size q) (missing e.0 es below) in omega (arith, none)
+
     kept : (q : List ℕ) → q ≢ e.0 → slot_size q (find order q es) ≤ slot_size q (get (remove k e.0) q)
     kept q other =
         let was : slot_size q (find order q (e ∷ es)) ≡ slot_size q (find order q es) = ap (λ b. slot_size q (cond b (Some e.1) (find order q es))) (apart q other) in

@@ -163,9 +163,11 @@ syncs r old new is leaves =
   where
     clean : (q : Name) → is_dirty (cleaned old.kept) q ≡ true → ⊥
     clean q dirty = let clash : false ≡ true = sym (ap is_some (get-empty _ q)) ∙ dirty in cc
+
     held : (f : Bool) → (cond f old.kept (cleaned old.kept)).held ≡ old.kept.held
     held true = refl
     held false = refl
+
     fewer : (f : Bool) (q : Name) → is_dirty (cond f old.kept (cleaned old.kept)) q ≡ true → is_dirty old.kept q ≡ true
     fewer true q dirty = dirty
     fewer false q dirty = absurd (clean q dirty)
@@ -233,21 +235,24 @@ writes {T} r old new kind name piece is exceeds fits =
     ok : (r : Result T PutFault) → OnOk r ((written kind name piece old r).kept.held ≡ insert old.kept.held name (with_piece kind (get old.kept.held name) piece))
     ok (Ok x) = refl
     ok (Err e) = tt
+
     no_memory : (r : Result T PutFault) → IsErrOf r NoMemory → Stays (state_of old) (state_of (written kind name piece old r))
     no_memory (Ok x) is = absurd (cc)
     no_memory (Err Failed) is = absurd (cc)
     no_memory (Err Full) is = absurd (cc)
     no_memory (Err NoMemory) is = record { held = refl; dirty = λ q dirty. dirty }
+
     full : (r : Result T PutFault) → IsErrOf r Full → Stays (state_of old) (state_of (written kind name piece old r))
     full (Ok x) is = absurd (cc)
     full (Err Failed) is = absurd (cc)
     full (Err Full) is = record { held = refl; dirty = λ q dirty. dirty }
     full (Err NoMemory) is = absurd (cc)
+
     failed : (r : Result T PutFault) → IsErrOf r Failed → HoldsAtMost (written kind name piece old r).kept.held name (max (length (bytes_or_none (get old.kept.held name))) (length (with_piece kind (get old.kept.held name) piece)))
     failed (Ok x) is = absurd (cc)
     failed (Err Failed) is =
         let here : get (set_to old.kept.held name (Some (with_piece kind (get old.kept.held name) (first_half piece)))) name ≡ Some (with_piece kind (get old.kept.held name) (first_half piece)) =
-            get-set_to old.kept.held name (Some (with_piece kind (get old.kept.held name) (first_half piece))) name ∙ ap (λ b. cond b (Some (with_piece kind (get old.kept.held name) (first_half piece))) (get old.kept.held name)) (same_itself name) in
+        get-set_to old.kept.held name (Some (with_piece kind (get old.kept.held name) (first_half piece))) name ∙ ap (λ b. cond b (Some (with_piece kind (get old.kept.held name) (first_half piece))) (get old.kept.held name)) (same_itself name) in
         subst (λ o. IfSome o (λ bytes. length bytes ≤ max (length (bytes_or_none (get old.kept.held name))) (length (with_piece kind (get old.kept.held name) piece)))) (sym here) (half_asked kind (get old.kept.held name) piece)
     failed (Err Full) is = absurd (cc)
     failed (Err NoMemory) is = absurd (cc)

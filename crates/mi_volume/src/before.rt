@@ -53,7 +53,11 @@ impl Before {
 }
 
 /// Makes a clean slot for the name where it has none.
-pub fn add_slot(slots: &mut BTreeMap<Name, Before>, alloc: Global, name: &Name) -> Result<(), NoMemory>
+pub fn add_slot(
+    slots: &mut BTreeMap<Name, Before>,
+    alloc: Global,
+    name: &Name,
+) -> Result<(), NoMemory>
     ensures ok { OnOk result (Sets name.now (Some (unwrap_or (at_name slots.old.entries name.now) Clean)) slots.old.entries slots.new.entries) }
     ensures err { OnErr result (slots.new.entries ≡ slots.old.entries) }
 {

@@ -31,7 +31,12 @@ pub fn first_half(bytes: &[u8]) -> &[u8]
 }
 
 /// What a crash leaves at a name that holds this, by its slot.
-pub fn left(alloc: Global, choice: Choice, now: Option<&Bytes>, slot: &Before) -> Result<Option<Bytes>, NoMemory>
+pub fn left(
+    alloc: Global,
+    choice: Choice,
+    now: Option<&Bytes>,
+    slot: &Before,
+) -> Result<Option<Bytes>, NoMemory>
     ensures { IfOk result (λ left. left ≡ left_by choice (option_copied now.entry) slot.now) }
 {
     if let Before::Clean = slot {

@@ -27,7 +27,10 @@ pub fn first_above<'a>(held: &'a BTreeMap<Name, Bytes>, after: Option<&Name>) ->
 fn name_above<'a>(held: &'a BTreeMap<Name, Bytes>, after: &Name) -> Option<&'a Name>
     ensures { option_copied result ≡ next_name (map_of held.now.entries) (Some after.now) }
 {
-    match held.range((Bound::Excluded(after), Bound::Unbounded)).next() {
+    match held
+        .range((Bound::Excluded(after), Bound::Unbounded))
+        .next()
+    {
         Some((name, _)) => Some(name),
         None => None,
     }
@@ -57,7 +60,11 @@ pub fn size_of_all(held: &BTreeMap<Name, Bytes>) -> u64
 }
 
 /// Adds bytes at the end of what a name holds.
-pub fn extend_held(held: &mut BTreeMap<Name, Bytes>, name: &Name, bytes: &[u8]) -> Result<(), NoMemory>
+pub fn extend_held(
+    held: &mut BTreeMap<Name, Bytes>,
+    name: &Name,
+    bytes: &[u8],
+) -> Result<(), NoMemory>
     ensures ok { OnOk result (Sets name.now (option_map (λ b. b ++ bytes.now) (at_name held.old.entries name.now)) held.old.entries held.new.entries) }
     ensures err { OnErr result (Sets name.now (at_name held.old.entries name.now) held.old.entries held.new.entries) }
     ensures names { (q : List ℕ) → is_some (at_name held.new.entries q) ≡ is_some (at_name held.old.entries q) }

@@ -206,7 +206,13 @@ impl MemVolume {
     }
 
     /// Puts or appends; a call that fails has written the first half.
-    pub(crate) fn write(&mut self, alloc: Global, kind: CallKind, name: &Name, bytes: &[u8]) -> Result<(), PutFault>
+    pub(crate) fn write(
+        &mut self,
+        alloc: Global,
+        kind: CallKind,
+        name: &Name,
+        bytes: &[u8],
+    ) -> Result<(), PutFault>
         ensures leaves { self.new ≡ written kind name.now bytes.now self.old result }
         ensures later { self.old.faults ≤ self.new.faults }
         ensures failed { IsErrOf result PutFault.Failed → fails_now self.old ≡ true }
@@ -236,11 +242,24 @@ impl MemVolume {
         let old = self.slots.size_of(name);
         let (whole, part) = (whole as u64, part as u64);
         let new = length_after(kind, old, whole);
-        room_for(self.capacity, self.used, slot_size(name, old), slot_size(name, Some(new)), whole - part)
+        room_for(
+            self.capacity,
+            self.used,
+            slot_size(name, old),
+            slot_size(name, Some(new)),
+            whole - part,
+        )
     }
 
     /// Keeps and lists a piece that is put or appended, where the size is known.
-    fn store(&mut self, alloc: Global, kind: CallKind, name: &Name, piece: &[u8], used: u64) -> Result<(), NoMemory>
+    fn store(
+        &mut self,
+        alloc: Global,
+        kind: CallKind,
+        name: &Name,
+        piece: &[u8],
+        used: u64,
+    ) -> Result<(), NoMemory>
         requires { (c : ℕ) → self.old.capacity ≡ Some c → (used ≡ size (insert self.old.kept.held name.now (with_piece kind (get self.old.kept.held name.now) piece.now))) × (used ≤ c) }
         ensures ok { OnOk result (self.new ≡ stored kind name.now piece.now self.old) }
         ensures err { OnErr result (self.new ≡ self.old) }

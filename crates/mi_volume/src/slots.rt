@@ -112,7 +112,13 @@ impl Slots {
     }
 
     /// Puts or appends a piece.
-    pub fn store(&mut self, alloc: Global, kind: CallKind, name: &Name, piece: &[u8]) -> Result<(), NoMemory>
+    pub fn store(
+        &mut self,
+        alloc: Global,
+        kind: CallKind,
+        name: &Name,
+        piece: &[u8],
+    ) -> Result<(), NoMemory>
         ensures ok { OnOk result (self.new ≡ changed self.old name.now (Some (with_piece kind (get self.old.held name.now) piece.now))) }
         ensures err { OnErr result (self.new ≡ self.old) }
     {

@@ -9,17 +9,17 @@ use Rattle.mi_volume.proofs.held.extend_held.Goals as goal
 pub returns-in-Some-clause-ok : goal.returns-in-Some-clause-ok
 returns-in-Some-clause-ok c =
     on_ok_weaker c.extend.result (λ ok.
-        subst (λ (o : Option (List ℕ)). Sets c.args.name.now o c.args.held.now.entries (c.get_mut.follows.lender c.extend.new.self).entries)
-        (ap Some ok ∙ ap (option_map (λ (b : List ℕ). b ++ c.args.bytes.now)) c.in-Some.ensures.value)
-        (sets_through c.args.held.now (c.get_mut.follows.lender c.extend.new.self) c.args.name.now c.in-Some.held.now c.extend.new.self c.in-Some.ensures.value (c.get_mut.follows.holds c.extend.new.self)))
+    subst (λ (o : Option (List ℕ)). Sets c.args.name.now o c.args.held.now.entries (c.get_mut.follows.lender c.extend.new.self).entries)
+    (ap Some ok ∙ ap (option_map (λ (b : List ℕ). b ++ c.args.bytes.now)) c.in-Some.ensures.value)
+    (sets_through c.args.held.now (c.get_mut.follows.lender c.extend.new.self) c.args.name.now c.in-Some.held.now c.extend.new.self c.in-Some.ensures.value (c.get_mut.follows.holds c.extend.new.self)))
     c.extend.ensures.ok
 
 pub returns-in-Some-clause-err : goal.returns-in-Some-clause-err
 returns-in-Some-clause-err c =
     on_err_weaker c.extend.result (λ err.
-        subst (λ (o : Option (List ℕ)). Sets c.args.name.now o c.args.held.now.entries (c.get_mut.follows.lender c.extend.new.self).entries)
-        (ap Some err ∙ c.in-Some.ensures.value)
-        (sets_through c.args.held.now (c.get_mut.follows.lender c.extend.new.self) c.args.name.now c.in-Some.held.now c.extend.new.self c.in-Some.ensures.value (c.get_mut.follows.holds c.extend.new.self)))
+    subst (λ (o : Option (List ℕ)). Sets c.args.name.now o c.args.held.now.entries (c.get_mut.follows.lender c.extend.new.self).entries)
+    (ap Some err ∙ c.in-Some.ensures.value)
+    (sets_through c.args.held.now (c.get_mut.follows.lender c.extend.new.self) c.args.name.now c.in-Some.held.now c.extend.new.self c.in-Some.ensures.value (c.get_mut.follows.holds c.extend.new.self)))
     c.extend.ensures.err
 
 pub returns-in-Some-clause-names : goal.returns-in-Some-clause-names

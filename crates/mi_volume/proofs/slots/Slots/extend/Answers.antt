@@ -19,7 +19,7 @@ returns-in_default-clause-ok c =
 pub returns-then-is_noted-clause-ok : goal.returns-then-is_noted-clause-ok
 returns-then-is_noted-clause-ok c =
     on_ok_weaker c.extend_held.result (λ ok. extended_noted c.self.inside.held.entries c.extend_held.new.held.entries c.self.inside.before.entries c.args.self.now c.args.name.now c.args.bytes.now c.in-Some.held.now c.is_noted.result
-        c.self.invariant c.self.view_is c.in-Some.ensures.value ok c.is_noted.ensures c.if-is_noted.true) c.extend_held.ensures.ok
+    c.self.invariant c.self.view_is c.in-Some.ensures.value ok c.is_noted.ensures c.if-is_noted.true) c.extend_held.ensures.ok
 
 pub returns-then-is_noted-clause-err : goal.returns-then-is_noted-clause-err
 returns-then-is_noted-clause-err c =

@@ -20,17 +20,17 @@ returns-in_err-held-clause-err c =
 pub invariant_of-self-2 : goal.invariant_of-self-2
 invariant_of-self-2 c =
     let given = subst (λ (n : Name). Sets n (Some c.args.bytes) c.self.inside.held.entries c.insert.new.self.entries) c.in_ok-copy.ensures
-        (sets c.self.inside.held c.insert.new.self c.in_ok-copy.field-0 (Some c.args.bytes) c.in_ok-held.ensures.updates) in
+    (sets c.self.inside.held c.insert.new.self c.in_ok-copy.field-0 (Some c.args.bytes) c.in_ok-held.ensures.updates) in
     made_slots c.self.inside.held.entries c.insert.new.self.entries c.self.inside.before.entries c.add_slot.new.slots.entries c.note.new.slots.entries c.args.name.now (Some c.args.bytes) c.saved.result
     c.self.invariant given c.in_ok-add_slot.ensures.ok c.note.ensures
 
 pub returns-clause-ok : goal.returns-clause-ok
 returns-clause-ok c =
     let given = subst (λ (n : Name). Sets n (Some c.args.bytes) c.self.inside.held.entries c.insert.new.self.entries) c.in_ok-copy.ensures
-        (sets c.self.inside.held c.insert.new.self c.in_ok-copy.field-0 (Some c.args.bytes) c.in_ok-held.ensures.updates) in
+    (sets c.self.inside.held c.insert.new.self c.in_ok-copy.field-0 (Some c.args.bytes) c.in_ok-held.ensures.updates) in
     let noted : was c.saved.result (Some c.args.bytes) ≡ Some (at_name c.self.inside.held.entries c.args.name.now) =
-        ap (λ s. was s (Some c.args.bytes)) c.saved.ensures ∙ saved_was c.in_ok-held.held (Some c.args.bytes)
-        ∙ ap Some (c.in_ok-held.ensures.old ∙ ap (λ (n : Name). at_name c.self.inside.held.entries n) c.in_ok-copy.ensures) in
+    ap (λ s. was s (Some c.args.bytes)) c.saved.ensures ∙ saved_was c.in_ok-held.held (Some c.args.bytes)
+    ∙ ap Some (c.in_ok-held.ensures.old ∙ ap (λ (n : Name). at_name c.self.inside.held.entries n) c.in_ok-copy.ensures) in
     changed_view c.self.inside.held.entries c.insert.new.self.entries c.self.inside.before.entries c.add_slot.new.slots.entries c.note.new.slots.entries c.args.name.now (Some c.args.bytes) c.saved.result
     given c.in_ok-add_slot.ensures.ok c.note.ensures noted
     ∙ ap (λ (k : Kept). changed k c.args.name.now (Some c.args.bytes)) c.self.view_is
