@@ -1,13 +1,13 @@
 -- What a crash leaves, after a change.
-use Rattle.std.proofs.Common.{◌≡◌, ℕ, ◌+◌, ◌≤◌, ◌/◌, Bool, true, false, cond, List, take, length, Option, Some, None, refl, sym, ap, subst, ◌∙◌, arith}
-use Rattle.std.specs.Prelude.{option_map, unwrap_or, is_some, IfSome}
+use Rattle.std.proofs.Common.{◌≡◌, ℕ, ◌≤◌, ◌/◌, true, false, cond, List, length, Option, Some, None, refl, sym, ap, subst, ◌∙◌, arith}
+use Rattle.std.specs.Prelude.{option_map, unwrap_or}
 use Rattle.std.specs.Option.{option_map_or}
 use Rattle.std.proofs.lemmas.List.{length-take}
-use Rattle.std.specs.FinMap.{get, insert, empty, get-empty}
+use Rattle.std.specs.FinMap.{get, empty, get-empty}
 use Rattle.mi_text.specs.Maps.{Name, same_name, set_to}
-use Rattle.mi_text.proofs.MapLemmas.{names_total, from_same, same, get-set_to}
-use Rattle.mi_volume.specs.Maps.{Map, size, slot_size, Fits}
-use Rattle.mi_volume.specs.Kept.{Kept, changed, changed_if_held, cleaned, crashed, chosen, first_half}
+use Rattle.mi_text.proofs.MapLemmas.{from_same, same, get-set_to}
+use Rattle.mi_volume.specs.Maps.{size, slot_size, Fits}
+use Rattle.mi_volume.specs.Kept.{Kept, changed, crashed, chosen, first_half}
 use Rattle.mi_volume.specs.declared.choice.Choice.{Choice}
 use Rattle.mi_volume.specs.declared.choice.Choice.TheVariants.{Old, New, Torn, Gone}
 use Rattle.mi_volume.proofs.ImageLemmas.{get-crashed}

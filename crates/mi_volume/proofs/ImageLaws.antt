@@ -1,9 +1,9 @@
 -- What the images of a volume are, for the layers above.
-use Rattle.std.proofs.Common.{◌≡◌, ◌≢◌, ◌⊎◌, inl, inr, ⊎_elim, List, ℕ, Result, Ok, Err, OnOk, refl, subst, ◌∙◌}
+use Rattle.std.proofs.Common.{◌≡◌, ◌≢◌, inl, inr, ⊎_elim, List, ℕ, Result, Ok, Err, OnOk, refl, subst, ◌∙◌}
 use Rattle.std.specs.FinMap.{get}
 use Rattle.mi_text.proofs.MapLemmas.{same}
 use Rattle.mi_volume.specs.Maps.{Map, OthersStay, Fits, size}
-use Rattle.mi_volume.specs.State.{State, Images, ImagesOf, MayLeave, NothingDirty, OnlyDirties, Stays, StaysDirty}
+use Rattle.mi_volume.specs.State.{State, Images, ImagesOf, NothingDirty, OnlyDirties, Stays, StaysDirty}
 use Rattle.mi_volume.specs.Calls.{Syncs}
 
 -- an image holds what is held at each name that isn't dirty

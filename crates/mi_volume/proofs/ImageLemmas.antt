@@ -1,21 +1,21 @@
 -- A copy of what a crash leaves, slot by slot.
-use Rattle.std.proofs.Common.{◌≡◌, ℕ, Bool, true, false, cond, List, [], ◌∷◌, Option, Some, None, refl, sym, ap, subst, ◌∙◌}
-use Rattle.std.specs.Prelude.{option_map, option_and_then, is_some}
+use Rattle.std.proofs.Common.{◌≡◌, ℕ, Bool, true, false, cond, List, [], ◌∷◌, Option, Some, None, refl, sym, ap, ◌∙◌}
+use Rattle.std.specs.Prelude.{option_and_then, is_some}
 use Rattle.std.specs.Option.{option_map_or}
 use Rattle.std.specs.List.{AllByRecursion}
 use Rattle.std.specs.List.Sorted.{IsStrictlySortedBy}
 use Rattle.std.specs.Map.{keys_of}
 use Rattle.std.specs.Ordering.{is_eq}
 use Rattle.std.specs.declared.cmp.Ordering.TheVariants.{Less}
-use Rattle.std.specs.FinMap.{get, insert, remove, empty, keys, get-insert, get-remove, get-empty}
+use Rattle.std.specs.FinMap.{get, remove, empty, keys, get-insert, get-remove, get-empty}
 use Rattle.std.proofs.lemmas.Map.Keys.{sorted_head, sorted_tail}
-use Rattle.mi_text.specs.Maps.{Name, name_cmp, same_name, is_among}
+use Rattle.mi_text.specs.Maps.{Name, name_cmp, same_name}
 use Rattle.mi_text.proofs.MapLemmas.{names_total, from_same, same_itself, same, get-each_name, among-keys}
 use Rattle.mi_volume.specs.Kept.{Kept, nothing_kept, chosen, crashed, imaged, with_clean}
-use Rattle.mi_volume.specs.Slots.{was, map_of, at_name, before_of, kept_of, HaveSlots, left_by}
+use Rattle.mi_volume.specs.Slots.{was, map_of, at_name, kept_of, HaveSlots, left_by}
 use Rattle.mi_volume.specs.declared.before.Before.{Before}
 use Rattle.mi_volume.specs.declared.choice.Choice.{Choice}
-use Rattle.mi_volume.proofs.SlotLemmas.{get-map_of, get-before_of, shown}
+use Rattle.mi_volume.proofs.SlotLemmas.{get-map_of, get-before_of}
 use Rattle.mi_volume.proofs.KeptLemmas.{same_kept}
 
 -- what a crash leaves at a name that may have a slot
@@ -45,12 +45,7 @@ absent_below : {X : Type 0} → (k : Name) (es : List (Name × X)) → AllByRecu
 absent_below k [] below = refl
 absent_below k (e ∷ es) below = ap (λ o. cond (is_eq o) (Some e.1) (at_name es k)) below.0 ∙ absent_below k es below.1
 
--- one name's bytes, if a crash leaves it
-abbrev pub with_left : Kept → Name → Option (List ℕ) → Kept
-with_left image name None = image
-with_left image name (Some bytes) = with_clean image name bytes
-
-get_left : (image : Kept) (name : Name) (left : Option (List ℕ)) (q : Name) → get image.held name ≡ None → get (with_left image name left).held q ≡ cond (same_name q name) left (get image.held q)
+get_left : (image : Kept) (name : Name) (left : Option (List ℕ)) (q : Name) → get image.held name ≡ None → get (with_clean image name left).held q ≡ cond (same_name q name) left (get image.held q)
 get_left image name None q none =
     elim (same_name q name) as (λ b. same_name q name ≡ b → get image.held q ≡ cond b None (get image.held q)) [
       | true ↦ λ e. ap (get image.held) (from_same q name e) ∙ none
@@ -58,7 +53,7 @@ get_left image name None q none =
     ] refl
 get_left image name (Some bytes) q none = get-insert names_total image.held name bytes q
 
-still_clean : (image : Kept) (name : Name) (left : Option (List ℕ)) → image.before ≡ empty → (with_left image name left).before ≡ empty
+still_clean : (image : Kept) (name : Name) (left : Option (List ℕ)) → image.before ≡ empty → (with_clean image name left).before ≡ empty
 still_clean image name None clean = clean
 still_clean image name (Some bytes) clean =
     ap (λ m. remove m name) clean ∙ same _ _ (λ q. get-remove names_total empty name q ∙ none (same_name q name) (get-empty name_cmp q) ∙ sym (get-empty name_cmp q))
@@ -68,7 +63,7 @@ still_clean image name (Some bytes) clean =
     none false is = is
 
 pub copying_goes_on : (choice : Choice) (h : List (Name × List ℕ)) (all rest : List (Name × Before)) (name : Name) (slot : Before) (image : Kept) (left : Option (List ℕ))
-    → Copying choice h all ((name, slot) ∷ rest) image → left ≡ left_by choice (at_name h name) slot → Copying choice h all rest (with_left image name left)
+    → Copying choice h all ((name, slot) ∷ rest) image → left ≡ left_by choice (at_name h name) slot → Copying choice h all rest (with_clean image name left)
 copying_goes_on choice h all rest name slot image left copying is = record {
   sorted = sorted_tail name_cmp name (keys_of rest) copying.sorted;
   part = λ q b at. copying.part q b (later q b at);

@@ -208,7 +208,7 @@ unextended h h' es k name view sets =
     ∙ elim (same_name q name) as (λ t. same_name q name ≡ t → cond t (at_name h name) (at_name h q) ≡ at_name h q) [ true ↦ λ e. ap (at_name h) (sym (from_same q name e)) | false ↦ λ e. refl ] refl ∙ sym (get-map_of h q))) ∙ view
 
 -- a name that holds these bytes, and held them at the last good sync
-pub clean_view : (h h' : List (Name × List ℕ)) (es new : List (Name × Before)) (name : Name) (bytes : List ℕ) → Sets name (Some bytes) h h' → Sets name (Some Clean) es new → kept_of h' new ≡ with_clean (kept_of h es) name bytes
+pub clean_view : (h h' : List (Name × List ℕ)) (es new : List (Name × Before)) (name : Name) (bytes : List ℕ) → Sets name (Some bytes) h h' → Sets name (Some Clean) es new → kept_of h' new ≡ with_clean (kept_of h es) name (Some bytes)
 clean_view h h' es new name bytes sets slots =
     same_kept _ _ (held_view h h' name (Some bytes) sets) (same _ _ (λ q. get-before_of (map_of h') new q ∙ ap (shown (map_of h') q) (slots q)
     ∙ elim (same_name q name) as (λ t. same_name q name ≡ t → shown (map_of h') q (cond t (Some Clean) (at_name es q)) ≡ cond t None (get (before_of (map_of h) es) q)) [

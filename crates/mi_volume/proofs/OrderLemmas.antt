@@ -1,6 +1,6 @@
 -- The order of the names in a tree and in its map.
 use Rattle.std.proofs.Common.{◌≡◌, ℕ, ◌≤◌, Bool, true, false, cond, ◌&&◌, T, List, [], ◌∷◌, map, length, Option, Some, None, refl, sym, ap, subst, ◌∙◌, arith}
-use Rattle.std.specs.Prelude.{filter, find, not}
+use Rattle.std.specs.Prelude.{filter, find}
 use Rattle.std.specs.List.{AllByRecursion}
 use Rattle.std.specs.List.Sorted.{IsStrictlySortedBy}
 use Rattle.std.specs.Map.{keys_of}
@@ -10,10 +10,10 @@ use Rattle.std.specs.declared.cmp.Ordering.TheVariants.{Less, Equal, Greater}
 use Rattle.std.specs.FinMap.{entries, keys, is_sorted}
 use Rattle.std.specs.FinMap.Entries.{below_all}
 use Rattle.std.proofs.lemmas.Map.Keys.{sorted_head, sorted_tail}
-use Rattle.mi_text.specs.Maps.{Name, name_cmp, Map}
+use Rattle.mi_text.specs.Maps.{Name, name_cmp}
 use Rattle.mi_text.specs.Next.{is_behind, next_name}
 use Rattle.mi_text.proofs.MapLemmas.{names_total, entries-from_entries}
-use Rattle.mi_volume.specs.Maps.{size, weight, IsAbove}
+use Rattle.mi_volume.specs.Maps.{size, weight}
 use Rattle.mi_volume.specs.Slots.{map_of}
 
 both : (a b : Bool) → T a → T b → T (a && b)

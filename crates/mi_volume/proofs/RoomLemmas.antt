@@ -1,12 +1,12 @@
 -- The room of a volume in memory, after a change.
-use Rattle.std.proofs.Common.{◌≡◌, ◌⊎◌, ℕ, ◌+◌, ◌-◌, ◌^◌, ◌≤◌, ◌<◌, min, Bool, true, false, cond, List, [], ◌∷◌, ◌++◌, length, length-append, Option, Some, None, IfSome, IfNone, Result, Ok, Err, OnOk, refl, sym, ap, subst, ◌∙◌, arith}
-use Rattle.std.specs.Prelude.{option_map, unwrap_or, is_some}
+use Rattle.std.proofs.Common.{◌≡◌, ℕ, ◌+◌, ◌-◌, ◌^◌, ◌≤◌, ◌<◌, min, Bool, true, false, cond, List, [], ◌∷◌, length, length-append, Option, Some, None, IfSome, IfNone, Result, Ok, Err, OnOk, refl, sym, ap, subst, ◌∙◌, arith}
+use Rattle.std.specs.Prelude.{option_map, is_some}
 use Rattle.std.specs.Option.{option_map_or}
 use Rattle.std.specs.Result.{is_err}
 use Rattle.std.specs.FinMap.{get, insert, remove, empty, entries, from_sorted, get-empty, get-from_sorted, entries-from_sorted}
-use Rattle.mi_text.specs.Maps.{Name, name_cmp, set_to}
+use Rattle.mi_text.specs.Maps.{Name, name_cmp}
 use Rattle.mi_text.proofs.MapLemmas.{same}
-use Rattle.mi_volume.specs.Maps.{Map, size, slot_size, weight, bytes_or_none, Fits, Exceeds, HoldsByte}
+use Rattle.mi_volume.specs.Maps.{Map, size, slot_size, weight, Fits, Exceeds, HoldsByte}
 use Rattle.mi_volume.specs.Kept.{Kept, nothing_kept, changed, changed_if_held, cleaned, crashed, imaged, chosen, is_dirty}
 use Rattle.mi_volume.specs.State.{MayLeave}
 use Rattle.mi_volume.specs.Memory.{Memory, HasRoom, HasRoomFor, HasNoRoomFor, IsSizeWith, length_after, with_piece, touched}

@@ -6,9 +6,9 @@ use Rattle.std.specs.declared.cmp.Ordering.TheVariants.{Less, Equal, Greater}
 use Rattle.std.specs.Cmp.Lexicographic.{slice_cmp, nat_list_cmp_total}
 use Rattle.std.specs.FinMap.{get, insert, remove, entries, entries_sorted, entries-insert, get-entries}
 use Rattle.std.specs.FinMap.Entries.{put, find, is_sorted, below_all, by_order}
-use Rattle.mi_text.specs.Maps.{Name, same_name, set_to}
+use Rattle.mi_text.specs.Maps.{same_name, set_to}
 use Rattle.mi_text.proofs.MapLemmas.{names_exact, from_same, same_itself, same, get-set_to}
-use Rattle.mi_volume.proofs.MapLemmas.{get-insert_same, get-insert_other, get-remove_same, get-remove_other, name_cases}
+use Rattle.mi_volume.proofs.MapLemmas.{get-remove_same, get-remove_other, name_cases}
 use Rattle.mi_volume.specs.Maps.{Map, size, weight, slot_size}
 
 abbrev Pairs : Type 0

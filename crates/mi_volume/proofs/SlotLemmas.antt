@@ -7,7 +7,7 @@ use Rattle.std.specs.Map.Calls.{RetainsPairs}
 use Rattle.std.proofs.lemmas.Map.Entries.{lookup-filter-keys}
 use Rattle.std.proofs.lemmas.Map.Made.{lookup-map_values}
 use Rattle.std.specs.Cmp.{eq_by_cmp_equiv}
-use Rattle.mi_text.specs.Maps.{Name, name_cmp, same_name, set_to}
+use Rattle.mi_text.specs.Maps.{Name, name_cmp, same_name}
 use Rattle.mi_text.proofs.MapLemmas.{names_total, from_same, get-set_to}
 use Rattle.mi_volume.specs.Maps.{Map}
 use Rattle.mi_volume.specs.Kept.{Kept}

@@ -1,20 +1,20 @@
 -- A volume in memory as a volume.
-use Rattle.std.proofs.Common.{◌≡◌, ◌≢◌, ◌⊎◌, inl, inr, ℕ, ◌+◌, ◌-◌, ◌^◌, ◌≤◌, ◌<◌, Bool, true, false, cond, List, [], ◌∷◌, ◌++◌, length, length-append, max, Option, Some, None, Result, Ok, Err, OnOk, OnErr, IfSome, refl, sym, ap, subst, ◌∙◌, arith}
-use Rattle.std.specs.Prelude.{is_some, unwrap_or, IsErrOf, option_map}
+use Rattle.std.proofs.Common.{◌≡◌, ◌≢◌, ◌⊎◌, inl, inr, ℕ, ◌≤◌, Bool, true, false, cond, List, [], ◌∷◌, ◌++◌, length, length-append, max, Option, Some, None, Result, Ok, Err, OnOk, OnErr, IfSome, refl, sym, ap, subst, ◌∙◌, arith}
+use Rattle.std.specs.Prelude.{is_some, unwrap_or, IsErrOf}
 use Rattle.std.specs.Result.{is_err}
-use Rattle.std.specs.FinMap.{get, insert, remove, empty, get-empty}
+use Rattle.std.specs.FinMap.{get, insert, remove, get-empty}
 use Rattle.mi_text.specs.Maps.{Name, same_name, set_to}
 use Rattle.mi_text.proofs.MapLemmas.{same_itself, get-set_to, from_same, same}
 use Rattle.mi_volume.specs.Maps.{Map, size, bytes_or_none, Exceeds, OthersStay, HoldsByte, HoldsAtMost}
-use Rattle.mi_volume.specs.State.{State, MayLeave, Images, ImagesOf, GoesOn, Stays, StaysDirty, Rose, OnlyDirties, NothingDirty}
+use Rattle.mi_volume.specs.State.{MayLeave, Images, ImagesOf, GoesOn, Stays, StaysDirty, Rose}
 use Rattle.mi_volume.specs.Calls.{Writes, Marks, Removes, Syncs}
 use Rattle.mi_volume.specs.Kept.{Kept, is_dirty, changed, changed_if_held, cleaned, first_half}
-use Rattle.mi_volume.specs.Memory.{Memory, state_of, fails_now, counted, called, looked, touched, marked, removed, synced, with_piece, written}
+use Rattle.mi_volume.specs.Memory.{Memory, state_of, fails_now, called, looked, touched, marked, removed, synced, with_piece, written}
 use Rattle.mi_volume.specs.declared.call.CallKind.{CallKind}
 use Rattle.mi_volume.specs.declared.call.CallKind.TheVariants.{Put, Append}
 use Rattle.mi_volume.specs.declared.volume.PutFault.{PutFault}
 use Rattle.mi_volume.specs.declared.volume.PutFault.TheVariants.{NoMemory, Failed, Full}
-use Rattle.mi_volume.proofs.MapLemmas.{name_cases, same_name-other}
+use Rattle.mi_volume.proofs.MapLemmas.{same_name-other}
 use Rattle.mi_volume.proofs.KeptLemmas.{get-noted}
 use Rattle.mi_volume.proofs.CrashLemmas.{half_length}
 

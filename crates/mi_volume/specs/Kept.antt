@@ -1,5 +1,5 @@
 -- What a volume in memory keeps: what is held, and of each dirty name what it held at the last good sync.
-use Rattle.std.specs.Prelude.{◌≡◌, ℕ, ◌/◌, Bool, true, cond, List, length, take, Option, None, Some, is_some, option_map, if◌then◌else◌, refl}
+use Rattle.std.specs.Prelude.{ℕ, ◌/◌, Bool, cond, List, length, take, Option, None, Some, is_some, option_map, if◌then◌else◌, refl}
 use Rattle.std.specs.Option.{option_map_or}
 use Rattle.std.specs.Coded.{Coded, code_by, coded×, coded_ℕ, coded_list, coded_option}
 use Rattle.std.specs.FinMap.{get, insert, remove, empty, keys, code}
@@ -61,6 +61,7 @@ crashed choice k = each_name k.held (keys k.before) (λ name now. option_map_or 
 abbrev pub imaged : Choice → Kept → Kept
 imaged choice k = record { held = crashed choice k; before = empty }
 
--- this stands at the name, and held at the last good sync
-abbrev pub with_clean : Kept → Name → List ℕ → Kept
-with_clean k name bytes = record { held = insert k.held name bytes; before = remove k.before name }
+-- these bytes, if any, stand at the name, and stood there at the last good sync
+abbrev pub with_clean : Kept → Name → Option (List ℕ) → Kept
+with_clean k name None = k
+with_clean k name (Some bytes) = record { held = insert k.held name bytes; before = remove k.before name }

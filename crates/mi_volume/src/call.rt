@@ -2,14 +2,14 @@
 
 use mi_text::Name;
 
-/// Whether a call put or appended.
+/// Whether a call put or appended (this project's own).
 #[derive(Clone, Copy, Debug, PartialEq, Eq)]
 pub enum CallKind {
     Put,
     Append,
 }
 
-/// A put or an append that was made.
+/// A put or an append that was made (this project's own).
 #[derive(Debug, Drop)]
 pub struct Call {
     /// Whether it put or appended.

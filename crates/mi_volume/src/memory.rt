@@ -19,7 +19,7 @@ use mi_text::{Bytes, Name, NoMemory};
 use std::alloc::Global;
 use std::marker::Model;
 
-/// A volume in memory, which tells its content and its capacity.
+/// A volume in memory, which tells its content and its capacity (this project's own).
 #[derive(Drop)]
 pub struct MemVolume {
     slots: Slots,
@@ -46,7 +46,9 @@ impl Model for MemVolume {
 }
 
 impl MemVolume {
-    /// An empty volume. Its calls are numbered from 0, `faults` aside.
+    /// An empty volume of at most `capacity` bytes of names and contents, or without a bound. Its calls are numbered from
+    /// 0, `faults` aside, and fail where `fails` says so; a `put` or `append` that would pass the capacity answers Full all
+    /// the same.
     pub fn new(alloc: Global, capacity: Option<u64>, fails: Fails) -> Result<MemVolume, NoMemory>
         requires { IfSome capacity (λ c. c < 2 ^ 64 - 1) }
         ensures { IfOk result (λ m. m ≡ opened capacity fails.list.items fails.from) }
@@ -69,7 +71,7 @@ impl MemVolume {
         self.calls.as_slice()
     }
 
-    /// What a crash leaves, opened again: nothing is dirty, and no call fails.
+    /// What a crash leaves, opened again: nothing is dirty, and no call fails. It is one of the maps that a crash may leave.
     pub fn image(&self, alloc: Global, choice: Choice) -> Result<MemVolume, NoMemory>
         ensures image { IfOk result (λ image. image ≡ reopened choice self.now) }
         ensures possible { IfOk result (λ image. Images (state_of self.now) image.kept.held) }

@@ -83,7 +83,7 @@ impl Volume for MemVolume {
         ensures writes { Writes name.now bytes.now (state_of self.old) (state_of self.new) result }
         ensures moments { GoesOn (state_of self.old) (state_of self.new) (ImagesOf name.now (state_of self.old)) }
         ensures failed { IsErrOf result PutFault.Failed → Rose (state_of self.old) (state_of self.new) }
-        ensures full { IsErrOf result PutFault.Full → Unit {0} × IsSome self.old.capacity }
+        ensures full { IsErrOf result PutFault.Full → IsSome self.old.capacity }
         ensures leaves { self.new ≡ written Put name.now bytes.now self.old result }
         ensures fails_alone { IsErrOf result PutFault.Failed → IsTrue (fails_now self.old) }
         ensures fails { IsTrue (fails_now self.old) → IsErr result }
@@ -96,7 +96,7 @@ impl Volume for MemVolume {
         ensures writes { Writes name.now (bytes_or_none (get self.old.kept.held name.now) ++ bytes.now) (state_of self.old) (state_of self.new) result }
         ensures moments { GoesOn (state_of self.old) (state_of self.new) (ImagesOf name.now (state_of self.old)) }
         ensures failed { IsErrOf result PutFault.Failed → Rose (state_of self.old) (state_of self.new) }
-        ensures full { IsErrOf result PutFault.Full → Unit {0} × IsSome self.old.capacity }
+        ensures full { IsErrOf result PutFault.Full → IsSome self.old.capacity }
         ensures leaves { self.new ≡ written Append name.now bytes.now self.old result }
         ensures fails_alone { IsErrOf result PutFault.Failed → IsTrue (fails_now self.old) }
         ensures fails { IsTrue (fails_now self.old) → IsErr result }

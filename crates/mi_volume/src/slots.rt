@@ -155,10 +155,13 @@ impl Slots {
         }
     }
 
-    /// Gives the name these bytes, which it held at the last good sync too.
-    fn keep(&mut self, alloc: Global, name: &Name, bytes: Bytes) -> Result<(), NoMemory>
+    /// Gives the name these bytes, if any, which it held at the last good sync too.
+    fn keep(&mut self, alloc: Global, name: &Name, bytes: Option<Bytes>) -> Result<(), NoMemory>
         ensures { OnOk result (self.new ≡ with_clean self.old name.now bytes) }
     {
+        let Some(bytes) = bytes else {
+            return Ok(());
+        };
         self.before.insert(name.copy(alloc)?, Before::Clean)?;
         self.held.insert(name.copy(alloc)?, bytes)?;
         Ok(())
@@ -170,9 +173,8 @@ impl Slots {
     {
         let mut image = Slots::new(alloc);
         for (name, slot) in &self.before {
-            if let Some(bytes) = left(alloc, choice, self.held.get(name), slot)? {
-                image.keep(alloc, name, bytes)?;
-            }
+            let left = left(alloc, choice, self.held.get(name), slot)?;
+            image.keep(alloc, name, left)?;
         }
         Ok(image)
     }

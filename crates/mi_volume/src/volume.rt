@@ -11,7 +11,7 @@ use mi_text::{Bytes, Name, NoMemory};
 use std::alloc::Global;
 use thiserror::Error;
 
-/// The volume has failed.
+/// The volume has failed, and counts it (this project's own, as all of the volume).
 #[derive(Clone, Copy, Debug, PartialEq, Eq)]
 pub struct Failed;
 
@@ -62,9 +62,11 @@ impl From<NoMemory> for PutFault {
     }
 }
 
-/// The longest piece that is read or written at once.
+/// The longest piece that is read or written at once, in bytes.
 pub const PIECE: usize = 65_536;
 
+/// A map from names to bytes, kept on a device that may fail at any call and crash at any moment (this project's own).
+/// Names are in byte order. A call that fails has changed at most its own name.
 pub trait Volume {
     /// Whether the volumes of this type tell what they hold. What is held is claimed only then.
     ghost told: { Type 0 };

@@ -1,4 +1,4 @@
-use Rattle.std.proofs.Common.{◌≡◌, List, Option, Some, None, sym, ap, subst, ◌∙◌}
+use Rattle.std.proofs.Common.{Option, Some, sym, subst}
 use Rattle.std.specs.Prelude.{unwrap_or}
 use Rattle.mi_text.specs.Maps.{Name}
 use Rattle.mi_volume.specs.Slots.{Sets, at_name}

@@ -1,4 +1,4 @@
-use Rattle.std.proofs.Common.{◌≡◌, List, ℕ, Some, Option, ap, subst}
+use Rattle.std.proofs.Common.{List, ℕ, Some, Option, ap, subst}
 use Rattle.mi_volume.specs.Slots.{Sets}
 use Rattle.mi_volume.proofs.SlotLemmas.{sets_through}
 use Rattle.mi_volume.proofs.held.mark_held.Goals as goal

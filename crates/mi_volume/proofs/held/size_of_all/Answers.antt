@@ -1,4 +1,4 @@
-use Rattle.std.proofs.Common.{◌≡◌, ◌+◌, ◌-◌, ◌^◌, min, length, List, ℕ, sym, ap, subst, ◌∙◌}
+use Rattle.std.proofs.Common.{◌+◌, ◌-◌, ◌^◌, min, length, List, ℕ, sym, ap, subst, ◌∙◌}
 use Rattle.mi_text.specs.Maps.{Name}
 use Rattle.mi_volume.proofs.SizeLemmas.{Summing, sum_starts, sum_goes_on, sum_ends}
 use Rattle.mi_volume.proofs.OrderLemmas.{size-map_of}

@@ -1,4 +1,4 @@
-use Rattle.std.proofs.Common.{◌≡◌, ◌≤◌, ℕ, Some, ap, subst, sym, ◌∙◌}
+use Rattle.std.proofs.Common.{◌≡◌, ◌≤◌, ℕ, Some, subst, sym}
 use Rattle.std.specs.FinMap.{get, insert}
 use Rattle.mi_volume.specs.Maps.{size}
 use Rattle.mi_volume.specs.Memory.{Memory, with_piece}

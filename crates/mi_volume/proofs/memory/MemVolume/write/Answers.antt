@@ -1,4 +1,4 @@
-use Rattle.std.proofs.Common.{◌≡◌, ◌≤◌, ℕ, length, refl, ap, subst, sym, ◌∙◌, arith}
+use Rattle.std.proofs.Common.{◌≤◌, length, refl, ap, subst, sym, ◌∙◌, arith}
 use Rattle.std.specs.FinMap.{get, insert}
 use Rattle.mi_volume.specs.Maps.{size, Exceeds}
 use Rattle.mi_volume.specs.Memory.{Memory, with_piece}

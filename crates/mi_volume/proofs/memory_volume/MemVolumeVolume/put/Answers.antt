@@ -12,4 +12,4 @@ pub returns-clause-failed : goal.returns-clause-failed
 returns-clause-failed c = write_rose c.write.result c.args.self.now c.write.new.self Put c.args.name.now c.args.bytes.now c.write.ensures.leaves
 
 pub returns-clause-full : goal.returns-clause-full
-returns-clause-full c = λ full. (tt, exceeds_some c.args.self.now.capacity _ (c.write.ensures.exceeds full))
+returns-clause-full c = λ full. exceeds_some c.args.self.now.capacity _ (c.write.ensures.exceeds full)

@@ -1,11 +1,7 @@
-use Rattle.std.proofs.Common.{◌≡◌, ◌++◌, List, ℕ, Option, Some, None, ap, sym, refl, ◌∙◌}
-use Rattle.std.specs.Prelude.{option_map}
-use Rattle.std.specs.FinMap.{get}
+use Rattle.std.proofs.Common.{◌++◌, List, ℕ, Some, None, ap, sym, ◌∙◌}
 use Rattle.std.proofs.lemmas.Result.{on_ok_weaker, on_err_weaker}
-use Rattle.mi_text.specs.Maps.{Name}
 use Rattle.mi_volume.specs.Maps.{bytes_or_none}
-use Rattle.mi_volume.specs.Kept.{Kept, changed}
-use Rattle.mi_volume.specs.Slots.{at_name}
+use Rattle.mi_volume.specs.Kept.{changed}
 use Rattle.mi_volume.specs.declared.before.Before.TheVariants.{Held}
 use Rattle.mi_volume.proofs.SlotLemmas.{held_at}
 use Rattle.mi_volume.proofs.KeptLemmas.{extended, extended_noted, unextended, always_err}

@@ -1,7 +1,7 @@
-use Rattle.std.proofs.Common.{◌≡◌, List, ℕ, Some, true, ap, subst, refl, sym, ◌∙◌}
+use Rattle.std.proofs.Common.{◌≡◌, List, ℕ, Some, ap, subst, ◌∙◌}
 use Rattle.mi_text.specs.Maps.{Name}
 use Rattle.mi_volume.specs.Kept.{Kept, changed}
-use Rattle.mi_volume.specs.Slots.{Sets, at_name, kept_of, was, HaveSlots}
+use Rattle.mi_volume.specs.Slots.{Sets, at_name, kept_of, was}
 use Rattle.mi_volume.proofs.SlotLemmas.{sets}
 use Rattle.mi_volume.proofs.KeptLemmas.{made_view, changed_view, saved_was, made_slots, always_err}
 use Rattle.mi_volume.proofs.slots.Slots.give.Goals as goal

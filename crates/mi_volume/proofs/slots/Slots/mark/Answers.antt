@@ -1,7 +1,6 @@
-use Rattle.std.proofs.Common.{◌≡◌, ◌∷◌, [], Some, ap, sym, refl, ◌∙◌}
+use Rattle.std.proofs.Common.{◌∷◌, [], Some, ap, sym, refl, ◌∙◌}
 use Rattle.std.specs.FinMap.{get}
 use Rattle.mi_volume.specs.Kept.{Kept, changed}
-use Rattle.mi_volume.specs.Slots.{at_name}
 use Rattle.mi_volume.specs.declared.before.Before.TheVariants.{OneByte}
 use Rattle.mi_volume.proofs.SlotLemmas.{get-map_of}
 use Rattle.mi_volume.proofs.KeptLemmas.{changed_held}

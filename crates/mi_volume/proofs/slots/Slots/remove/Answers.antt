@@ -1,8 +1,7 @@
-use Rattle.std.proofs.Common.{◌≡◌, List, ℕ, Some, None, ap, sym, refl, ◌∙◌}
-use Rattle.std.specs.FinMap.{get}
+use Rattle.std.proofs.Common.{List, ℕ, Some, None, ap, sym, refl, ◌∙◌}
 use Rattle.mi_text.specs.Maps.{Name}
 use Rattle.mi_volume.specs.Kept.{Kept, changed}
-use Rattle.mi_volume.specs.Slots.{at_name, kept_of}
+use Rattle.mi_volume.specs.Slots.{kept_of}
 use Rattle.mi_volume.specs.declared.before.Before.TheVariants.{Held}
 use Rattle.mi_volume.proofs.SlotLemmas.{sets, held_at}
 use Rattle.mi_volume.proofs.KeptLemmas.{changed_held, if_held, if_absent}

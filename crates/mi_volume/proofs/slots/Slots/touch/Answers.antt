@@ -1,6 +1,3 @@
-use Rattle.std.proofs.Common.{◌≡◌, List, ℕ, Option, Some, None, ap, sym, refl, ◌∙◌}
-use Rattle.mi_text.specs.Maps.{Name}
-use Rattle.mi_volume.specs.Kept.{Kept}
 use Rattle.mi_volume.proofs.KeptLemmas.{touched, touched_slots, untouched}
 use Rattle.mi_volume.proofs.slots.Slots.touch.Goals as goal
 
