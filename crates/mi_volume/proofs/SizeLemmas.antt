@@ -7,8 +7,8 @@ use Rattle.std.specs.Cmp.Lexicographic.{slice_cmp, nat_list_cmp_total}
 use Rattle.std.specs.FinMap.{get, insert, remove, entries, entries_sorted, entries-insert, get-entries}
 use Rattle.std.specs.FinMap.Entries.{put, find, is_sorted, below_all, by_order}
 use Rattle.mi_text.specs.Maps.{same_name, set_to}
-use Rattle.mi_text.proofs.MapLemmas.{names_exact, from_same, same_itself, same, get-set_to}
-use Rattle.mi_volume.proofs.MapLemmas.{get-remove_same, get-remove_other, name_cases}
+use Rattle.mi_text.proofs.MapLemmas.{names_exact, same_itself, same, get-set_to}
+use Rattle.mi_volume.proofs.MapLemmas.{get-remove_same, get-remove_other, name_cases, same_name-other}
 use Rattle.mi_volume.specs.Maps.{Map, size, weight, slot_size}
 
 abbrev Pairs : Type 0
@@ -69,13 +69,10 @@ pub size-remove : (m : Map) (n : List ℕ) → size (remove m n) + slot_size n (
 size-remove m n = by_held (get m n) refl
   where
     put_back : (o : Option (List ℕ)) → get m n ≡ o → set_to (remove m n) n o ≡ m
-    put_back o at = same _ _ (λ q. ⊎_elim (λ is. back q o at is) (λ other. get-set_to (remove m n) n o q ∙ ap (λ b. cond b o (get (remove m n) q)) (apart q other) ∙ get-remove_other m n q other) (name_cases q n))
+    put_back o at = same _ _ (λ q. ⊎_elim (λ is. back q o at is) (λ other. get-set_to (remove m n) n o q ∙ ap (λ b. cond b o (get (remove m n) q)) (same_name-other q n other) ∙ get-remove_other m n q other) (name_cases q n))
       where
         back : (q : List ℕ) (o : Option (List ℕ)) → get m n ≡ o → q ≡ n → get (set_to (remove m n) n o) q ≡ get m q
         back q o at is = get-set_to (remove m n) n o q ∙ ap (λ (x : List ℕ). cond (same_name x n) o (get (remove m n) x)) is ∙ ap (λ b. cond b o (get (remove m n) n)) (same_itself n) ∙ sym at ∙ ap (get m) (sym is)
-
-        apart : (q : List ℕ) → q ≢ n → same_name q n ≡ false
-        apart q other = elim (same_name q n) as (λ b. same_name q n ≡ b → b ≡ false) [ true ↦ λ e. absurd (other (from_same q n e)) | false ↦ λ e. refl ] refl
 
     by_held : (o : Option (List ℕ)) → get m n ≡ o → size (remove m n) + slot_size n o ≡ size m
     by_held None at =
@@ -121,12 +118,9 @@ weight_at_most (e ∷ es) k sorted each =
 
     kept : (q : List ℕ) → q ≢ e.0 → slot_size q (find order q es) ≤ slot_size q (get (remove k e.0) q)
     kept q other =
-        let was : slot_size q (find order q (e ∷ es)) ≡ slot_size q (find order q es) = ap (λ b. slot_size q (cond b (Some e.1) (find order q es))) (apart q other) in
+        let was : slot_size q (find order q (e ∷ es)) ≡ slot_size q (find order q es) = ap (λ b. slot_size q (cond b (Some e.1) (find order q es))) (same_name-other q e.0 other) in
         let still : slot_size q (get (remove k e.0) q) ≡ slot_size q (get k q) = ap (slot_size q) (get-remove_other k e.0 q other) in
         omega (arith, each q, was, still)
-      where
-        apart : (q : List ℕ) → q ≢ e.0 → same_name q e.0 ≡ false
-        apart q other = elim (same_name q e.0) as (λ b. same_name q e.0 ≡ b → b ≡ false) [ true ↦ λ e. absurd (other (from_same q _ e)) | false ↦ λ e. refl ] refl
 
 -- where each name counts no more, the size is no more
 pub size-at_most : (m k : Map) → ((q : List ℕ) → slot_size q (get m q) ≤ slot_size q (get k q)) → size m ≤ size k
