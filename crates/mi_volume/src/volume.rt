@@ -7,11 +7,11 @@ ghost use Rattle.mi_volume.specs.Maps.{Map, size, bytes_or_none, IsAbove, HoldsB
 ghost use Rattle.mi_volume.specs.State.{State, Images, ImagesOf, GoesOn, Stays, StaysDirty, Rose};
 ghost use Rattle.mi_volume.specs.Calls.{Writes, Removes, Marks, Syncs};
 
-use mi_text::{Bytes, Name};
+use mi_text::{Bytes, Name, NoMemory};
 use std::alloc::Global;
 use thiserror::Error;
 
-/// The volume has failed.
+/// The volume has failed, and counts it (this project's own, as all of the volume).
 #[derive(Clone, Copy, Debug, PartialEq, Eq)]
 pub struct Failed;
 
@@ -40,9 +40,33 @@ pub enum PutFault {
     Full,
 }
 
-/// The longest piece that is read or written at once.
+impl From<NoMemory> for VolFault {
+    ghost use Rattle.std.specs.Prelude.{◌≡◌};
+    ghost use Rattle.mi_volume.specs.declared.volume.VolFault.TheVariants.{NoMemory as no_memory};
+
+    ghost from_gives = { λ _ e. e ≡ no_memory };
+
+    fn from(_e: NoMemory) -> VolFault {
+        VolFault::NoMemory
+    }
+}
+
+impl From<NoMemory> for PutFault {
+    ghost use Rattle.std.specs.Prelude.{◌≡◌};
+    ghost use Rattle.mi_volume.specs.declared.volume.PutFault.TheVariants.{NoMemory as no_memory};
+
+    ghost from_gives = { λ _ e. e ≡ no_memory };
+
+    fn from(_e: NoMemory) -> PutFault {
+        PutFault::NoMemory
+    }
+}
+
+/// The longest piece that is read or written at once, in bytes.
 pub const PIECE: usize = 65_536;
 
+/// A map from names to bytes, kept on a device that may fail at any call and crash at any moment (this project's own).
+/// Names are in byte order. A call that fails has changed at most its own name.
 pub trait Volume {
     /// Whether the volumes of this type tell what they hold. What is held is claimed only then.
     ghost told: { Type 0 };

@@ -1,0 +1,80 @@
+//! What a crash makes of the dirty names.
+
+ghost use Rattle.std.specs.Prelude.{◌≡◌, None, Some, IfOk};
+ghost use Rattle.std.specs.Option.{option_copied, option_map};
+ghost use Rattle.mi_volume.specs.Kept.{chosen, first_half};
+ghost use Rattle.mi_volume.specs.Slots.{left_by};
+ghost use Rattle.mi_volume.specs.declared.choice.Choice.TheVariants.{Old};
+
+use crate::before::Before;
+use mi_text::{Bytes, NoMemory};
+use std::alloc::Global;
+
+/// What a crash leaves at every dirty name (this project's own).
+#[derive(Clone, Copy, Debug, PartialEq, Eq)]
+pub enum Choice {
+    /// What it held at the last good sync.
+    Old,
+    /// What it holds.
+    New,
+    /// The first half of what it holds.
+    Torn,
+    /// Nothing: the name is absent.
+    Gone,
+}
+
+/// The first half of the bytes, rounded down.
+pub fn first_half(bytes: &[u8]) -> &[u8]
+    ensures { result.now ≡ first_half bytes.now }
+{
+    &bytes[..bytes.len() / 2]
+}
+
+/// What a crash leaves at a name that holds this, by its slot.
+pub fn left(
+    alloc: Global,
+    choice: Choice,
+    now: Option<&Bytes>,
+    slot: &Before,
+) -> Result<Option<Bytes>, NoMemory>
+    ensures { IfOk result (λ left. left ≡ left_by choice (option_copied now.entry) slot.now) }
+{
+    if let Before::Clean = slot {
+        return copied(alloc, now);
+    }
+    match choice {
+        Choice::Old => held_before(alloc, now, slot),
+        Choice::New => copied(alloc, now),
+        Choice::Torn => torn(alloc, now),
+        Choice::Gone => Ok(None),
+    }
+}
+
+fn held_before(alloc: Global, now: Option<&Bytes>, slot: &Before) -> Result<Option<Bytes>, NoMemory>
+    ensures { IfOk result (λ left. left ≡ left_by Old (option_copied now.entry) slot.now) }
+{
+    match slot {
+        Before::Clean | Before::Same => copied(alloc, now),
+        Before::Absent => Ok(None),
+        Before::OneByte(byte) => Ok(Some(Bytes::copy_of(alloc, &[*byte])?)),
+        Before::Held(bytes) => copied(alloc, Some(bytes)),
+    }
+}
+
+fn copied(alloc: Global, now: Option<&Bytes>) -> Result<Option<Bytes>, NoMemory>
+    ensures { IfOk result (λ left. left ≡ option_copied now.entry) }
+{
+    match now {
+        None => Ok(None),
+        Some(bytes) => Ok(Some(Bytes::copy_of(alloc, bytes.as_slice())?)),
+    }
+}
+
+fn torn(alloc: Global, now: Option<&Bytes>) -> Result<Option<Bytes>, NoMemory>
+    ensures { IfOk result (λ left. left ≡ option_map first_half (option_copied now.entry)) }
+{
+    match now {
+        None => Ok(None),
+        Some(bytes) => Ok(Some(Bytes::copy_of(alloc, first_half(bytes.as_slice()))?)),
+    }
+}
