@@ -1,0 +1,3 @@
+pub mod LetterTests
+pub mod Letters
+pub mod Rules
