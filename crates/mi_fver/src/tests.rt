@@ -98,33 +98,51 @@ fn each_row_of_the_table_under_each_letter(rt: HostRuntime) -> Result<(), Fail> 
     Ok(())
 }
 
+fn replaces_of_one_version(alloc: Global, old: &[u16], new: &[u16]) -> Result<bool, Fail> {
+    let before = old_file(alloc, "1.0", old, 11)?;
+    let after = new_file(alloc, "1.0", new)?;
+    Ok(says("o", Some(&before), &after, false))
+}
+
 #[test]
 fn equal_versions_are_told_apart_by_languages(rt: HostRuntime) -> Result<(), Fail> {
-    let one: &[u16] = &[1033];
-    for (old, new, yes) in [
-        (one, one, false),
-        (&[1031, 1033], &[1033], false),
-        (&[1033], &[1031, 1033], true),
-        (&[1031], &[1033], true),
-        (&[1031], &[1036], false),
-        (&[1033], &[1031], false),
-        (&[1031, 1033], &[1033, 1036], false),
-        (&[1031, 1041], &[1041, 1033, 1031], true),
-        (&[], &[], false),
-        (&[], &[1036], true),
-        (&[1036], &[], false),
-    ] {
-        let before = old_file(rt.alloc(), "1.0", old, 11)?;
-        let after = new_file(rt.alloc(), "1.0", new)?;
-        assert!(rt;
-            says("o", Some(&before), &after, false) == yes,
-            "{old:?} {new:?}"
-        );
-        assert!(rt;
-            says("e", Some(&before), &after, false) && !says("d", Some(&before), &after, false),
-            "{old:?} {new:?}"
-        );
-    }
+    let alloc = rt.alloc();
+    assert!(rt;
+        !replaces_of_one_version(alloc, &[1031, 1033], &[1033])?,
+        "the old one has all"
+    );
+    assert!(rt;
+        !replaces_of_one_version(alloc, &[1033], &[1033])?,
+        "both have all"
+    );
+    assert!(rt;
+        !replaces_of_one_version(alloc, &[1036], &[])?,
+        "all of none"
+    );
+    assert!(rt;
+        replaces_of_one_version(alloc, &[1033], &[1031, 1033])?,
+        "the new one has all"
+    );
+    assert!(rt;
+        replaces_of_one_version(alloc, &[1031, 1041], &[1041, 1033, 1031])?,
+        "the new one has all, in no order"
+    );
+    assert!(rt;
+        replaces_of_one_version(alloc, &[1031], &[1033])?,
+        "the new one has the product's"
+    );
+    assert!(rt;
+        !replaces_of_one_version(alloc, &[1033], &[1031])?,
+        "the old one has the product's"
+    );
+    assert!(rt;
+        !replaces_of_one_version(alloc, &[1031], &[1036])?,
+        "neither has the product's"
+    );
+    assert!(rt;
+        !replaces_of_one_version(alloc, &[1031, 1033], &[1033, 1036])?,
+        "both have the product's"
+    );
     Ok(())
 }
 
