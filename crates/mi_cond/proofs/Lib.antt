@@ -14,3 +14,4 @@ pub mod Bounds
 pub mod Comparing
 pub mod Rows
 pub mod Digits
+pub mod Laws
