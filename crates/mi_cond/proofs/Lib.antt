@@ -1,0 +1,17 @@
+pub mod Basics
+pub mod Trees
+pub mod Depths
+pub mod Runs
+pub mod Complete
+pub mod Sound
+pub mod Lexer
+pub mod ByteSteps
+pub mod ByteEnds
+pub mod Lexis
+pub mod LexLaws
+pub mod Texts
+pub mod Bounds
+pub mod Comparing
+pub mod Rows
+pub mod Digits
+pub mod Laws

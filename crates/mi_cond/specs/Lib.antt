@@ -1,0 +1,16 @@
+pub mod Tree
+pub mod Integer
+pub mod Lex
+pub mod Grammar
+pub mod Place
+pub mod Value
+pub mod View
+pub mod Code
+pub mod Steps
+pub mod Moves
+pub mod Outcome
+pub mod Begun
+pub mod Brackets
+pub mod States
+pub mod Scans
+pub mod Texts

@@ -1,0 +1,165 @@
+//! The rows of an open bracket.
+
+ghost use Rattle.std.specs.Prelude.{◌≡◌, IfOk};
+ghost use Rattle.mi_cond.specs.declared.node.Operator.TheVariants as op;
+ghost use Rattle.mi_cond.specs.Lex.{all_ops};
+ghost use Rattle.mi_cond.specs.Tree.{joined};
+ghost use Rattle.mi_cond.specs.Steps.{negated as negated_tree, fresh, whole, climbed, level_of};
+ghost use Rattle.mi_cond.specs.View.{tree_of, row_of};
+ghost use Rattle.mi_cond.specs.Brackets.{frame_of};
+
+use crate::node::{Node, Operator};
+use mi_text::NoMemory;
+use std::alloc::Global;
+
+/// An open bracket, or the whole text: the NOT before the next factor, and for each operator the operands
+/// of its row so far.
+#[derive(Debug, Drop)]
+pub struct Bracket {
+    pub nots: u32,
+    pub ands: Vec<Node>,
+    pub ors: Vec<Node>,
+    pub xors: Vec<Node>,
+    pub eqvs: Vec<Node>,
+    pub imps: Vec<Node>,
+}
+
+// Ends a row with its last operand.
+fn row_with(operator: Operator, mut row: Vec<Node>, last: Node) -> Result<Node, NoMemory>
+    ensures { IfOk result (λ n. tree_of n ≡ joined operator (row_of operator row.items) (tree_of last)) }
+{
+    if row.is_empty() {
+        return Ok(last);
+    }
+    row.push(last)?;
+    Ok(Node::Row(operator, row))
+}
+
+// The row of AND ends, and then that of OR.
+fn to_or(ands: Vec<Node>, ors: Vec<Node>, last: Node) -> Result<Node, NoMemory>
+    ensures { IfOk result (λ n. tree_of n ≡ joined op.Or (row_of op.Or ors.items) (joined op.And (row_of op.And ands.items) (tree_of last))) }
+{
+    let last = row_with(Operator::And, ands, last)?;
+    row_with(Operator::Or, ors, last)
+}
+
+// The rows up to that of XOR end.
+fn to_xor(ands: Vec<Node>, ors: Vec<Node>, xors: Vec<Node>, last: Node) -> Result<Node, NoMemory>
+    ensures { IfOk result (λ n. tree_of n ≡ joined op.Xor (row_of op.Xor xors.items) (joined op.Or (row_of op.Or ors.items) (joined op.And (row_of op.And ands.items) (tree_of last)))) }
+{
+    let last = to_or(ands, ors, last)?;
+    row_with(Operator::Xor, xors, last)
+}
+
+// The rows up to that of EQV end.
+fn to_eqv(
+    ands: Vec<Node>,
+    ors: Vec<Node>,
+    xors: Vec<Node>,
+    eqvs: Vec<Node>,
+    last: Node,
+) -> Result<Node, NoMemory>
+    ensures { IfOk result (λ n. tree_of n ≡ joined op.Eqv (row_of op.Eqv eqvs.items) (joined op.Xor (row_of op.Xor xors.items) (joined op.Or (row_of op.Or ors.items) (joined op.And (row_of op.And ands.items) (tree_of last))))) }
+{
+    let last = to_xor(ands, ors, xors, last)?;
+    row_with(Operator::Eqv, eqvs, last)
+}
+
+/// A factor behind its NOT.
+pub fn negated(alloc: Global, nots: u32, node: Node) -> Result<Node, NoMemory>
+    ensures { IfOk result (λ n. tree_of n ≡ negated_tree nots (tree_of node)) }
+{
+    let mut factor = node;
+    for _ in 0..nots {
+        factor = Node::Not(Box::new(alloc, factor)?);
+    }
+    Ok(factor)
+}
+
+impl Bracket {
+    pub fn new(alloc: Global) -> Bracket
+        ensures { frame_of result ≡ fresh }
+    {
+        Bracket::of(
+            Vec::new(alloc),
+            Vec::new(alloc),
+            Vec::new(alloc),
+            Vec::new(alloc),
+            Vec::new(alloc),
+        )
+    }
+
+    // No NOT waits, and these are the rows.
+    const fn of(
+        ands: Vec<Node>,
+        ors: Vec<Node>,
+        xors: Vec<Node>,
+        eqvs: Vec<Node>,
+        imps: Vec<Node>,
+    ) -> Bracket
+        ensures { result ≡ record { nots = 0; ands = ands; ors = ors; xors = xors; eqvs = eqvs; imps = imps } }
+    {
+        Bracket {
+            nots: 0,
+            ands,
+            ors,
+            xors,
+            eqvs,
+            imps,
+        }
+    }
+
+    /// An operator behind an operand: the tighter rows end, and its own goes on.
+    #[tactic(auto, using(crate::proofs::Trees::rows))]
+    pub fn joined(self, alloc: Global, operator: Operator, last: Node) -> Result<Bracket, NoMemory>
+        ensures { IfOk result (λ b. frame_of b ≡ record { nots = 0; rows = climbed (level_of operator) all_ops (frame_of self).rows (tree_of last) }) }
+    {
+        let mut ands = self.ands;
+        let mut ors = self.ors;
+        let mut xors = self.xors;
+        let mut eqvs = self.eqvs;
+        let mut imps = self.imps;
+        match operator {
+            Operator::And => {
+                ands.push(last)?;
+                Ok(Bracket::of(ands, ors, xors, eqvs, imps))
+            }
+            Operator::Or => {
+                ors.push(row_with(Operator::And, ands, last)?)?;
+                Ok(Bracket::of(Vec::new(alloc), ors, xors, eqvs, imps))
+            }
+            Operator::Xor => {
+                xors.push(to_or(ands, ors, last)?)?;
+                Ok(Bracket::of(Vec::new(alloc), Vec::new(alloc), xors, eqvs, imps))
+            }
+            Operator::Eqv => {
+                eqvs.push(to_xor(ands, ors, xors, last)?)?;
+                Ok(Bracket::of(
+                    Vec::new(alloc),
+                    Vec::new(alloc),
+                    Vec::new(alloc),
+                    eqvs,
+                    imps,
+                ))
+            }
+            Operator::Imp => {
+                imps.push(to_eqv(ands, ors, xors, eqvs, last)?)?;
+                Ok(Bracket::of(
+                    Vec::new(alloc),
+                    Vec::new(alloc),
+                    Vec::new(alloc),
+                    Vec::new(alloc),
+                    imps,
+                ))
+            }
+        }
+    }
+
+    /// All rows end.
+    pub fn whole(self, last: Node) -> Result<Node, NoMemory>
+        ensures { IfOk result (λ n. tree_of n ≡ whole all_ops (frame_of self).rows (tree_of last)) }
+    {
+        let last = to_eqv(self.ands, self.ors, self.xors, self.eqvs, last)?;
+        row_with(Operator::Imp, self.imps, last)
+    }
+}
