@@ -1,0 +1,10 @@
+use Rattle.std.proofs.Common.{subst, sym}
+use Rattle.std.specs.Str.{IsUtf8}
+use Rattle.mi_idt.proofs.Utf8.{IsUtf8-unescaped}
+use Rattle.mi_idt.proofs.escape.text_of.Goals as goal
+
+pub unreachable-requires : goal.unreachable-requires
+unreachable-requires c =
+    let valid : IsUtf8 c.in_ok-bytes.bytes.items = subst IsUtf8 (sym c.in_ok-bytes.ensures) (IsUtf8-unescaped c.args.field.now c.requires) in
+    let e = c.in-Err.ensures.succeeds valid in
+    absurd cc

@@ -1,0 +1,42 @@
+-- What a table in memory means.
+use Rattle.std.specs.Prelude.{◌≡◌, ℕ, List, [], map, Option, Some, None}
+use Rattle.std.specs.List.{slice_index_or}
+use Rattle.mi_idt.specs.declared.table.Column.{Column}
+use Rattle.mi_idt.specs.declared.table.Row.{Row}
+use Rattle.mi_idt.specs.declared.table.Table.{Table}
+use Rattle.mi_idt.specs.Cells.{Cell, Nothing, Text, Number, ColumnValue, TableValue}
+use Rattle.mi_idt.specs.Raw.{RawTable, raw_of, value_of}
+use Rattle.mi_idt.specs.Spells.{Spells, SpellsInteger}
+
+abbrev pub column_value : Column → ColumnValue
+column_value c = record { name = c.name.now; letter = c.letter; width = c.width }
+
+abbrev pub raw_row : Row → List (List ℕ)
+raw_row r = map (λ b. b.now) r.fields.items
+
+abbrev pub raw : Table → RawTable
+raw t = record { name = t.name.now; page = t.page; columns = map column_value t.columns.items; keys = t.keys.items; rows = map raw_row t.rows.items }
+
+-- the value of a table in memory
+unfoldable pub meaning : Table → TableValue
+meaning t = value_of (raw t)
+
+-- the bytes spell what the table means, and its fields stand in them so
+pub record IsSpelledBy (bytes : List ℕ) (t : Table) : Type 0 where
+  pub spells : Spells bytes (meaning t)
+  pub stands : raw t ≡ raw_of bytes
+
+-- some bytes spell it
+abbrev pub IsSpelled : Table → Type 0
+IsSpelled t = (bytes : List ℕ) × IsSpelledBy bytes t
+
+-- the cell of a row and a column, from 0
+abbrev pub cell_at : TableValue → ℕ → ℕ → Cell
+cell_at t row column = slice_index_or (slice_index_or t.rows row []) column Nothing
+
+-- what is shown of a cell: nothing of a null, a text, or a text that spells the integer
+abbrev pub Shows : Option (List ℕ) → Cell → Type 0
+Shows None Nothing = Unit {0}
+Shows (Some text) (Text bytes) = text ≡ bytes
+Shows (Some text) (Number z) = SpellsInteger 2147483647 text z
+Shows shown cell = ⊥

@@ -1,0 +1,71 @@
+//! The keys of rows, which are compared in their written form.
+
+ghost use Rattle.std.specs.Prelude.{◌≡◌, ◌<◌, ◌^◌, ◌++◌, [], IfOk, OnOk, length, map};
+ghost use Rattle.std.specs.List.{slice_index_or};
+ghost use Rattle.mi_idt.specs.Cells.{Nothing, key_of};
+ghost use Rattle.mi_idt.specs.Means.{column_value};
+ghost use Rattle.mi_idt.specs.RowKey.{row_key};
+ghost use Rattle.mi_idt.specs.Rows.{cells_of};
+ghost use Rattle.mi_idt.specs.Texts.{repeat_of};
+ghost use Rattle.mi_idt.specs.Written.{written_cell, written_row};
+
+use crate::escape::push_field;
+use crate::line::push_tab;
+use crate::table::{Column, Row};
+use mi_text::{Bytes, NoMemory};
+use std::alloc::Global;
+use std::collections::BTreeSet;
+
+fn push_cell(
+    alloc: Global,
+    out: &mut Vec<u8>,
+    columns: &[Column<'_>],
+    fields: &[&[u8]],
+    place: usize,
+) -> Result<(), NoMemory>
+    ensures { OnOk result (out.new.items ≡ out.old.items ++ written_cell (slice_index_or (cells_of (map column_value columns.now) (map (λ b. b.now) fields.now)) place Nothing)) }
+{
+    if place >= columns.len() {
+        return Ok(());
+    }
+    if place >= fields.len() {
+        return Ok(());
+    }
+    push_field(alloc, out, &columns[place], fields[place])
+}
+
+fn key_text(
+    alloc: Global,
+    columns: &[Column<'_>],
+    keys: &[u32],
+    fields: &[&[u8]],
+) -> Result<Bytes, NoMemory>
+    ensures { IfOk result (λ text. text ≡ written_row (key_of keys.now (cells_of (map column_value columns.now) (map (λ b. b.now) fields.now)))) }
+{
+    let mut out = Vec::new(alloc);
+    for (i, key) in keys.iter().enumerate() {
+        push_tab(&mut out, i)?;
+        push_cell(alloc, &mut out, columns, fields, *key as usize)?;
+    }
+    Ok(Bytes::from_vec(out))
+}
+
+/// The first row, from 1, that has an earlier row's key.
+pub fn first_repeat(
+    alloc: Global,
+    columns: &[Column<'_>],
+    keys: &[u32],
+    rows: &[Row<'_>],
+) -> Result<Option<u32>, NoMemory>
+    requires few { length rows.now < 2 ^ 31 }
+    ensures { IfOk result (λ row. row ≡ repeat_of [] 1 (map (row_key columns.now keys.now) rows.now)) }
+{
+    let mut seen = BTreeSet::new(alloc);
+    for (i, row) in rows.iter().enumerate() {
+        let key = key_text(alloc, columns, keys, &row.fields)?;
+        if !seen.insert(key)? {
+            return Ok(Some(i as u32 + 1));
+        }
+    }
+    Ok(None)
+}

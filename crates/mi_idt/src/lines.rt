@@ -1,0 +1,80 @@
+//! Lines and their fields.
+
+ghost use Rattle.std.specs.Prelude.{◌≡◌, ◌==◌, IfOk, length, map, count_by};
+ghost use Rattle.std.specs.List.{slice_split};
+ghost use Rattle.std.specs.Str.{is_utf8};
+ghost use Rattle.std.specs.Str.Lines.{lines, strip_carriage_return};
+ghost use Rattle.mi_idt.specs.Fields.{fields_of, is_ascii};
+
+use std::alloc::{AllocError, Global};
+use std::str;
+
+/// The parts between the bytes that equal `mark`.
+pub fn parts(alloc: Global, bytes: &[u8], mark: u8) -> Result<Vec<&[u8]>, AllocError>
+    ensures { IfOk result (λ v. map (λ b. b.now) v.items ≡ slice_split (λ b. b == mark) bytes.now) }
+{
+    bytes.split(|byte| *byte == mark).collect(alloc)
+}
+
+/// The fields of a line that is text.
+pub fn text_fields(alloc: Global, line: &str) -> Result<Vec<&str>, AllocError>
+    ensures { IfOk result (λ v. map (λ b. b.now) v.items ≡ fields_of line.now) }
+{
+    line.split('\t').collect(alloc)
+}
+
+/// How many bytes equal `mark`.
+pub fn count(bytes: &[u8], mark: u8) -> usize
+    ensures { result ≡ count_by (λ b. b == mark) bytes.now }
+{
+    bytes.iter().filter(|byte| **byte == mark).count()
+}
+
+/// How many fields a line has.
+pub fn count_fields(line: &[u8]) -> usize
+    ensures { result ≡ length (fields_of line.now) }
+{
+    count(line, b'\t') + 1
+}
+
+/// Whether the bytes are UTF-8.
+pub fn is_utf8(bytes: &[u8]) -> bool
+    ensures { result ≡ is_utf8 bytes.now }
+{
+    str::from_utf8(bytes).is_ok()
+}
+
+/// Whether all bytes are below 128.
+pub fn all_ascii(line: &[u8]) -> bool
+    ensures { result ≡ is_ascii line.now }
+{
+    line.iter().all(|byte| *byte < 128)
+}
+
+fn without_return(line: &[u8]) -> &[u8]
+    ensures { result.now ≡ strip_carriage_return line.now }
+{
+    match line {
+        [front @ .., b'\r'] => front,
+        _ => line,
+    }
+}
+
+/// The lines: LF ends a line, a CR just before it is dropped, and the last end may be missing.
+pub fn lines_of(alloc: Global, bytes: &[u8]) -> Result<Vec<&[u8]>, AllocError>
+    ensures { IfOk result (λ v. map (λ b. b.now) v.items ≡ lines bytes.now) }
+{
+    let parts = parts(alloc, bytes, b'\n')?;
+    let mut lines = Vec::new(alloc);
+    let [ended @ .., last] = parts.as_slice() else {
+        return Ok(lines);
+    };
+    for part in ended {
+        lines.push(without_return(part))?;
+    }
+    if last.is_empty() {
+        return Ok(lines);
+    }
+    lines.push(last)?;
+    Ok(lines)
+}

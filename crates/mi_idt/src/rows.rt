@@ -1,0 +1,97 @@
+//! The rows, from line 4 on.
+
+ghost use Rattle.std.specs.Prelude.{◌≡◌, ◌+◌, ◌<◌, ◌^◌, length, map};
+ghost use Rattle.mi_idt.specs.Fields.{fields_of};
+ghost use Rattle.mi_idt.specs.Means.{column_value, raw_row};
+ghost use Rattle.mi_idt.specs.Rows.{is_in_page, is_line, field_fault, fields_fault, line_fault, rows_fault};
+ghost use Rattle.mi_idt.specs.Steps.{ReadsPart, fault_of};
+
+use crate::lines::{all_ascii, count_fields, is_utf8, parts};
+use crate::number::integer_within;
+use crate::table::{Column, IdtError, Row};
+use mi_text::IdtFault;
+use std::alloc::Global;
+
+fn is_in_page(page: Option<u32>, line: &[u8]) -> bool
+    ensures { result ≡ is_in_page page line.now }
+{
+    match page {
+        Some(1252) => all_ascii(line),
+        _ => true,
+    }
+}
+
+fn is_line(page: Option<u32>, line: &[u8]) -> bool
+    ensures { result ≡ is_line page line.now }
+{
+    is_utf8(line) && is_in_page(page, line)
+}
+
+fn check_field(column: &Column<'_>, field: &[u8], row: u32, place: u32) -> Result<(), IdtFault>
+    ensures { fault_of result ≡ field_fault (column_value column.now) row place field.now }
+{
+    if field.is_empty() {
+        return if column.is_nullable() {
+            Ok(())
+        } else {
+            Err(IdtFault::Null(row, place))
+        };
+    }
+    if column.is_int() && integer_within(field, column.limit()).is_none() {
+        return Err(IdtFault::Integer(row, place));
+    }
+    Ok(())
+}
+
+fn check_fields(columns: &[Column<'_>], fields: &[&[u8]], row: u32) -> Result<(), IdtFault>
+    requires same { length columns.now ≡ length fields.now }
+    requires few { length columns.now < 2 ^ 31 }
+    ensures { fault_of result ≡ fields_fault row 1 (map column_value columns.now) (map (λ b. b.now) fields.now) }
+{
+    for (i, field) in fields.iter().enumerate() {
+        check_field(&columns[i], field, row, i as u32 + 1)?;
+    }
+    Ok(())
+}
+
+fn read_row<'a>(
+    alloc: Global,
+    page: Option<u32>,
+    columns: &[Column<'_>],
+    line: &'a [u8],
+    row: u32,
+) -> Result<Row<'a>, IdtError>
+    requires few { length columns.now < 2 ^ 31 }
+    requires fits { row + 3 < 2 ^ 32 }
+    ensures { ReadsPart result (line_fault page (map column_value columns.now) row line.now) (λ r. raw_row r ≡ fields_of line.now) }
+{
+    if !is_line(page, line) {
+        return Err(IdtError::Fault(IdtFault::NotUtf8(row + 3)));
+    }
+    if count_fields(line) != columns.len() {
+        return Err(IdtError::Fault(IdtFault::ColumnCount(row + 3)));
+    }
+    let fields = parts(alloc, line, b'\t')?;
+    match check_fields(columns, &fields, row) {
+        Ok(()) => Ok(Row { fields }),
+        Err(fault) => Err(IdtError::Fault(fault)),
+    }
+}
+
+/// Reads the rows.
+pub fn read_rows<'a>(
+    alloc: Global,
+    page: Option<u32>,
+    columns: &[Column<'_>],
+    lines: &[&'a [u8]],
+) -> Result<Vec<Row<'a>>, IdtError>
+    requires few { length columns.now < 2 ^ 31 }
+    requires fits { length lines.now + 4 < 2 ^ 32 }
+    ensures { ReadsPart result (rows_fault page (map column_value columns.now) 1 (map (λ b. b.now) lines.now)) (λ rs. map raw_row rs.items ≡ map fields_of (map (λ b. b.now) lines.now)) }
+{
+    let mut rows = Vec::new(alloc);
+    for (i, line) in lines.iter().enumerate() {
+        rows.push(read_row(alloc, page, columns, line, i as u32 + 1)?)?;
+    }
+    Ok(rows)
+}

@@ -1,0 +1,116 @@
+//! Tables as slices of the bytes that spell them.
+
+ghost use Rattle.std.specs.Prelude.{◌≡◌, ◌<◌, length, IfOk};
+ghost use Rattle.mi_idt.specs.declared.table.IdtError.TheVariants.{NoMemory as no_memory};
+
+use crate::escape::text_of;
+use mi_text::{IdtFault, NoMemory, Text};
+use std::alloc::{AllocError, AllocFailed, Global};
+
+/// A column: its name, and the letter and the width of its definition (Column Definition Format).
+/// The letter is one of `s`, `l`, `i`, `v`, in upper case where the column allows null.
+#[derive(Clone, Copy, Debug)]
+pub struct Column<'a> {
+    pub name: &'a str,
+    pub letter: u8,
+    pub width: u8,
+}
+
+/// The fields of a row, slices of the bytes that are still escaped.
+#[derive(Debug, Drop)]
+pub struct Row<'a> {
+    pub fields: Vec<&'a [u8]>,
+}
+
+/// A table; `page` is its code page, and `keys` are the places of the key columns, from 0.
+#[derive(Debug, Drop)]
+pub struct Table<'a> {
+    pub name: &'a str,
+    pub page: Option<u32>,
+    pub columns: Vec<Column<'a>>,
+    pub keys: Vec<u32>,
+    pub rows: Vec<Row<'a>>,
+}
+
+/// Why a text archive file isn't read.
+#[derive(Debug, Drop)]
+pub enum IdtError {
+    /// Memory ran out.
+    NoMemory,
+    /// The first fault of the bytes, which spell no table.
+    Fault(IdtFault),
+}
+
+impl From<NoMemory> for IdtError {
+    ghost from_gives = { λ _ e. e ≡ no_memory };
+
+    fn from(_e: NoMemory) -> IdtError {
+        IdtError::NoMemory
+    }
+}
+
+impl From<AllocError> for IdtError {
+    ghost from_gives = { λ _ e. e ≡ no_memory };
+
+    fn from(_e: AllocError) -> IdtError {
+        IdtError::NoMemory
+    }
+}
+
+impl<T: Drop> From<AllocFailed<T>> for IdtError {
+    ghost from_gives = { λ _ e. e ≡ no_memory };
+
+    fn from(_e: AllocFailed<T>) -> IdtError {
+        IdtError::NoMemory
+    }
+}
+
+impl Column<'_> {
+    ghost use Rattle.mi_idt.specs.Columns.{is_int, is_nullable, limit_of};
+
+    /// Whether its fields are integers.
+    pub fn is_int(&self) -> bool
+        ensures { result ≡ is_int self.now.letter }
+    {
+        matches!(self.letter, b'i' | b'I')
+    }
+
+    /// Whether it allows null.
+    pub fn is_nullable(&self) -> bool
+        ensures { result ≡ is_nullable self.now.letter }
+    {
+        self.letter < b'a'
+    }
+
+    /// The greatest size of its integers.
+    pub(crate) fn limit(&self) -> u32
+        ensures { result ≡ limit_of self.now.width }
+    {
+        if self.width == 2 {
+            32767
+        } else {
+            2_147_483_647
+        }
+    }
+}
+
+impl Table<'_> {
+    ghost use Rattle.mi_idt.specs.Means.{IsSpelled, Shows, meaning, cell_at};
+
+    /// The text of a field, unescaped, or nothing where it is null; rows and columns count from 0.
+    /// The text of an integer is as it stands in the bytes.
+    pub fn field(&self, alloc: Global, row: usize, column: usize) -> Result<Option<Text>, NoMemory>
+        requires spelled { IsSpelled self.now }
+        requires row_in_range { row < length self.now.rows.items }
+        requires column_in_range { column < length self.now.columns.items }
+        ensures { IfOk result (λ shown. Shows shown (cell_at (meaning self.now) row column)) }
+    {
+        let row = &self.rows[row];
+        let field = row.fields[column];
+        if field.is_empty() {
+            return Ok(None);
+        }
+        let text = text_of(alloc, field)?;
+        Ok(Some(text))
+    }
+}
