@@ -1,0 +1,19 @@
+//! The edges to the system: a folder as a volume, files as a source, standard output as a sink.
+//! That a real folder behaves as the model of a volume says is trusted; the calls are proved to keep the
+//! clauses of the traits on counts, on names and on lengths.
+#![tactic(auto)]
+
+mod disk;
+mod folder_source;
+mod folder_volume;
+mod listing;
+mod names;
+mod std_sink;
+mod syncing;
+
+pub use folder_source::FolderSource;
+pub use folder_volume::{EdgeFault, FolderVolume};
+pub use std_sink::StdSink;
+
+#[cfg(test)]
+mod tests;
