@@ -1,0 +1,96 @@
+//! Logs of the commands, by the texts that they have.
+
+use crate::{Outcome, report};
+use mi_base::{Cause, Fault, IdtFault, Kind, Name, Pause, Place, Settled, Text, Texts};
+use std::alloc::Global;
+use std::process::Abort;
+use std::test::Fail;
+
+fn text(alloc: Global, text: &str) -> Result<Text, Fail> {
+    Ok(Text::copy_of(alloc, text)?)
+}
+
+// The log of an answer without begun actions.
+fn assert_log(rt: &impl Abort, alloc: Global, kind: Kind, line: &str) -> Result<(), Fail> {
+    let outcome = Outcome {
+        kind,
+        settled: Settled::Clean,
+        walks: true,
+        begun: Texts::new(alloc),
+    };
+    let log = report(alloc, &outcome, 0)?;
+    assert_eq!(rt; log.as_slice(), line.as_bytes(), "{line}");
+    Ok(())
+}
+
+#[test]
+fn each_answer_has_its_line(rt: HostRuntime) -> Result<(), Fail> {
+    let alloc = rt.alloc();
+    let q = Name::of(alloc, "q/1")?;
+    let table = text(alloc, "Registry")?;
+    let not_yet = Kind::Refused(Cause::Table(Fault::NotYet(table, 1)));
+    let page = Fault::Idt(text(alloc, "Fi\nle")?, IdtFault::CodePage(1251));
+    let pause = Pause {
+        place: Place::InRollback,
+        why: Some(Cause::VolumeFault),
+        begun: 0,
+        again: 1,
+    };
+    assert_log(&rt, alloc, Kind::Done, "Result: Done\n")?;
+    assert_log(
+        &rt,
+        alloc,
+        Kind::Recovered(Settled::Undone(9)),
+        "Result: Undone 9\n",
+    )?;
+    assert_log(
+        &rt,
+        alloc,
+        Kind::Recovered(Settled::Clean),
+        "Result: Clean\n",
+    )?;
+    assert_log(
+        &rt,
+        alloc,
+        Kind::Refused(Cause::BadImage(q)),
+        "Result: Refused BadImage q/1\n",
+    )?;
+    assert_log(
+        &rt,
+        alloc,
+        not_yet,
+        "Result: Refused Table NotYet Registry 1\n",
+    )?;
+    assert_log(
+        &rt,
+        alloc,
+        Kind::Refused(Cause::Table(page)),
+        "Result: Refused Table Idt Fi?le CodePage 1251\n",
+    )?;
+    assert_log(
+        &rt,
+        alloc,
+        Kind::Suspended(pause),
+        "Result: Suspended InRollback\n",
+    )?;
+    assert_log(&rt, alloc, Kind::Listed, "")
+}
+
+#[test]
+fn a_walk_says_what_was_undone_and_which_actions_were_begun(rt: HostRuntime) -> Result<(), Fail> {
+    let alloc = rt.alloc();
+    let mut begun = Texts::new(alloc);
+    for name in ["LaunchConditions", "CostFinalize", "InstallFinalize"] {
+        begun.push(text(alloc, name)?)?;
+    }
+    let outcome = Outcome {
+        kind: Kind::Done,
+        settled: Settled::Undone(3),
+        walks: true,
+        begun,
+    };
+    let log = report(alloc, &outcome, 2)?;
+    let lines = b"Recovered: 3\nAction: LaunchConditions\nAction: CostFinalize\nResult: Done\n";
+    assert_eq!(rt; log.as_slice(), lines.as_slice());
+    Ok(())
+}
