@@ -1,0 +1,10 @@
+mod EntryLemmas
+mod FileLemmas
+mod LoadLemmas
+mod PlanLemmas
+mod RegistryLemmas
+mod ResultLemmas
+mod RowLemmas
+mod TopLemmas
+mod TreeLemmas
+mod WriteLemmas

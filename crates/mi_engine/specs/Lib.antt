@@ -1,0 +1,12 @@
+pub mod After
+pub mod Answers
+pub mod Built
+pub mod Calls
+pub mod Codes
+pub mod Files
+pub mod Collected
+pub mod Known
+pub mod Outcome
+pub mod Package
+pub mod Rows
+pub mod Words

@@ -1,0 +1,20 @@
+//! The engine: the top call over a source, a volume and a sink.
+#![tactic(auto)]
+
+mod answer;
+mod code;
+mod columns;
+mod ending;
+mod file;
+mod load;
+mod plan;
+mod registry;
+mod rows;
+mod stop;
+mod top;
+mod words;
+mod write;
+
+pub use answer::Answer;
+pub use code::answer_code;
+pub use top::run;

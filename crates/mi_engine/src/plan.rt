@@ -1,0 +1,127 @@
+//! Which names a run writes.
+
+ghost use Rattle.std.specs.Prelude.{◌≡◌, ◌∷◌, [], ◌++◌, ◌<◌, ◌≤◌, true, List, ℕ, take, filter, map, IfOk, IfErr, OnOk};
+ghost use Rattle.std.specs.FinMap.{get};
+ghost use Rattle.mi_base.specs.Limits.{is_key};
+ghost use Rattle.mi_volume.specs.State.{Passes};
+ghost use Rattle.mi_engine.specs.After.{is_new, key_entry, value_entry, path_of, planned};
+ghost use Rattle.mi_engine.specs.Built.{Row};
+ghost use Rattle.mi_engine.specs.Answers.{Unchanged};
+ghost use Rattle.mi_engine.specs.Calls.{map_of, Fails, IsVolumeStop, Adds};
+
+use crate::rows::RegistryRow;
+use crate::stop::Stop;
+use mi_base::{Bytes, Cause, EncError, Entry, Name, RegValue, Text, ValueKey, enc_entry, fold};
+use mi_volume::Volume;
+use std::alloc::Global;
+use std::collections::BTreeMap;
+
+/// The names that a run writes, with their records.
+pub type Plan = BTreeMap<Name, Bytes>;
+
+/// The root HKEY_LOCAL_MACHINE.
+const LOCAL_MACHINE: u8 = 2;
+
+/// The name and the record of a key.
+fn key_record(alloc: Global, key: &str) -> Result<(Name, Bytes), Stop>
+    requires { is_key key.now ≡ true }
+    ensures record { IfOk result (λ e. e ≡ key_entry key.now) }
+    ensures stopped { IfErr result (λ stop. stop ≡ Stop.NoMemory) }
+{
+    let shown = Text::copy_of(alloc, key)?;
+    match enc_entry(alloc, &Entry::Key(LOCAL_MACHINE, shown)) {
+        Ok(record) => Ok(record),
+        Err(EncError::NoMemory) => Err(Stop::NoMemory),
+        Err(EncError::Field) => unreachable!(),
+    }
+}
+
+/// The name and the record of the value that a row writes.
+fn value_record(alloc: Global, row: &RegistryRow) -> Result<(Name, Bytes), Stop>
+    ensures record { IfOk result (λ e. e ≡ value_entry row.now) }
+    ensures stopped { IfErr result (λ stop. stop ≡ Stop.NoMemory) }
+{
+    let key = fold(alloc, row.key())?;
+    let shown = Text::copy_of(alloc, row.name())?;
+    let text = Text::copy_of(alloc, row.value())?;
+    let place = ValueKey {
+        root: LOCAL_MACHINE,
+        key,
+        shown,
+    };
+    match enc_entry(alloc, &Entry::Value(place, RegValue::Text(text))) {
+        Ok(record) => Ok(record),
+        Err(EncError::NoMemory) => Err(Stop::NoMemory),
+        Err(EncError::Field) => unreachable!(),
+    }
+}
+
+/// Plans a key that is neither planned nor held.
+fn plan_key<V: Volume>(alloc: Global, vol: &mut V, plan: &mut Plan, key: &str) -> Result<(), Stop>
+    requires { is_key key.now ≡ true }
+    ensures adds { V.told → OnOk result (Adds (filter (is_new (V.state vol.old).held) (key_entry key.now ∷ [])) (map_of plan.old.entries) (map_of plan.new.entries)) }
+    ensures unchanged { V.told → Unchanged (V.state vol.old) (V.state vol.new) }
+    ensures passes { Passes (V.state vol.old) (V.state vol.new) }
+    ensures stopped { IfErr result (IsVolumeStop (Fails (V.state vol.old) (V.state vol.new))) }
+{
+    let (name, record) = key_record(alloc, key)?;
+    if plan.contains_key(&name) {
+        return Ok(());
+    }
+    match vol.size(&name) {
+        Ok(Some(_)) => Ok(()),
+        Ok(None) => {
+            plan.insert(name, record)?;
+            Ok(())
+        }
+        Err(_) => Err(Stop::Refuse(Cause::VolumeFault)),
+    }
+}
+
+/// Plans each key of a path that is neither planned nor held, parents first.
+fn plan_path<V: Volume>(alloc: Global, vol: &mut V, plan: &mut Plan, key: &str) -> Result<(), Stop>
+    requires { is_key key.now ≡ true }
+    ensures adds { V.told → OnOk result (Adds (filter (is_new (V.state vol.old).held) (map key_entry (path_of key.now))) (map_of plan.old.entries) (map_of plan.new.entries)) }
+    ensures unchanged { V.told → Unchanged (V.state vol.old) (V.state vol.new) }
+    ensures passes { Passes (V.state vol.old) (V.state vol.new) }
+    ensures stopped { IfErr result (IsVolumeStop (Fails (V.state vol.old) (V.state vol.new))) }
+{
+    for (place, byte) in key.as_bytes().iter().enumerate() {
+        if *byte == b'\\' {
+            plan_key(alloc, vol, plan, &key[..place])?;
+        }
+    }
+    plan_key(alloc, vol, plan, key)
+}
+
+/// Plans what a row writes.
+fn plan_row<V: Volume>(
+    alloc: Global,
+    vol: &mut V,
+    plan: &mut Plan,
+    row: &RegistryRow,
+) -> Result<(), Stop>
+    ensures plans { V.told → OnOk result ((rows : List Row) → map_of plan.old.entries ≡ planned rows (V.state vol.old).held → map_of plan.new.entries ≡ planned (rows ++ row.now ∷ []) (V.state vol.old).held) }
+    ensures unchanged { V.told → Unchanged (V.state vol.old) (V.state vol.new) }
+    ensures passes { Passes (V.state vol.old) (V.state vol.new) }
+    ensures stopped { IfErr result (IsVolumeStop (Fails (V.state vol.old) (V.state vol.new))) }
+{
+    plan_path(alloc, vol, plan, row.key())?;
+    let (name, record) = value_record(alloc, row)?;
+    plan.insert(name, record)?;
+    Ok(())
+}
+
+/// Plans what all rows write, in this order.
+pub fn plan_rows<V: Volume>(alloc: Global, vol: &mut V, rows: &[RegistryRow]) -> Result<Plan, Stop>
+    ensures plans { V.told → IfOk result (λ plan. map_of plan.entries ≡ planned rows.now (V.state vol.old).held) }
+    ensures unchanged { V.told → Unchanged (V.state vol.old) (V.state vol.new) }
+    ensures passes { Passes (V.state vol.old) (V.state vol.new) }
+    ensures stopped { IfErr result (IsVolumeStop (Fails (V.state vol.old) (V.state vol.new))) }
+{
+    let mut plan = BTreeMap::new(alloc);
+    for row in rows {
+        plan_row(alloc, vol, &mut plan, row)?;
+    }
+    Ok(plan)
+}

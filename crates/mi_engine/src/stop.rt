@@ -1,0 +1,53 @@
+//! Why a run stops before its end.
+
+ghost use Rattle.std.specs.Prelude.{◌≡◌};
+ghost use Rattle.mi_engine.specs.declared.stop.Stop.TheVariants.{NoMemory as no_memory};
+
+use mi_base::{Cause, NoMemory};
+use mi_source::SrcFault;
+use std::alloc::{AllocError, AllocFailed};
+
+/// Why a run stops.
+#[derive(Debug, Drop)]
+pub enum Stop {
+    NoMemory,
+    Refuse(Cause),
+}
+
+impl From<NoMemory> for Stop {
+    ghost from_gives = { λ _ e. e ≡ no_memory };
+
+    fn from(_e: NoMemory) -> Stop {
+        Stop::NoMemory
+    }
+}
+
+impl From<AllocError> for Stop {
+    ghost from_gives = { λ _ e. e ≡ no_memory };
+
+    fn from(_e: AllocError) -> Stop {
+        Stop::NoMemory
+    }
+}
+
+impl<T: Drop> From<AllocFailed<T>> for Stop {
+    ghost from_gives = { λ _ e. e ≡ no_memory };
+
+    fn from(_e: AllocFailed<T>) -> Stop {
+        Stop::NoMemory
+    }
+}
+
+impl From<SrcFault> for Stop {
+    ghost use Rattle.std.specs.Prelude.{◌≡◌};
+    ghost use Rattle.mi_engine.specs.Calls.{stop_of};
+
+    ghost from_gives = { λ fault e. e ≡ stop_of fault };
+
+    fn from(fault: SrcFault) -> Stop {
+        match fault {
+            SrcFault::NoMemory => Stop::NoMemory,
+            SrcFault::Failed => Stop::Refuse(Cause::SourceFault),
+        }
+    }
+}
