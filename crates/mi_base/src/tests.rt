@@ -70,7 +70,7 @@ fn names_and_records_of_each_kind_are_read_and_written_again(rt: HostRuntime) {
             }
             None => false,
         };
-        assert!(rt; same, "{name}");
+        assert!(rt; same);
     }
 }
 
@@ -205,6 +205,17 @@ fn length_in_front(alloc: Global, front: &[u8], record_len: u64) -> Option<u64>
     }
 }
 
+// The longest head is within a front of that many bytes.
+fn length_in_a_part(alloc: Global, front: &[u8], record_len: u64) -> Option<u64> {
+    if front.len() != 131_364 {
+        return None;
+    }
+    if record_len < 131_364 {
+        return None;
+    }
+    length_in_front(alloc, front, record_len)
+}
+
 #[test]
 fn a_head_is_read_from_a_front_of_its_record(rt: HostRuntime) {
     let whole = long_record(rt.alloc(), 5);
@@ -215,10 +226,11 @@ fn a_head_is_read_from_a_front_of_its_record(rt: HostRuntime) {
     assert!(rt; length == Some(5));
     let long = long_record(rt.alloc(), 200_000);
     let length = match &long {
-        Some(record) if record.len() >= 131_364 => {
-            length_in_front(rt.alloc(), &record[..131_364], record.len() as u64)
-        }
-        _ => None,
+        Some(record) => match record.get(..131_364) {
+            Some(front) => length_in_a_part(rt.alloc(), front, record.len() as u64),
+            None => None,
+        },
+        None => None,
     };
     assert!(rt; length == Some(200_000));
 }
