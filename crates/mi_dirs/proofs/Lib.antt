@@ -1,0 +1,10 @@
+mod ChainLemmas
+mod PathLemmas
+mod RowLemmas
+mod TargetLemmas
+mod SourceLemmas
+mod OwnLemmas
+mod DirLemmas
+mod FaultLemmas
+mod KeptLemmas
+mod ResolveLemmas

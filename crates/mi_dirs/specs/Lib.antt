@@ -1,0 +1,10 @@
+pub mod Chains
+pub mod Order
+pub mod Paths
+pub mod Places
+pub mod Rows
+pub mod Views
+pub mod Faults
+pub mod Answers
+pub mod Keeps
+pub mod Kept

@@ -1,0 +1,177 @@
+//! Directories as they stand.
+
+ghost use Rattle.std.specs.Prelude.{◌≡◌, ◌↔◌, None, Some, All, IfOk, OnOk, OnErr, IsSome, map};
+ghost use Rattle.std.specs.Option.{option_copied};
+ghost use Rattle.std.specs.Result.{result_ok};
+ghost use Rattle.mi_text.specs.Path.{folder_of};
+ghost use Rattle.mi_dirs.specs.Places.{row_of, target_of, source_of, with_own};
+ghost use Rattle.mi_dirs.specs.Rows.{given, parent_of, places_of};
+ghost use Rattle.mi_dirs.specs.Views.{bare, bare_dir, IsFolder, OwnFolders};
+ghost use Rattle.mi_dirs.specs.Faults.{dir_fault, path_fault, IsEndless};
+ghost use Rattle.mi_dirs.specs.Answers.{IfFault, IfCycle};
+
+use crate::dir::{Dir, Own};
+use crate::fault::{DirError, DirFault};
+use crate::index::{folders_by_key, rows_by_key};
+use crate::order::{order_of, row_number};
+use crate::own::{named_folder, own_of, parents_of};
+use crate::rows::DirRow;
+use crate::sources::sources_of;
+use crate::targets::{first_refused, targets_of};
+use mi_props::Props;
+use mi_text::{NoMemory, PathText, Text};
+use std::alloc::Global;
+use std::collections::BTreeMap;
+use std::marker::Model;
+
+/// The directories of a package: the target and the source of each row of its Directory table.
+#[derive(Drop)]
+pub struct Dirs {
+    rows: Vec<Dir>,
+    sources: Vec<Text>,
+    index: BTreeMap<String, usize>,
+    order: Vec<usize>,
+    targets: Vec<Option<PathText>>,
+}
+
+impl Model for Dirs {
+    ghost use Rattle.std.specs.Prelude.{List};
+    ghost use Rattle.mi_dirs.specs.Places.{Place, places_code};
+
+    ghost Value = { List Place };
+
+    ghost coded = { places_code };
+
+    ghost use Rattle.mi_dirs.specs.Kept.{places, IsKept};
+
+    ghost view = { places };
+
+    ghost invariant = { IsKept };
+}
+
+fn dir_of(alloc: Global, row: &DirRow, parent: Option<usize>, own: Own) -> Result<Dir, NoMemory>
+    ensures { IfOk result (λ d. d ≡ record { key = row.now.key; parent = parent; name = row.now.target; own = own }) }
+{
+    let key = Text::copy_of(alloc, row.key.as_str())?;
+    let name = Text::copy_of(alloc, row.target.as_str())?;
+    Ok(Dir {
+        key,
+        parent,
+        name,
+        own,
+    })
+}
+
+// What is kept of each row.
+fn dirs_of(
+    alloc: Global,
+    rows: &[DirRow],
+    parents: &[Option<usize>],
+    props: &Props,
+    remembered: &[(Text, PathText)],
+) -> Result<Vec<Dir>, NoMemory>
+    requires parents { parents.now ≡ map (parent_of rows.now) rows.now }
+    requires folders { All (λ r. IsFolder r.1) remembered.now }
+    ensures dirs { IfOk result (λ v. map bare_dir v.items ≡ map (bare rows.now props.now remembered.now) rows.now) }
+    ensures folders { IfOk result (λ v. OwnFolders v.items) }
+{
+    let index = folders_by_key(alloc, remembered)?;
+    let mut dirs = Vec::new(alloc);
+    for (number, row) in rows.iter().enumerate() {
+        let own = own_of(alloc, props, remembered, &index, row.key.as_str())?;
+        let dir = dir_of(alloc, row, parents[number], own)?;
+        dirs.push(dir)?;
+    }
+    Ok(dirs)
+}
+
+/// The directories of these rows, which stand in the order of the table (Directory Table).
+///
+/// The target of a directory is, in this order: its remembered folder; the folder that the property of its name gives,
+/// where that isn't empty; for a root row `C:\`; else the target of its parent, joined with its target name, where `.`
+/// is the parent's. A root row has no parent, or itself. The source of a root row is `folder`, the package's; another
+/// row's is its parent's, `/` and its source name, the short one where `short` says so, and `.` is the parent's.
+///
+/// The keys differ, each parent is a row's key, and remembered folders are folders. Refused with `Cycle` of the first
+/// row whose chain of parents doesn't end, else with `BadPath` of the first row whose target is refused.
+pub fn resolve(
+    alloc: Global,
+    rows: &[DirRow],
+    props: &Props,
+    remembered: &[(Text, PathText)],
+    folder: &str,
+    short: bool,
+) -> Result<Dirs, DirError>
+    requires { All (λ r. IsFolder r.1) remembered.now }
+    ensures places { IfOk result (λ d. d ≡ places_of (given rows.now props.now remembered.now folder.now short)) }
+    ensures accepted { OnOk result (dir_fault (places_of (given rows.now props.now remembered.now folder.now short)) ≡ None) }
+    ensures refused { IfFault result (λ fault. dir_fault (places_of (given rows.now props.now remembered.now folder.now short)) ≡ Some fault) }
+    ensures endless { IfFault result (λ fault. IfCycle fault (IsEndless (places_of (given rows.now props.now remembered.now folder.now short)))) }
+{
+    let index = rows_by_key(alloc, rows)?;
+    let parents = parents_of(alloc, rows, &index)?;
+    let order = order_of(alloc, &parents)?;
+    let sources = sources_of(alloc, rows, &parents, &order, folder, short)?;
+    let dirs = dirs_of(alloc, rows, &parents, props, remembered)?;
+    let targets = targets_of(alloc, &dirs, &order, dirs.len(), &Own::Inherited)?;
+    if let Some(row) = first_refused(&targets) {
+        return Err(DirError::Fault(DirFault::BadPath(row_number(row))));
+    }
+    Ok(Dirs {
+        rows: dirs,
+        sources,
+        index,
+        order,
+        targets,
+    })
+}
+
+impl Dirs {
+    /// The target of a directory, and None where no row has this key. No memory.
+    pub fn target(&self, dir: &str) -> Option<&PathText>
+        ensures target { option_copied result ≡ target_of self.now dir.now }
+        ensures known { IsSome result ↔ IsSome (row_of self.now dir.now) }
+    {
+        let Some(row) = self.index.get(dir) else {
+            return None;
+        };
+        match self.targets.get(*row) {
+            Some(target) => target.as_ref(),
+            None => None,
+        }
+    }
+
+    /// The folder of a directory in the source, and None where no row has this key. No memory.
+    pub fn source(&self, dir: &str) -> Option<&str>
+        ensures { option_copied result ≡ source_of self.now dir.now }
+    {
+        let Some(row) = self.index.get(dir) else {
+            return None;
+        };
+        match self.sources.get(*row) {
+            Some(source) => Some(source.as_str()),
+            None => None,
+        }
+    }
+
+    /// From now on the target of a directory is the folder that a text names, as a custom action of type 35 asks for
+    /// (Changing the Target Location for a Directory), and the rows below it follow. `dir` is a row's key. Refused with
+    /// `BadPath` of the first row whose target is then refused; unchanged where refused.
+    pub fn set(&mut self, alloc: Global, dir: &str, text: &str) -> Result<(), DirError>
+        requires { IsSome (row_of self.old dir.now) }
+        ensures ok { OnOk result (self.new ≡ with_own dir.now (result_ok (folder_of text.now)) self.old) }
+        ensures err { OnErr result (self.new ≡ self.old) }
+        ensures accepted { OnOk result (path_fault (with_own dir.now (result_ok (folder_of text.now)) self.old) ≡ None) }
+        ensures refused { IfFault result (λ fault. path_fault (with_own dir.now (result_ok (folder_of text.now)) self.old) ≡ Some fault) }
+    {
+        let row = *self.index.get(dir).unwrap();
+        let own = named_folder(alloc, text)?;
+        let targets = targets_of(alloc, &self.rows, &self.order, row, &own)?;
+        if let Some(refused) = first_refused(&targets) {
+            return Err(DirError::Fault(DirFault::BadPath(row_number(refused))));
+        }
+        self.rows[row].own = own;
+        self.targets = targets;
+        Ok(())
+    }
+}
