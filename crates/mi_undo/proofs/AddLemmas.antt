@@ -1,0 +1,98 @@
+-- Bytes that are added to a name by several calls.
+use Rattle.std.proofs.Common.{◌≡◌, ℕ, ◌-◌, ◌≤◌, List, [], ◌++◌, length, take, drop, Option, Some, None, Result, Ok, Err, IsErr, IsErrOf, IsErrAnd, refl, ap, subst, ◌∙◌, arith, append_assoc, length-append}
+use Rattle.std.specs.Option.{option_map}
+use Rattle.std.proofs.lemmas.List.{take_all}
+use Rattle.std.proofs.lemmas.Result.{on_ok_weaker}
+use Rattle.std.specs.FinMap.{get, insert}
+use Rattle.mi_volume.specs.Maps.{Map, Exceeds, size, bytes_or_none}
+use Rattle.mi_volume.specs.State.{State, GoesOn, Images, ImagesOf, Stays}
+use Rattle.mi_volume.specs.Calls.{Writes}
+use Rattle.mi_volume.specs.declared.volume.PutFault.{PutFault}
+use Rattle.mi_volume.specs.declared.volume.PutFault.TheVariants as put
+use Rattle.mi_volume.proofs.MapLemmas.{get-insert_same}
+use Rattle.mi_undo.specs.declared.fault.OpFault.{OpFault}
+use Rattle.mi_undo.specs.declared.fault.OpFault.TheVariants as op
+use Rattle.mi_undo.specs.Notes.{old_bytes}
+use Rattle.mi_undo.specs.Steps.{OnlyChanges, Adds}
+use Rattle.mi_undo.proofs.FaultLemmas.{at_err}
+use Rattle.mi_undo.proofs.StepLemmas.{only_then, only_looks, insert_twice, exceeds_longer}
+use Rattle.mi_undo.proofs.SpanLemmas.{Added}
+
+pub added_then : (s t u : State) (name before xs ys : List ℕ) → Added name before xs s t → Added name (before ++ xs) ys t u → Added name before (xs ++ ys) s u
+added_then s t u name before xs ys first second = record {
+  only = only_then s t u name first.only second.only;
+  held = second.held ∙ ap (λ (m : Map). insert m name ((before ++ xs) ++ ys)) first.held ∙ insert_twice s.held name (before ++ xs) ((before ++ xs) ++ ys) ∙ ap (λ (b : List ℕ). insert s.held name b) (append_assoc before xs ys);
+}
+
+pub added_get : (s t : State) (name before xs : List ℕ) → Added name before xs s t → get t.held name ≡ Some (before ++ xs)
+added_get s t name before xs added = ap (λ (m : Map). get m name) added.held ∙ get-insert_same s.held name (before ++ xs)
+
+pub adds_then : {T : Type 0} (s t u : State) (name before xs ys : List ℕ) (r : Result T OpFault) → Added name before xs s t → Adds name (before ++ xs) ys t u r → Adds name before (xs ++ ys) s u r
+adds_then s t u name before xs ys r first second = record {
+  only = only_then s t u name first.only second.only;
+  ok = on_ok_weaker r (λ held. held ∙ same_map) second.ok;
+  full = λ full. subst (λ (c : Option ℕ). Exceeds c (size (insert s.held name (before ++ (xs ++ ys))))) first.only.goes.capacity (subst (λ (m : Map). Exceeds t.capacity (size m)) same_map (second.full full));
+}
+  where
+    same_map : insert t.held name ((before ++ xs) ++ ys) ≡ insert s.held name (before ++ (xs ++ ys))
+    same_map = ap (λ (m : Map). insert m name ((before ++ xs) ++ ys)) first.held ∙ insert_twice s.held name (before ++ xs) ((before ++ xs) ++ ys) ∙ ap (λ (b : List ℕ). insert s.held name b) (append_assoc before xs ys)
+
+-- what was read before
+pub adds_looked : {T : Type 0} (s t u : State) (name before xs : List ℕ) (r : Result T OpFault) → GoesOn s t (Images s) → Stays s t → Adds name before xs t u r → Adds name before xs s u r
+adds_looked s t u name before xs r goes stays adds = record {
+  only = only_then s t u name (only_looks s t name goes stays) adds.only;
+  ok = on_ok_weaker r (λ held. held ∙ ap (λ (m : Map). insert m name (before ++ xs)) stays.held) adds.ok;
+  full = λ full. subst (λ (c : Option ℕ). Exceeds c (size (insert s.held name (before ++ xs)))) goes.capacity (subst (λ (m : Map). Exceeds t.capacity (size (insert m name (before ++ xs)))) stays.held (adds.full full));
+}
+
+pub adds_added : {T : Type 0} (s t : State) (name before xs : List ℕ) (x : T) → Added name before xs s t → Adds name before xs s t (Ok x)
+adds_added s t name before xs x added = record { only = added.only; ok = added.held; full = λ full. absurd (cc) }
+
+-- a write at the end of the name
+pub put_added : {T : Type 0} (s t : State) (name before piece : List ℕ) (x : T) → get s.held name ≡ Some before → GoesOn s t (ImagesOf name s) → Writes name (bytes_or_none (get s.held name) ++ piece) s t (Ok x) → Added name before piece s t
+put_added s t name before piece x is goes writes = record {
+  only = record { goes = goes; others = writes.others; dirty = writes.dirty };
+  held = writes.ok ∙ ap (λ (o : Option (List ℕ)). insert s.held name (bytes_or_none o ++ piece)) is;
+}
+
+pub put_failed : {T U : Type 0} (s t : State) (name before piece more : List ℕ) (r : Result T OpFault) (w : Result U PutFault) → get s.held name ≡ Some before → GoesOn s t (ImagesOf name s) → Writes name (bytes_or_none (get s.held name) ++ piece) s t w
+    → IsErr r → (IsErrOf r op.Full → IsErrOf w put.Full) → Adds name before (piece ++ more) s t r
+put_failed s t name before piece more r w is goes writes fails full = record {
+  only = record { goes = goes; others = writes.others; dirty = writes.dirty };
+  ok = at_err _ r fails;
+  full = λ is_full.
+      let longer : length (before ++ piece) ≤ length (before ++ (piece ++ more)) = omega (arith, length-append before piece, length-append before (piece ++ more), length-append piece more) in
+      exceeds_longer s.capacity s.held name (before ++ piece) (before ++ (piece ++ more)) longer
+      (subst (λ (o : Option (List ℕ)). Exceeds s.capacity (size (insert s.held name (bytes_or_none o ++ piece)))) is (writes.exceeds (full is_full)));
+}
+
+-- with no Full, whatever is added
+pub adds_failed : {T : Type 0} (s t : State) (name before xs : List ℕ) (r : Result T OpFault) → OnlyChanges name s t → IsErr r → (IsErrOf r op.Full → ⊥) → Adds name before xs s t r
+adds_failed s t name before xs r only fails full = record { only = only; ok = at_err _ r fails; full = λ is_full. absurd (full is_full) }
+
+-- an answer that is handed on
+pub adds_as : {T U : Type 0} (s t : State) (name before xs : List ℕ) (r : Result T OpFault) (e : OpFault) → Adds {T = U} name before xs s t (Err e) → IsErrAnd r (λ x. x ≡ e) → Adds name before xs s t r
+adds_as {T} {U} s t name before xs (Ok x) e adds is = absurd is
+adds_as {T} {U} s t name before xs (Err x) e adds is = record { only = adds.only; ok = tt; full = λ full. adds.full (ap Err (same_fault e x is full)) }
+  where
+    same_fault : (e x : OpFault) → x ≡ e → IsErrOf {T = T} (Err x) op.Full → e ≡ op.Full
+    same_fault e x is full = cc
+
+-- an error stays one for more bytes
+pub adds_longer : {T : Type 0} (s t : State) (name before xs ys : List ℕ) (r : Result T OpFault) → Adds name before xs s t r → IsErr r → length xs ≤ length ys → Adds name before ys s t r
+adds_longer s t name before xs ys r adds fails le = record {
+  only = adds.only;
+  ok = at_err _ r fails;
+  full = λ full. exceeds_longer s.capacity s.held name (before ++ xs) (before ++ ys) (omega (arith, le, length-append before xs, length-append before ys)) (adds.full full);
+}
+
+pub whole_run : (o : Option (List ℕ)) (n : ℕ) → Some n ≡ option_map length o → take (n - 0) (drop 0 (bytes_or_none o)) ≡ old_bytes o
+whole_run None n is = absurd (cc)
+whole_run (Some b) n is = let long : length b ≤ n - 0 = (let e : n ≡ length b = cc in omega arith) in take_all (n - 0) b long
+
+pub nothing_held : (o : Option (List ℕ)) → None ≡ option_map (length {A = ℕ}) o → old_bytes o ≡ []
+nothing_held None is = refl
+nothing_held (Some b) is = absurd (cc)
+
+pub adds_ok : {T U : Type 0} (s t : State) (name before xs : List ℕ) (x : T) (y : U) → Adds name before xs s t (Ok y) → Adds name before xs s t (Ok x)
+adds_ok s t name before xs x y adds = record { only = adds.only; ok = adds.ok; full = λ full. absurd (cc) }

@@ -1,0 +1,113 @@
+-- The next entry is made.
+use Rattle.std.proofs.Common.{◌≡◌, ℕ, zero, suc, ◌+◌, ◌/◌, ◌%◌, ◌<◌, true, false, cond, List, [], ◌∷◌, ◌++◌, length, Option, Some, None, Result, Ok, Vec, IsErr, IsErrOf, refl, sym, ap, subst, ◌∙◌, arith, length-append}
+use Rattle.std.specs.declared.alloc.Global.{Global}
+use Rattle.std.specs.FinMap.{get, insert}
+use Rattle.mi_text.specs.Maps.{same_name}
+use Rattle.mi_text.proofs.MapLemmas.{from_same}
+use Rattle.mi_volume.specs.Maps.{Map, Exceeds, size}
+use Rattle.mi_volume.specs.State.{State, NothingDirty}
+use Rattle.mi_volume.proofs.MapLemmas.{get-insert_same}
+use Rattle.mi_undo.specs.Names.{digits, entry_name, gate_name, most_entries}
+use Rattle.mi_undo.specs.Notes.{Note, note_of, notes_for, all_notes, spelled, are_new}
+use Rattle.mi_undo.specs.Keeps.{IsOpen}
+use Rattle.mi_undo.specs.Area.{notes_in}
+use Rattle.mi_undo.specs.Steps.{OnlyChanges}
+use Rattle.mi_undo.specs.Entry.{AllFit, places_from, Enters}
+use Rattle.mi_undo.specs.declared.kept.Place.{Place}
+use Rattle.mi_undo.specs.declared.fault.OpFault.{OpFault}
+use Rattle.mi_undo.specs.declared.fault.OpFault.TheVariants as op
+use Rattle.mi_undo.proofs.FaultLemmas.{at_err, value_at_err}
+use Rattle.mi_undo.proofs.NameLemmas.{gate_not_entry, same_entry}
+use Rattle.mi_undo.proofs.StepLemmas.{exceeds_more, size-new}
+use Rattle.mi_undo.proofs.EncodeLemmas.{notes_of-spelled}
+use Rattle.mi_undo.proofs.EntryLemmas.{notes_in-places}
+use Rattle.mi_undo.proofs.NoteSteps.{Staged, trying_entry, staged, trying_gate, opened_gate}
+
+pub notes_for-held : (m : Map) (names : List (List ℕ)) (q : List ℕ) (w : Option (List ℕ)) → note_of (notes_for m names) q ≡ Some w → get m q ≡ w
+notes_for-held m [] q w is = absurd (cc)
+notes_for-held m (n ∷ names) q w is =
+    elim (same_name q n) as (λ b. same_name q n ≡ b → cond b (Some (get m n)) (note_of (notes_for m names) q) ≡ Some w → get m q ≡ w) [
+      | true ↦ λ e some. ap (λ (x : List ℕ). get m x) (from_same q n e) ∙ (let here : get m n ≡ w = cc in here)
+      | false ↦ λ e rest. notes_for-held m names q w rest
+    ] refl is
+
+digits_long : (n k : ℕ) → length (digits n k) ≡ n
+unfolding digits
+digits_long zero k = refl
+digits_long (suc n) k = length-append (digits n (k / 10)) ((48 + k % 10) ∷ []) ∙ ap (λ (m : ℕ). m + 1) (digits_long n (k / 10)) ∙ (let one : n + 1 ≡ suc n = omega arith in one)
+
+entry_long : (k : ℕ) → length (entry_name k) ≡ 12
+entry_long k = omega (arith, digits_long 8 k)
+
+gate_long : (k : ℕ) → length (gate_name k) ≡ 12
+gate_long k = omega (arith, digits_long 8 k)
+
+module _ (number : ℕ) (s : State) (F : Map) (parts : List (List Note)) (ns : List Note) (o : IsOpen s F parts) (at : number ≡ length parts) (room : number < most_entries) where
+  room_here : length parts < most_entries
+  room_here = omega (arith, at)
+
+  absent : get s.held (entry_name number) ≡ None
+  absent = o.no_entry number (omega (arith, at)) room
+
+  entry_sum : Exceeds s.capacity (size (insert s.held (entry_name number) (spelled ns))) → Exceeds s.capacity (size s.held + (25 + length (spelled ns)))
+  entry_sum over =
+      let sum = size-new s.held (entry_name number) (spelled ns) absent in
+      exceeds_more s.capacity (size (insert s.held (entry_name number) (spelled ns))) (size s.held + (25 + length (spelled ns))) (omega (arith, sum, entry_long number)) over
+
+  others_kept : (t : State) → OnlyChanges (entry_name number) s t → (k : ℕ) → k < length parts → get t.held (entry_name k) ≡ get s.held (entry_name k)
+  others_kept t only k below = only.others (entry_name k) (λ e. let same : k ≡ number = same_entry k number (omega (arith, room_here)) room e in omega (arith, at, same))
+
+  -- the entry wasn't written
+  pub enters_failed : (t : State) (r : Result (Vec Place Global) OpFault) → OnlyChanges (entry_name number) s t → IsErr r → (IsErrOf r op.Full → Exceeds s.capacity (size (insert s.held (entry_name number) (spelled ns)))) → Enters number F parts ns s t r
+  enters_failed t r only fails full = record {
+    trying = trying_entry s F parts o room_here t (subst (λ (k : ℕ). OnlyChanges (entry_name k) s t) at only);
+    is_open = at_err _ r fails;
+    placed = value_at_err r _ fails;
+    places = value_at_err r _ fails;
+    others = others_kept t only;
+    full = λ is_full. entry_sum (full is_full);
+  }
+
+  -- the entry is on the disk
+  module _ (t : State) (only : OnlyChanges (entry_name number) s t) (written : t.held ≡ insert s.held (entry_name number) (spelled ns)) (clean : NothingDirty t)
+      (new : are_new (all_notes parts) ns ≡ true) (fit : AllFit ns) (held : (q : List ℕ) (w : Option (List ℕ)) → note_of ns q ≡ Some w → get s.held q ≡ w) where
+    entry_there : get t.held (entry_name number) ≡ Some (spelled ns)
+    entry_there = ap (λ (m : Map). get m (entry_name number)) written ∙ get-insert_same s.held (entry_name number) (spelled ns)
+
+    stage : Staged t F parts ns
+    stage = staged s F parts o room_here t ns (subst (λ (k : ℕ). OnlyChanges (entry_name k) s t) at only) (new, notes_of-spelled ns fit, tt) held (subst (λ (k : ℕ). get t.held (entry_name k) ≡ Some (spelled ns)) at entry_there) clean
+
+    module _ (u : State) (gate : OnlyChanges (gate_name number) t u) where
+      others_then : (k : ℕ) → k < length parts → get u.held (entry_name k) ≡ get s.held (entry_name k)
+      others_then k below = gate.others (entry_name k) (λ e. gate_not_entry number k (sym e)) ∙ others_kept t only k below
+
+      gate_sum : Exceeds t.capacity (size (insert t.held (gate_name number) (1 ∷ []))) → Exceeds s.capacity (size s.held + (25 + length (spelled ns)))
+      gate_sum over =
+          let no_gate : get t.held (gate_name number) ≡ None = only.others (gate_name number) (gate_not_entry number number) ∙ o.standing.no_gate number (omega (arith, at)) room in
+          let first = ap size written ∙ size-new s.held (entry_name number) (spelled ns) absent in
+          let second = size-new t.held (gate_name number) (1 ∷ []) no_gate in
+          subst (λ (c : Option ℕ). Exceeds c (size s.held + (25 + length (spelled ns)))) only.goes.capacity
+          (exceeds_more t.capacity (size (insert t.held (gate_name number) (1 ∷ []))) (size s.held + (25 + length (spelled ns))) (omega (arith, first, second, entry_long number, gate_long number)) over)
+
+      pub gate_failed : (r : Result (Vec Place Global) OpFault) → IsErr r → (IsErrOf r op.Full → Exceeds t.capacity (size (insert t.held (gate_name number) (1 ∷ [])))) → Enters number F parts ns s u r
+      gate_failed r fails full = record {
+        trying = trying_gate s F parts o room_here t ns (trying_entry s F parts o room_here t (subst (λ (k : ℕ). OnlyChanges (entry_name k) s t) at only)) stage u (subst (λ (k : ℕ). OnlyChanges (gate_name k) t u) at gate);
+        is_open = at_err _ r fails;
+        placed = value_at_err r _ fails;
+        places = value_at_err r _ fails;
+        others = others_then;
+        full = λ is_full. gate_sum (full is_full);
+      }
+
+      pub entered : (places : Vec Place Global) → u.held ≡ insert t.held (gate_name number) (1 ∷ []) → NothingDirty u → places.items ≡ places_from number 0 ns → Enters number F parts ns s u (Ok places)
+      entered places opened clean_now are =
+          let tried = trying_gate s F parts o room_here t ns (trying_entry s F parts o room_here t (subst (λ (k : ℕ). OnlyChanges (entry_name k) s t) at only)) stage u (subst (λ (k : ℕ). OnlyChanges (gate_name k) t u) at gate) in
+          let entry_now : get u.held (entry_name number) ≡ Some ([] ++ spelled ns) = gate.others (entry_name number) (λ e. gate_not_entry number number (sym e)) ∙ entry_there in
+          record {
+            trying = tried;
+            is_open = opened_gate s F parts o room_here t ns (trying_entry s F parts o room_here t (subst (λ (k : ℕ). OnlyChanges (entry_name k) s t) at only)) stage u (subst (λ (k : ℕ). u.held ≡ insert t.held (gate_name k) (1 ∷ [])) at opened) tried.only clean_now;
+            placed = ap (notes_in u.held) are ∙ notes_in-places u.held number 0 [] ns entry_now refl;
+            places = are;
+            others = others_then;
+            full = λ is_full. absurd (cc);
+          }

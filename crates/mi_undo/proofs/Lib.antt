@@ -1,0 +1,29 @@
+mod NameLemmas
+pub mod NotesOf
+pub mod StandsLemmas
+pub mod OpenLemmas
+pub mod NoteLemmas
+pub mod OutsideLemmas
+pub mod StepLemmas
+mod SpanLemmas
+mod FaultLemmas
+mod OnlyLemmas
+mod NoteSteps
+mod EncodeLemmas
+mod AddLemmas
+mod EntryLemmas
+mod EntrySteps
+mod FreshLemmas
+mod EnterLemmas
+pub mod AreaLemmas
+pub mod ClearLemmas
+pub mod CloseLemmas
+mod CloseSteps
+pub mod BackSteps
+pub mod CommitLemmas
+mod SettleBits
+pub mod ChangeLemmas
+pub mod BackLemmas
+mod ReturnLemmas
+pub mod PutLemmas
+pub mod BeginLemmas

@@ -1,0 +1,24 @@
+use Rattle.std.proofs.Common.{◌++◌, Some, refl, ap, ◌∙◌}
+use Rattle.std.specs.FinMap.{get}
+use Rattle.mi_volume.specs.Maps.{bytes_or_none}
+use Rattle.mi_undo.specs.Stands.{outside}
+use Rattle.mi_undo.proofs.FreshLemmas.{contains_outside}
+use Rattle.mi_undo.proofs.OutsideLemmas.{outside_set_to}
+use Rattle.mi_undo.proofs.ChangeLemmas.{works_changed}
+use Rattle.mi_undo.proofs.area.Open+V.append.Goals as goal
+
+pub returns-in_err-append-clause-changes : goal.returns-in_err-append-clause-changes
+returns-in_err-append-clause-changes g c = λ told F w.
+    let call = c.append.ensures.writes told in
+    works_changed _ _ _ F c.args.name.now w c.requires.noted (record { goes = c.append.ensures.moments; others = call.others; dirty = call.dirty })
+
+pub returns-clause-changes : goal.returns-clause-changes
+returns-clause-changes g c = λ told F w.
+    let call = c.append.ensures.writes told in
+    works_changed _ _ _ F c.args.name.now w c.requires.noted (record { goes = c.append.ensures.moments; others = call.others; dirty = call.dirty })
+
+pub returns-clause-working : goal.returns-clause-working
+returns-clause-working g c = record { working = refl; knows = c.requires.working.knows; outside = c.requires.working.outside }
+
+pub returns-clause-map : goal.returns-clause-map
+returns-clause-map g c = λ told. ap outside (c.in_ok-append.ensures.writes told).ok ∙ outside_set_to (g.V.Volume.state c.args.self.now.vol.now).held c.args.name.now (Some (bytes_or_none (get (g.V.Volume.state c.args.self.now.vol.now).held c.args.name.now) ++ c.args.bytes.now)) (contains_outside _ c.args.name.now c.requires.working.outside c.requires.noted)

@@ -1,0 +1,22 @@
+use Rattle.std.proofs.Common.{Some, refl, ap, ◌∙◌}
+use Rattle.mi_undo.specs.Stands.{outside}
+use Rattle.mi_undo.proofs.FreshLemmas.{contains_outside}
+use Rattle.mi_undo.proofs.OutsideLemmas.{outside_set_to}
+use Rattle.mi_undo.proofs.ChangeLemmas.{works_changed}
+use Rattle.mi_undo.proofs.area.Open+V.put.Goals as goal
+
+pub returns-in_err-put-clause-changes : goal.returns-in_err-put-clause-changes
+returns-in_err-put-clause-changes g c = λ told F w.
+    let call = c.put.ensures.writes told in
+    works_changed _ _ _ F c.args.name.now w c.requires.noted (record { goes = c.put.ensures.moments; others = call.others; dirty = call.dirty })
+
+pub returns-clause-changes : goal.returns-clause-changes
+returns-clause-changes g c = λ told F w.
+    let call = c.put.ensures.writes told in
+    works_changed _ _ _ F c.args.name.now w c.requires.noted (record { goes = c.put.ensures.moments; others = call.others; dirty = call.dirty })
+
+pub returns-clause-working : goal.returns-clause-working
+returns-clause-working g c = record { working = refl; knows = c.requires.working.knows; outside = c.requires.working.outside }
+
+pub returns-clause-map : goal.returns-clause-map
+returns-clause-map g c = λ told. ap outside (c.in_ok-put.ensures.writes told).ok ∙ outside_set_to (g.V.Volume.state c.args.self.now.vol.now).held c.args.name.now (Some c.args.bytes.now) (contains_outside _ c.args.name.now c.requires.working.outside c.requires.noted)

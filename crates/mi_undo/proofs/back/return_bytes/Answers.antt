@@ -1,0 +1,25 @@
+use Rattle.mi_undo.proofs.FaultLemmas.{at_err}
+use Rattle.mi_undo.proofs.StepLemmas.{only_looks, only_then}
+use Rattle.mi_undo.proofs.ReturnLemmas.{returned_bytes}
+use Rattle.mi_undo.proofs.back.return_bytes.Goals as goal
+use Rattle.std.proofs.Common.{arith, ◌∙◌}
+
+pub returns-in_err-bytes-clause-puts : goal.returns-in_err-bytes-clause-puts
+returns-in_err-bytes-clause-puts g c = λ told ne. record {
+  only = only_looks (g.V.Volume.state c.args.vol.now) (g.V.Volume.state c.read.new.self) c.args.name.now c.read.ensures.moments (c.read.ensures.stays told);
+  ok = at_err _ c.from_residual.result c.from_residual.ensures.0;
+}
+
+pub returns-in_err-put-clause-puts : goal.returns-in_err-put-clause-puts
+returns-in_err-put-clause-puts g c = λ told ne.
+    let w = c.put.ensures.writes told in
+    record {
+      only = only_then (g.V.Volume.state c.args.vol.now) (g.V.Volume.state c.read.new.self) (g.V.Volume.state c.put.new.self) c.args.name.now (only_looks _ _ c.args.name.now c.read.ensures.moments (c.read.ensures.stays told)) (record { goes = c.put.ensures.moments; others = w.others; dirty = w.dirty });
+      ok = at_err _ c.from_residual-in_err-put.result c.from_residual-in_err-put.ensures.0;
+    }
+
+pub returns-clause-puts : goal.returns-clause-puts
+returns-clause-puts g c = λ told ne.
+    returned_bytes (g.V.Volume.state c.args.vol.now) (g.V.Volume.state c.read.new.self) (g.V.Volume.state c.put.new.self) (g.V.Volume.state c.append_span.new.vol) c.args.name.now c.args.entry.now c.as_slice.result.now c.args.at _ c.args.end c.append_span.result _
+    c.read.ensures.moments (c.read.ensures.stays told) (c.as_slice.ensures ∙ c.in_ok-bytes.ensures.value told) c.put.ensures.moments (c.in_ok-put.ensures.writes told) ne
+    (λ before is. c.append_span.ensures.adds told ne before is) (omega (arith, c.saturating_sub.ensures, c.min-first.ensures))

@@ -1,0 +1,43 @@
+use Rattle.std.proofs.Common.{◌≡◌, List, ◌∷◌, [], ◌++◌, true, arith, refl, subst, ◌∙◌}
+use Rattle.mi_undo.specs.Notes.{Note, notes_for, are_new}
+use Rattle.mi_undo.proofs.FaultLemmas.{handed_on}
+use Rattle.mi_undo.proofs.AreaLemmas.{unwritten, unkept, noted}
+use Rattle.mi_undo.proofs.NameLemmas.{few_is}
+use Rattle.mi_undo.proofs.note.note_fresh.Goals as goal
+
+pub returns-in_err-entry-clause-notes : goal.returns-in_err-entry-clause-notes
+returns-in_err-entry-clause-notes g c = λ told F w new. unwritten (g.V.Volume.state c.args.vol.now) c.args.kept.now _ F w refl _ refl refl c.from_residual.ensures.0
+
+pub returns-in_err-gate-clause-notes : goal.returns-in_err-gate-clause-notes
+returns-in_err-gate-clause-notes g c = λ told F w new. unwritten (g.V.Volume.state c.args.vol.now) c.args.kept.now _ F w refl _ refl refl c.from_residual-in_err-gate.ensures.0
+
+pub returns-in_err-keep_names-clause-notes : goal.returns-in_err-keep_names-clause-notes
+returns-in_err-keep_names-clause-notes g c = λ told F w new.
+    unwritten (g.V.Volume.state c.args.vol.now) c.args.kept.now _ F w refl _ refl c.in_err-keep_names.ensures.err c.from_residual-in_err-keep_names.ensures.0
+
+pub returns-in_err-places-clause-notes : goal.returns-in_err-places-clause-notes
+returns-in_err-places-clause-notes g c = λ told F w new.
+    let before = subst (λ (l : List Note). are_new l (notes_for (g.V.Volume.state c.args.vol.now).held c.args.names.now) ≡ true) w.placed new in
+    let named = c.in_ok-keep_names.ensures.ok ∙ (λ i. c.args.kept.now.area.items ++ c.in_ok-entry.ensures i ∷ c.in_ok-gate.ensures i ∷ []) in
+    unkept (g.V.Volume.state c.args.vol.now) c.args.kept.now _ F w refl (g.V.Volume.state c.note_entry.new.vol) _ _ (c.in_err-places.ensures.enters told F w.parts w.is_open w.entries before) c.requires.few named _ refl c.from_residual-in_err-places.ensures.0
+
+pub returns-in_err-append-clause-notes : goal.returns-in_err-append-clause-notes
+returns-in_err-append-clause-notes g c = λ told F w new.
+    let before = subst (λ (l : List Note). are_new l (notes_for (g.V.Volume.state c.args.vol.now).held c.args.names.now) ≡ true) w.placed new in
+    let named = c.in_ok-keep_names.ensures.ok ∙ (λ i. c.args.kept.now.area.items ++ c.in_ok-entry.ensures i ∷ c.in_ok-gate.ensures i ∷ []) in
+    unkept (g.V.Volume.state c.args.vol.now) c.args.kept.now _ F w refl (g.V.Volume.state c.note_entry.new.vol) _ _ (c.in_ok-places.ensures.enters told F w.parts w.is_open w.entries before) c.requires.few named _ c.in_err-append.ensures.items c.from_residual-in_err-append.ensures.0
+
+pub returns-clause-notes : goal.returns-clause-notes
+returns-clause-notes g c = λ told F w new.
+    let before = subst (λ (l : List Note). are_new l (notes_for (g.V.Volume.state c.args.vol.now).held c.args.names.now) ≡ true) w.placed new in
+    let named = c.in_ok-keep_names.ensures.ok ∙ (λ i. c.args.kept.now.area.items ++ c.in_ok-entry.ensures i ∷ c.in_ok-gate.ensures i ∷ []) in
+    let e = c.in_ok-places.ensures.enters told F w.parts w.is_open w.entries before in
+    noted (g.V.Volume.state c.args.vol.now) c.args.kept.now _ F w refl (g.V.Volume.state c.note_entry.new.vol) _ _ e c.requires.few named c.in_ok-places.places e.is_open e.placed e.places c.in_ok-append.ensures.items refl
+
+pub returns-in_err-places-clause-full : goal.returns-in_err-places-clause-full
+returns-in_err-places-clause-full g c = λ told full F w new.
+    let before = subst (λ (l : List Note). are_new l (notes_for (g.V.Volume.state c.args.vol.now).held c.args.names.now) ≡ true) w.placed new in
+    (c.in_err-places.ensures.enters told F w.parts w.is_open w.entries before).full (handed_on c.from_residual-in_err-places.result _ _ c.from_residual-in_err-places.ensures.1 full)
+
+pub overflow_add-kept : goal.overflow_add-kept
+overflow_add-kept g c = let below = few_is c.args.kept.now.entries c.requires.few in omega (arith, below)

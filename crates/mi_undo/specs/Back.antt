@@ -1,0 +1,63 @@
+-- Going back.
+use Rattle.std.specs.Prelude.{◌≡◌, ℕ, true, List, Option, None, Some, Result, OnOk}
+use Rattle.std.specs.FinMap.{get}
+use Rattle.mi_volume.specs.Maps.{Map}
+use Rattle.mi_volume.specs.State.{State, GoesOn, NothingDirty}
+use Rattle.mi_undo.specs.Names.{is_inside}
+use Rattle.mi_undo.specs.Notes.{Note, note_of}
+use Rattle.mi_undo.specs.Stands.{StandsFor, outside}
+use Rattle.mi_undo.specs.Keeps.{Each, Keeps, IsFree}
+use Rattle.mi_undo.specs.Steps.{OnlyChanges}
+
+-- the names inside the area hold what they held
+abbrev pub InsideStays : Map → Map → Type 0
+InsideStays old new = (q : List ℕ) → is_inside q ≡ true → get new q ≡ get old q
+
+-- While the noted names are removed: these of them are away.
+pub record Removing (old new : State) (F : Map) (ns front : List Note) : Type 0 where
+  pub goes : GoesOn old new (StandsFor F)
+  pub keeps : Keeps new F ns
+  pub inside : InsideStays old.held new.held
+  pub away : (q : List ℕ) (w : Option (List ℕ)) → note_of front q ≡ Some w → get new.held q ≡ None
+
+-- While the old bytes are put back: these of them are there, and the others are away.
+pub record Returning (old new : State) (F : Map) (ns front : List Note) : Type 0 where
+  pub goes : GoesOn old new (StandsFor F)
+  pub keeps : Keeps new F ns
+  pub inside : InsideStays old.held new.held
+  pub back : (q : List ℕ) (w : Option (List ℕ)) → note_of front q ≡ Some w → get new.held q ≡ w
+  pub away : (q : List ℕ) (w : Option (List ℕ)) → note_of ns q ≡ Some w → note_of front q ≡ None → get new.held q ≡ None
+
+-- after each noted name was removed
+pub record Removed {T E : Type 0} (old new : State) (F : Map) (ns : List Note) (result : Result T E) : Type 0 where
+  pub goes : GoesOn old new (StandsFor F)
+  pub keeps : Keeps new F ns
+  pub inside : InsideStays old.held new.held
+  pub ok : OnOk result ((q : List ℕ) (w : Option (List ℕ)) → note_of ns q ≡ Some w → get new.held q ≡ None)
+
+-- after the old bytes of one name were put back
+pub record PutsOne {T E : Type 0} (name : List ℕ) (was : Option (List ℕ)) (old new : State) (result : Result T E) : Type 0 where
+  pub only : OnlyChanges name old new
+  pub ok : OnOk result (get new.held name ≡ was)
+
+-- after each was put back
+pub record Returned {T E : Type 0} (old new : State) (F : Map) (ns : List Note) (result : Result T E) : Type 0 where
+  pub goes : GoesOn old new (StandsFor F)
+  pub keeps : Keeps new F ns
+  pub inside : InsideStays old.held new.held
+  pub ok : OnOk result (outside new.held ≡ F)
+
+-- after all are back, on the disk
+pub record PutsBack {T E : Type 0} (old new : State) (F : Map) (ns : List Note) (result : Result T E) : Type 0 where
+  pub goes : GoesOn old new (StandsFor F)
+  pub keeps : Keeps new F ns
+  pub inside : InsideStays old.held new.held
+  pub back : OnOk result (outside new.held ≡ F)
+  pub clean : OnOk result (NothingDirty new)
+
+-- after the marker was shut, with all back, and the area was taken away
+pub record Shuts {T E : Type 0} (old new : State) (F : Map) (result : Result T E) : Type 0 where
+  pub goes : GoesOn old new (StandsFor F)
+  pub leaves : Each new (StandsFor F)
+  pub outside : outside new.held ≡ F
+  pub free : OnOk result (IsFree new)

@@ -1,0 +1,13 @@
+pub mod Names
+pub mod Notes
+pub mod Stands
+pub mod Keeps
+pub mod Area
+pub mod Answers
+pub mod Faults
+pub mod Steps
+pub mod Entry
+pub mod Clear
+pub mod Commit
+pub mod Begins
+pub mod Back

@@ -1,0 +1,30 @@
+-- Calls of a volume that go together.
+use Rattle.std.specs.Prelude.{◌≡◌, List, ℕ, [], ◌∷◌, ◌++◌, Result, OnOk, IsErrOf}
+use Rattle.std.specs.FinMap.{insert}
+use Rattle.mi_volume.specs.Maps.{OthersStay, HoldsByte, Exceeds, size}
+use Rattle.mi_volume.specs.State.{State, GoesOn, ImagesOf, OnlyDirties, NothingDirty}
+use Rattle.mi_undo.specs.declared.fault.OpFault.{OpFault}
+use Rattle.mi_undo.specs.declared.fault.OpFault.TheVariants.{Full}
+
+-- No other name than this has changed, and a crash in between has left no other changed.
+pub record OnlyChanges (name : List ℕ) (old new : State) : Type 0 where
+  pub goes : GoesOn old new (ImagesOf name old)
+  pub others : OthersStay name old.held new.held
+  pub dirty : OnlyDirties name old new
+
+-- The name is given these bytes, and all is on the disk.
+pub record Seals {T E : Type 0} (name bytes : List ℕ) (old new : State) (result : Result T E) : Type 0 where
+  pub only : OnlyChanges name old new
+  pub ok : OnOk result ((new.held ≡ insert old.held name bytes) × NothingDirty new)
+
+-- The one byte of the name is replaced, and all is on the disk.
+pub record SealsByte {T E : Type 0} (name : List ℕ) (byte : ℕ) (old new : State) (result : Result T E) : Type 0 where
+  pub only : OnlyChanges name old new
+  pub ok : OnOk result ((new.held ≡ insert old.held name (byte ∷ [])) × NothingDirty new)
+  pub one_byte : HoldsByte new.held name
+
+-- Behind what the name held these bytes are added.
+pub record Adds {T : Type 0} (name before bytes : List ℕ) (old new : State) (result : Result T OpFault) : Type 0 where
+  pub only : OnlyChanges name old new
+  pub ok : OnOk result (new.held ≡ insert old.held name (before ++ bytes))
+  pub full : IsErrOf result Full → Exceeds old.capacity (size (insert old.held name (before ++ bytes)))

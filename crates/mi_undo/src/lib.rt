@@ -1,0 +1,18 @@
+//! The rollback area: a journal on the volume that makes a run of changes all or nothing, whatever
+//! moment it is stopped at (this project's own).
+#![tactic(auto)]
+
+mod area;
+mod back;
+mod clear;
+mod close;
+mod entry;
+mod fault;
+mod kept;
+mod names;
+mod note;
+mod steps;
+
+pub use area::{Open, Refused, begin};
+pub use fault::{BackFault, CommitFault, OpFault};
+pub use kept::{Kept, Place, Progress, Span};

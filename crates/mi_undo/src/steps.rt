@@ -1,0 +1,68 @@
+//! Calls of a volume that go together.
+
+ghost use Rattle.std.specs.Prelude.{◌≡◌, ◌≢◌, ◌⊎◌, ◌≤◌, ◌-◌, ◌++◌, List, ℕ, Some, take, drop, length, IsErrOf, IsSome, OnErr};
+ghost use Rattle.std.specs.FinMap.{get, insert};
+ghost use Rattle.mi_volume.specs.Maps.{HoldsByte, Exceeds, size, bytes_or_none};
+ghost use Rattle.mi_volume.specs.State.{Passes, Rose, Stays};
+ghost use Rattle.mi_undo.specs.Steps.{Adds, Seals, SealsByte};
+
+use crate::fault::OpFault;
+use mi_text::Name;
+use mi_volume::{Failed, PIECE, Volume};
+use std::alloc::Global;
+
+/// Gives the name these bytes, and syncs.
+pub(crate) fn put_synced<V: Volume>(
+    alloc: Global,
+    vol: &mut V,
+    name: &Name,
+    bytes: &[u8],
+) -> Result<(), OpFault>
+    requires { length bytes.now ≤ PIECE }
+    ensures seals { V.told → Seals name.now bytes.now (V.state vol.old) (V.state vol.new) result }
+    ensures passes { Passes (V.state vol.old) (V.state vol.new) }
+    ensures fault { IsErrOf result OpFault.Fault → Rose (V.state vol.old) (V.state vol.new) }
+    ensures stays { V.told → IsErrOf result OpFault.NoMemory ⊎ IsErrOf result OpFault.Full → Stays (V.state vol.old) (V.state vol.new) }
+    ensures full { IsErrOf result OpFault.Full → V.told × Exceeds (V.state vol.old).capacity (size (insert (V.state vol.old).held name.now bytes.now)) }
+{
+    vol.put(alloc, name, bytes)?;
+    vol.sync()?;
+    Ok(())
+}
+
+/// Replaces the one byte of the name, and syncs.
+pub(crate) fn mark_synced<V: Volume>(vol: &mut V, name: &Name, byte: u8) -> Result<(), Failed>
+    requires { V.told → HoldsByte (V.state vol.old).held name.now }
+    ensures seals { V.told → SealsByte name.now byte (V.state vol.old) (V.state vol.new) result }
+    ensures passes { Passes (V.state vol.old) (V.state vol.new) }
+    ensures fault { OnErr result (Rose (V.state vol.old) (V.state vol.new)) }
+{
+    vol.mark(name, byte)?;
+    vol.sync()?;
+    Ok(())
+}
+
+/// Adds the bytes of `from`, from `at` up to `end`, at the end of `to`, by pieces.
+pub(crate) fn append_span<V: Volume>(
+    alloc: Global,
+    vol: &mut V,
+    from: &Name,
+    at: u64,
+    end: u64,
+    to: &Name,
+) -> Result<(), OpFault>
+    ensures adds { V.told → from.now ≢ to.now → (before : List ℕ) → get (V.state vol.old).held to.now ≡ Some before
+        → Adds to.now before (take (end - at) (drop at (bytes_or_none (get (V.state vol.old).held from.now)))) (V.state vol.old) (V.state vol.new) result }
+    ensures passes { Passes (V.state vol.old) (V.state vol.new) }
+    ensures fault { IsErrOf result OpFault.Fault → Rose (V.state vol.old) (V.state vol.new) }
+    ensures full { IsErrOf result OpFault.Full → V.told × IsSome (V.state vol.old).capacity }
+{
+    let mut at = at;
+    while at < end {
+        let want = (end - at).min(PIECE as u64);
+        let bytes = vol.read(alloc, from, at, want as usize)?;
+        vol.append(alloc, to, bytes.as_slice())?;
+        at += want;
+    }
+    Ok(())
+}
