@@ -1,0 +1,76 @@
+//! The program: carries out its words on the machine that the folder `machine` holds.
+#![tactic(auto)]
+
+use mi_edges::{EdgeFault, FolderSource, FolderVolume, StdSink};
+use mi_engine::{answer_code, run};
+use std::io::ErrorKind;
+use std::process::ExitCode;
+use std::rt::Clock;
+use std::time::{SystemTime, UNIX_EPOCH};
+use std::{env, io};
+
+/// The folder, in the current one, that holds the machine.
+const MACHINE: &str = "machine";
+
+/// The status where memory was wanted.
+const NO_MEMORY: u8 = 40;
+
+/// The status where the arguments can't be read.
+const NO_WORDS: u8 = 42;
+
+/// The status where the machine folder can't be made.
+const NO_FOLDER: u8 = 43;
+
+// The words behind the program's name.
+fn words_of<R: std::rt::Env + AllocGlobal>(rt: &R) -> io::Result<Vec<String>> {
+    let mut words = Vec::new(rt.alloc());
+    for word in env::args(rt)?.skip(1) {
+        words.push(word)?;
+    }
+    Ok(words)
+}
+
+// The seconds since 1970, and 0 where the clock can't be read.
+fn seconds(clock: &impl Clock) -> u64 {
+    match SystemTime::now(clock) {
+        Ok(now) => match now.duration_since(UNIX_EPOCH) {
+            Ok(since) => since.as_secs(),
+            Err(_) => 0,
+        },
+        Err(_) => 0,
+    }
+}
+
+// The status where the words can't be read.
+fn words_status(error: &io::Error) -> u8 {
+    if matches!(error.kind(), ErrorKind::OutOfMemory) {
+        NO_MEMORY
+    } else {
+        NO_WORDS
+    }
+}
+
+fn main(rt: HostRuntime) -> ExitCode {
+    let alloc = rt.alloc();
+    let words = match words_of(&rt) {
+        Ok(words) => words,
+        Err(error) => return ExitCode::from(words_status(&error)),
+    };
+    let mut volume = match FolderVolume::at(rt, alloc, MACHINE) {
+        Ok(volume) => volume,
+        Err(EdgeFault::NoMemory) => return ExitCode::from(NO_MEMORY),
+        Err(EdgeFault::Folder) => return ExitCode::from(NO_FOLDER),
+    };
+    let mut source = FolderSource::new(rt);
+    let mut sink = StdSink::new(rt);
+    let now = seconds(&rt);
+    let answer = run(
+        alloc,
+        words.as_slice(),
+        &mut source,
+        &mut volume,
+        &mut sink,
+        now,
+    );
+    ExitCode::from(answer_code(&answer))
+}
