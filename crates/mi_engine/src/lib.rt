@@ -18,3 +18,6 @@ mod write;
 pub use answer::Answer;
 pub use code::answer_code;
 pub use top::run;
+
+#[cfg(test)]
+mod tests;
