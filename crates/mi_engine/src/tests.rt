@@ -1,7 +1,7 @@
 //! The first path over a source, a volume and a sink in memory.
 
 use crate::{Answer, answer_code, run};
-use mi_base::Bytes;
+use mi_base::{Bytes, Cause, Kind};
 use mi_source::{MemSink, MemSource};
 use mi_volume::{Fails, MemVolume};
 use std::alloc::Global;
@@ -24,13 +24,11 @@ fn package(alloc: Global, rows: &str) -> Result<MemSource, Fail> {
     Ok(source)
 }
 
-/// An empty volume without a capacity.
-fn volume(alloc: Global) -> Result<MemVolume, Fail> {
-    let none = Fails {
-        list: Vec::new(alloc),
-        from: None,
-    };
-    Ok(MemVolume::new(alloc, None, none)?)
+/// An empty volume without a capacity, whose calls of these numbers fail.
+fn volume(alloc: Global, failing: &[u64]) -> Result<MemVolume, Fail> {
+    let mut list = Vec::new(alloc);
+    list.extend_from_slice(failing)?;
+    Ok(MemVolume::new(alloc, None, Fails { list, from: None })?)
 }
 
 /// Runs the words, and says what was answered and logged.
@@ -53,7 +51,7 @@ fn run_words(
 #[test]
 fn a_value_and_its_keys_are_written(rt: HostRuntime) -> Result<(), Fail> {
     let alloc = rt.alloc();
-    let mut volume = volume(alloc)?;
+    let mut volume = volume(alloc, &[])?;
     let (answer, log) = run_words(
         alloc,
         &["/I", "pkg"],
@@ -63,5 +61,68 @@ fn a_value_and_its_keys_are_written(rt: HostRuntime) -> Result<(), Fail> {
     assert_eq!(rt; log.as_slice(), b"Result: Done\n".as_slice());
     assert_eq!(rt; answer_code(&answer), 0);
     assert_eq!(rt; volume.calls().len(), 3);
+    Ok(())
+}
+
+/// Whether the log of these words, over these rows of Registry, is this line, and nothing is written.
+fn is_refused(alloc: Global, words: &[&str], rows: &str, line: &str) -> Result<bool, Fail> {
+    let mut volume = volume(alloc, &[])?;
+    let (_, log) = run_words(alloc, words, &mut package(alloc, rows)?, &mut volume)?;
+    Ok(log.as_slice() == line.as_bytes() && volume.calls().is_empty())
+}
+
+#[test]
+fn words_that_are_not_right_are_refused(rt: HostRuntime) -> Result<(), Fail> {
+    let cases: [(&[&str], &str); 6] = [
+        (&[], "Result: Refused BadWords 0\n"),
+        (&["/x", "pkg"], "Result: Refused BadWords 0\n"),
+        (&["/i"], "Result: Refused BadWords 1\n"),
+        (&["/i", ""], "Result: Refused BadWords 1\n"),
+        (&["/i", "pkg", "A=1"], "Result: Refused BadWords 2\n"),
+        (
+            &["/i", "none"],
+            "Result: Refused Table MissingTable Property\n",
+        ),
+    ];
+    for (words, line) in cases {
+        assert!(rt; is_refused(rt.alloc(), words, ROW, line)?);
+    }
+    Ok(())
+}
+
+#[test]
+fn rows_that_are_not_plain_are_refused(rt: HostRuntime) -> Result<(), Fail> {
+    for (rows, place) in [
+        ("RVer\t1\tSoftware\\Acme\tVer\t1\tCReg\n", 1),
+        ("R1\t2\tA\tB\t#1\tC\n", 1),
+        ("R1\t2\tA\\\\B\tB\t1\tC\n", 1),
+        ("R1\t2\t[A]\tB\t1\tC\n", 1),
+        ("R1\t2\tA\tB\t1", 0),
+        ("R1\t2\tA\tB\t\u{e9}\tC\n", 0),
+    ] {
+        let line = format!(in rt.alloc(); "Result: Refused Table NotYet Registry {place}\n")?;
+        assert!(rt; is_refused(rt.alloc(), &["/i", "pkg"], rows, line.as_str())?);
+    }
+    Ok(())
+}
+
+/// Whether the run is answered with a fault of the volume where its call of this number fails.
+fn is_fault_at(alloc: Global, number: u64) -> Result<bool, Fail> {
+    let mut volume = volume(alloc, &[number])?;
+    let (answer, _) = run_words(
+        alloc,
+        &["/i", "pkg"],
+        &mut package(alloc, ROW)?,
+        &mut volume,
+    )?;
+    Ok(matches!(answer.kind, Kind::Refused(Cause::VolumeFault)))
+}
+
+#[test]
+fn each_call_of_the_volume_that_fails_is_answered(rt: HostRuntime) -> Result<(), Fail> {
+    // Two looks for the keys, three puts and the sync.
+    for number in 0..7 {
+        assert!(rt; is_fault_at(rt.alloc(), number)? == (number < 6));
+    }
     Ok(())
 }
