@@ -1,9 +1,9 @@
 //! The first path over a source, a volume and a sink in memory.
 
 use crate::{Answer, answer_code, run};
-use mi_base::{Bytes, Cause, Kind};
+use mi_base::{Bytes, Cause, Kind, Name};
 use mi_source::{MemSink, MemSource};
-use mi_volume::{Fails, MemVolume};
+use mi_volume::{Fails, MemVolume, Volume};
 use std::alloc::Global;
 use std::test::Fail;
 
@@ -124,5 +124,42 @@ fn each_call_of_the_volume_that_fails_is_answered(rt: HostRuntime) -> Result<(),
     for number in 0..7 {
         assert!(rt; is_fault_at(rt.alloc(), number)? == (number < 6));
     }
+    Ok(())
+}
+
+/// Whether a name holds these bytes.
+fn holds(alloc: Global, volume: &mut MemVolume, name: &str, bytes: &[u8]) -> Result<bool, Fail> {
+    let found = volume.read(alloc, &Name::of(alloc, name)?, 0, 1000)?;
+    Ok(found.as_slice() == bytes)
+}
+
+#[test]
+fn the_later_of_two_rows_holds_under_the_first_spelling_of_a_key(
+    rt: HostRuntime,
+) -> Result<(), Fail> {
+    let alloc = rt.alloc();
+    let rows = "B\t2\tsoftware\tVER\t2\tC\nA\t2\tSOFTWARE\tVer\t1\tC\n";
+    let mut volume = volume(alloc, &[])?;
+    let _ = run_words(
+        alloc,
+        &["/i", "pkg"],
+        &mut package(alloc, rows)?,
+        &mut volume,
+    )?;
+    let value = b"\0\0\0\x03VER\x01\0\0\0\x012";
+    assert!(rt; holds(alloc, &mut volume, "v/20008softwarever", value)?);
+    assert!(rt; holds(alloc, &mut volume, "k/2software", b"\0\0\0\x08SOFTWARE")?);
+    Ok(())
+}
+
+#[test]
+fn a_source_that_fails_is_answered(rt: HostRuntime) -> Result<(), Fail> {
+    let alloc = rt.alloc();
+    let mut fails = Vec::new(alloc);
+    fails.push(0)?;
+    let mut source = MemSource::new(alloc, fails)?;
+    let mut volume = volume(alloc, &[])?;
+    let (answer, _) = run_words(alloc, &["/i", "pkg"], &mut source, &mut volume)?;
+    assert!(rt; matches!(answer.kind, Kind::Refused(Cause::SourceFault)));
     Ok(())
 }
