@@ -6,13 +6,16 @@ mod area;
 mod back;
 mod clear;
 mod close;
+mod decode;
 mod entry;
 mod fault;
 mod kept;
 mod names;
 mod note;
+mod read;
 mod steps;
+mod unread;
 
 pub use area::{Open, Refused, begin};
-pub use fault::{BackFault, CommitFault, OpFault};
+pub use fault::{BackFault, CommitFault, OpFault, UndoError};
 pub use kept::{Kept, Place, Progress, Span};
