@@ -32,3 +32,6 @@ mod HalfLemmas
 pub mod ReadLemmas
 pub mod SettleLemmas
 pub mod SpareLemmas
+mod InsideLemmas
+mod SweepLemmas
+pub mod SettleSteps

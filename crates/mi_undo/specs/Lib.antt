@@ -12,3 +12,5 @@ pub mod Commit
 pub mod Begins
 pub mod Back
 pub mod Reading
+pub mod Sweep
+pub mod Settle

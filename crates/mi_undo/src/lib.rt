@@ -13,9 +13,12 @@ mod kept;
 mod names;
 mod note;
 mod read;
+mod settling;
 mod steps;
+mod sweep;
 mod unread;
 
 pub use area::{Open, Refused, begin};
 pub use fault::{BackFault, CommitFault, OpFault, UndoError};
 pub use kept::{Kept, Place, Progress, Span};
+pub use settling::settle;

@@ -5,8 +5,9 @@ ghost use Rattle.mi_volume.specs.Maps.{Map};
 ghost use Rattle.mi_volume.specs.State.{Passes, Rose};
 ghost use Rattle.mi_undo.specs.Notes.{Note};
 ghost use Rattle.mi_undo.specs.Reading.{Spare, Spares};
+ghost use Rattle.mi_undo.specs.Answers.{IfBad, IfFull};
 
-use crate::fault::OpFault;
+use crate::fault::UndoError;
 use crate::names::{entries_of, entry_number};
 use mi_text::Name;
 use mi_volume::{Failed, Volume};
@@ -32,11 +33,12 @@ pub(crate) fn remove_unread<V: Volume>(
     alloc: Global,
     vol: &mut V,
     entries: u32,
-) -> Result<(), OpFault>
+) -> Result<(), UndoError>
     ensures spares { V.told → (F : Map) (ns : List Note) → Spare (V.state vol.old) F ns entries → Spares (V.state vol.old) (V.state vol.new) F ns entries }
     ensures passes { Passes (V.state vol.old) (V.state vol.new) }
-    ensures fault { IsErrOf result OpFault.Fault → Rose (V.state vol.old) (V.state vol.new) }
-    ensures never_full { IsErrOf result OpFault.Full → ⊥ }
+    ensures fault { IsErrOf result UndoError.Fault → Rose (V.state vol.old) (V.state vol.new) }
+    ensures never_bad { IfBad result (λ name. ⊥) }
+    ensures never_full { IfFull result (λ name. ⊥) }
 {
     let mut after = entries_of(alloc)?;
     for _ in 0..u64::MAX {
@@ -49,5 +51,5 @@ pub(crate) fn remove_unread<V: Volume>(
         remove_entry(vol, entries, &name)?;
         after = name;
     }
-    Err(OpFault::NoMemory)
+    Err(UndoError::NoMemory)
 }
