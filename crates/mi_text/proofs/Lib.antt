@@ -1,3 +1,4 @@
+pub mod ByteLemmas
 pub mod GuidLemmas
 pub mod MapLemmas
 pub mod NextLemmas
