@@ -1,5 +1,5 @@
 -- Which entries have a record: limits and rules.
-use Rattle.std.specs.Prelude.{◌≡◌, ℕ, ◌^◌, ◌<◌, nat_lt, nat_le, ◌==◌, ◌&&◌, not, Bool, true, List, [], ◌∷◌, length, Option, Some, None, FitsSigned}
+use Rattle.std.specs.Prelude.{ℕ, ◌^◌, ◌<◌, nat_lt, nat_le, ◌==◌, ◌&&◌, not, Bool, true, List, [], ◌∷◌, length, Option, Some, None, FitsSigned}
 use Rattle.std.specs.List.{slice_split, list_all, AllByRecursion}
 use Rattle.std.specs.Str.{IsUtf8, bytes_eq}
 use Rattle.std.specs.Int.{w16}

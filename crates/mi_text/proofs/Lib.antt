@@ -3,3 +3,4 @@ pub mod GuidLemmas
 pub mod MapLemmas
 pub mod NextLemmas
 pub mod PathLemmas
+pub mod PieceLemmas

@@ -1,0 +1,6 @@
+pub mod ItemLemmas
+pub mod LookLemmas
+pub mod PrefixLemmas
+pub mod RankLemmas
+pub mod ReadLemmas
+pub mod ScanLemmas

@@ -1,0 +1,64 @@
+//! The image of a machine.
+
+ghost use Rattle.std.specs.Prelude.{◌≡◌, OnOk, OnErr};
+ghost use Rattle.std.specs.Option.{option_copied};
+ghost use Rattle.std.specs.FinMap as map;
+ghost use Rattle.mi_image.specs.Items.{MayStand, AreRight};
+
+use crate::item::Item;
+use mi_base::{Name, NoMemory};
+use std::alloc::Global;
+use std::collections::BTreeMap;
+use std::marker::Model;
+
+/// What a machine is, without the bytes of its files: of each file its head and where its bytes are, and
+/// every other entry whole (this project's own). It is kept by the names of the volume, in byte order.
+#[derive(Drop)]
+pub struct Image {
+    items: BTreeMap<Vec<u8>, Item>,
+}
+
+impl Model for Image {
+    ghost use Rattle.std.specs.FinMap as map;
+    ghost use Rattle.std.specs.Coded.{coded_list, coded_ℕ};
+    ghost use Rattle.mi_image.specs.contracts.item.Item as item;
+    ghost use Rattle.mi_image.specs.Items.{Items, items_of, AreRight};
+
+    ghost Value = { Items };
+
+    ghost coded = { map.code (coded_list coded_ℕ) item.the_row.coded };
+
+    ghost view = { λ a. items_of a.items.entries };
+
+    ghost invariant = { λ a. AreRight (items_of a.items.entries) };
+}
+
+impl Image {
+    /// The image of nothing, which takes no memory.
+    pub(crate) fn new(alloc: Global) -> Image
+        ensures { result ≡ map.empty }
+    {
+        Image {
+            items: BTreeMap::new(alloc),
+        }
+    }
+
+    /// What stands at a name. It takes no memory.
+    pub(crate) fn get(&self, name: &[u8]) -> Option<&Item>
+        ensures value { option_copied result ≡ map.get self.now name.now }
+        ensures right { AreRight self.now }
+    {
+        self.items.get(name)
+    }
+
+    /// Sets what stands at a name.
+    pub(crate) fn put(&mut self, alloc: Global, name: &Name, item: Item) -> Result<(), NoMemory>
+        requires { MayStand name.now item }
+        ensures ok { OnOk result (self.new ≡ map.insert self.old name.now item) }
+        ensures err { OnErr result (self.new ≡ self.old) }
+    {
+        let key = Vec::from_slice(alloc, name.as_bytes())?;
+        self.items.insert(key, item)?;
+        Ok(())
+    }
+}

@@ -1,0 +1,12 @@
+//! The image of a machine: what a scan of the volume reads, without the bytes of files.
+#![tactic(auto)]
+
+mod fault;
+mod image;
+mod item;
+mod reading;
+mod scan;
+
+pub use fault::ImageError;
+pub use image::Image;
+pub use item::Content;
