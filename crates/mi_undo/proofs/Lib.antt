@@ -35,3 +35,5 @@ pub mod SpareLemmas
 mod InsideLemmas
 mod SweepLemmas
 pub mod SettleSteps
+mod LawLemmas
+mod TestLemmas

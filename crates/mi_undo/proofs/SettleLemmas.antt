@@ -64,7 +64,7 @@ read_new d k (suc n) seen ns new is =
     by_entry None at e more = absurd (cc)
     by_entry (Some m) at e more = more m (are_new-append [] seen m new (entry_new seen (get d (entry_name k)) m at)) e
 
-first_at_most : (d : Map) (k n : ℕ) → first_shut d k n ≤ k + n
+pub first_at_most : (d : Map) (k n : ℕ) → first_shut d k n ≤ k + n
 unfolding first_shut
 first_at_most d k zero = omega arith
 first_at_most d k (suc n) = elim (is_one (get d (gate_name k))) as (λ b. cond b (first_shut d (suc k) n) k ≤ k + suc n) [ true ↦ (let far = first_at_most d (suc k) n in omega (arith, far)) | false ↦ omega arith ]
