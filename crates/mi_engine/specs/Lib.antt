@@ -5,6 +5,7 @@ pub mod Calls
 pub mod Codes
 pub mod Files
 pub mod Collected
+pub mod Ends
 pub mod Known
 pub mod Outcome
 pub mod Package

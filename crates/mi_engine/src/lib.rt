@@ -6,6 +6,7 @@ mod code;
 mod columns;
 mod ending;
 mod file;
+mod forward;
 mod load;
 mod plan;
 mod registry;

@@ -27,3 +27,8 @@ pub mod BackLemmas
 mod ReturnLemmas
 pub mod PutLemmas
 pub mod BeginLemmas
+mod DecodeLemmas
+mod HalfLemmas
+pub mod ReadLemmas
+pub mod SettleLemmas
+pub mod SpareLemmas

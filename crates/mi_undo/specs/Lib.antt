@@ -11,3 +11,4 @@ pub mod Clear
 pub mod Commit
 pub mod Begins
 pub mod Back
+pub mod Reading
