@@ -11,3 +11,6 @@ pub mod Outcome
 pub mod Package
 pub mod Rows
 pub mod Words
+pub mod Changes
+pub mod Falls
+pub mod Looks

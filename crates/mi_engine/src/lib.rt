@@ -2,12 +2,16 @@
 #![tactic(auto)]
 
 mod answer;
+mod carry;
+mod changes;
 mod code;
 mod columns;
 mod ending;
+mod fall;
 mod file;
 mod forward;
 mod load;
+mod piece;
 mod plan;
 mod registry;
 mod rows;

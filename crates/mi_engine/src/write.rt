@@ -1,12 +1,13 @@
 //! Writing what is planned.
 
-ghost use Rattle.std.specs.Prelude.{◌≡◌, ◌≤◌, ◌++◌, OnOk, IfErr, length, take, drop};
+ghost use Rattle.std.specs.Prelude.{◌≡◌, ◌≤◌, ◌++◌, OnOk, IfErr, length};
 ghost use Rattle.std.specs.FinMap.{get};
 ghost use Rattle.mi_volume.specs.Maps.{bytes_or_none};
 ghost use Rattle.mi_volume.specs.State.{Passes};
 ghost use Rattle.mi_engine.specs.Answers.{OnlyWrites};
 ghost use Rattle.mi_engine.specs.Calls.{map_of, Fails, IsVolumeStop, Overlays, WritesOne, stop_of_put};
 
+use crate::piece::piece_at;
 use crate::plan::Plan;
 use crate::stop::Stop;
 use mi_base::{Cause, Name};
@@ -22,16 +23,6 @@ fn put_stop(fault: PutFault) -> Stop
         PutFault::Failed => Stop::Refuse(Cause::VolumeFault),
         PutFault::Full => Stop::Refuse(Cause::VolumeFault),
     }
-}
-
-/// The piece from this place on.
-fn piece_at(bytes: &[u8], at: usize) -> &[u8]
-    requires { at ≤ length bytes.now }
-    ensures piece { result.now ≡ take PIECE (drop at bytes.now) }
-    ensures short { length result.now ≤ PIECE }
-{
-    let rest = &bytes[at..];
-    &rest[..rest.len().min(PIECE)]
 }
 
 /// Writes the first piece of a record.
