@@ -1,6 +1,11 @@
+mod CarryLemmas
+mod ChangeLemmas
+mod EndLemmas
 mod EntryLemmas
+mod FallLemmas
 mod FileLemmas
 mod LoadLemmas
+mod LookLemmas
 mod PlanLemmas
 mod RegistryLemmas
 mod ResultLemmas

@@ -36,7 +36,7 @@ pub first_piece : {T E : Type 0} (name bytes piece : List ℕ) (old new : State)
 first_piece name bytes piece old new r writes is = subst (λ (b : List ℕ). WritesOne name b old new r) is writes
 
 -- giving a name bytes twice
-insert_twice : (m : Map) (name a b : List ℕ) → insert (insert m name a) name b ≡ insert m name b
+pub insert_twice : (m : Map) (name a b : List ℕ) → insert (insert m name a) name b ≡ insert m name b
 insert_twice m name a b = same _ _ (λ q. get-set_to (insert m name a) name (Some b) q ∙ step q (same_name q name) refl ∙ sym (get-set_to m name (Some b) q))
   where
     step : (q : Name) (t : Bool) → same_name q name ≡ t → cond t (Some b) (get (insert m name a) q) ≡ cond t (Some b) (get m q)

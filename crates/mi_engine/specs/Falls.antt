@@ -1,5 +1,5 @@
 -- Writing a plan over an open rollback area, and going back.
-use Rattle.std.specs.Prelude.{◌≡◌, ◌⊎◌, ◌≤◌, ℕ, List, Some, Result, Ok, Err, OnOk, IsNone}
+use Rattle.std.specs.Prelude.{◌≡◌, ◌⊎◌, ◌≤◌, ℕ, List, None, Some, Result, Ok, Err, OnOk, IsNone}
 use Rattle.std.specs.List.{All, Contains}
 use Rattle.mi_text.specs.Maps.{Name}
 use Rattle.mi_volume.specs.Maps.{Map}
@@ -56,6 +56,10 @@ fell (Ok x) why begun again = gone why
 fell (Err back.NoMemory) why begun again = kind.NoMemory
 fell (Err back.Fault) why begun again = stuck why begun again
 fell (Err back.Full) why begun again = stuck why begun again
+
+-- the answer where it isn't known whether a commit holds
+abbrev pub unknown : ℕ → ℕ → Kind
+unknown first second = kind.Suspended (record { place = InCommit; why = None; begun = first; again = second })
 
 -- what a stop is answered by after going back
 abbrev pub AnswersStop : Stop → ℕ → ℕ → Kind → Type 0

@@ -81,6 +81,7 @@ pub fn make_changes<V: Volume>(
     requires fresh { IsFresh area.old }
     requires outside { AreOutside names.now }
     requires names { names.now ≡ names_in changes.now }
+    requires works { V.told → (F : Map) × Works (V.state (volume area.old)) area.old.kept F }
     ensures reference { area.new.vol.ghost_name ≡ area.old.vol.ghost_name }
     ensures live { IsLive area.new }
     ensures working { OnOk result (IsWorking area.new) }

@@ -89,7 +89,7 @@ fn changes<V: Volume>(
     plan: Plan,
 ) -> Result<Vec<(Name, Bytes)>, Stop>
     requires outside { NothingInside (map_of plan.entries) }
-    ensures changes { V.told → IfOk result (λ es. es.items ≡ changes_of (V.state vol.old).held plan.entries) }
+    ensures changes { V.told → IfOk result (λ es. es.items ≡ changes_of (V.state vol.old).held (entries (map_of plan.entries))) }
     ensures outside { IfOk result (λ es. AreOutside (names_in es.items)) }
     ensures looks { V.told → Looks (V.state vol.old) (V.state vol.new) }
     ensures passes { Passes (V.state vol.old) (V.state vol.new) }

@@ -1,10 +1,9 @@
 //! Which names a run writes.
 
-ghost use Rattle.std.specs.Prelude.{◌≡◌, ◌∷◌, [], ◌++◌, ◌<◌, ◌≤◌, true, false, List, ℕ, take, filter, map, IfOk, IfErr, OnOk};
+ghost use Rattle.std.specs.Prelude.{◌≡◌, ◌∷◌, [], ◌++◌, ◌<◌, ◌≤◌, true, List, ℕ, take, filter, map, IfOk, IfErr, OnOk};
 ghost use Rattle.std.specs.FinMap.{get};
 ghost use Rattle.mi_base.specs.Limits.{is_key};
 ghost use Rattle.mi_volume.specs.State.{Passes};
-ghost use Rattle.mi_undo.specs.Names.{is_inside};
 ghost use Rattle.mi_engine.specs.After.{is_new, key_entry, value_entry, path_of, planned};
 ghost use Rattle.mi_engine.specs.Built.{Row};
 ghost use Rattle.mi_engine.specs.Calls.{map_of, Fails, IsVolumeStop, Adds};
@@ -28,7 +27,6 @@ const LOCAL_MACHINE: u8 = 2;
 fn key_record(alloc: Global, key: &str) -> Result<(Name, Bytes), Stop>
     requires { is_key key.now ≡ true }
     ensures record { IfOk result (λ e. e ≡ key_entry key.now) }
-    ensures outside { IfOk result (λ e. is_inside e.0 ≡ false) }
     ensures stopped { IfErr result (λ stop. stop ≡ Stop.NoMemory) }
 {
     let shown = Text::copy_of(alloc, key)?;
@@ -42,7 +40,6 @@ fn key_record(alloc: Global, key: &str) -> Result<(Name, Bytes), Stop>
 /// The name and the record of the value that a row writes.
 fn value_record(alloc: Global, row: &RegistryRow) -> Result<(Name, Bytes), Stop>
     ensures record { IfOk result (λ e. e ≡ value_entry row.now) }
-    ensures outside { IfOk result (λ e. is_inside e.0 ≡ false) }
     ensures stopped { IfErr result (λ stop. stop ≡ Stop.NoMemory) }
 {
     let key = fold(alloc, row.key())?;
