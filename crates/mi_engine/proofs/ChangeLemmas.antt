@@ -1,5 +1,5 @@
 -- Which names of a plan change, and the map with them.
-use Rattle.std.proofs.Common.{◌≡◌, ℕ, ◌+◌, ◌≤◌, ◌<◌, Bool, true, false, cond, not, T, ◌&&◌, ◌||◌, List, [], ◌∷◌, ◌++◌, length, map, take, drop, get_or, Option, Some, None, refl, sym, ap, subst, ◌∙◌, arith}
+use Rattle.std.proofs.Common.{◌≡◌, ℕ, ◌+◌, ◌≤◌, ◌<◌, Bool, true, false, cond, not, T, ◌&&◌, ◌||◌, List, [], ◌∷◌, ◌++◌, length, map, take, drop, get_or, Option, Some, None, refl, sym, ap, subst, ◌∙◌, arith, eqb-true, ◌==◌}
 use Rattle.std.specs.Prelude.{option_map, filter}
 use Rattle.std.specs.Ordering.{is_lt, is_eq}
 use Rattle.std.specs.declared.cmp.Ordering.{Ordering}
@@ -302,3 +302,8 @@ pub laid-push : (es : List (Name × List ℕ)) (e : Name × List ℕ) (m : Map (
 unfolding laid
 laid-push [] e m = refl
 laid-push (x ∷ es) e m = laid-push es e (insert m x.0 x.1)
+
+-- where no name changes, the rows leave the map as it is
+pub nothing_changes : (rows : List Row) (held : Map (List ℕ)) (es : List (Name × List ℕ)) → es ≡ changes_of held (entries (planned rows held)) → true ≡ (length es == 0) → held ≡ after rows held
+nothing_changes rows held [] is none = sym (laid_none held) ∙ laid_after rows held [] is
+nothing_changes rows held (e ∷ es) is none = absurd (omega (arith, eqb-true (length (e ∷ es)) 0 (sym none)))

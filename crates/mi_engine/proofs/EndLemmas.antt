@@ -27,7 +27,7 @@ use Rattle.mi_engine.specs.declared.stop.Stop.TheVariants.{NoMemory, Refuse}
 use Rattle.mi_engine.specs.Calls.{IsVolumeStop, Fails}
 use Rattle.mi_engine.specs.Looks.{Looks}
 use Rattle.mi_engine.specs.Ends.{BelowCount, IsVolumeFault, SuspendedMay, MayCommit, Allowed, AtPause, AtExit, Reads, Ends, PausedInRollback, PausedInCommit, Paused, WriteRefused, WriteCaused}
-use Rattle.mi_engine.specs.Falls.{Falls, AnswersStop, ReadsBack, gone, stuck}
+use Rattle.mi_engine.specs.Falls.{Falls, AnswersStop, ReadsBack, gone, stuck, unknown}
 
 -- ---- counts
 
@@ -151,16 +151,12 @@ done_ends n s t kept F A x c = record {
   reads = c.outside;
 }
 
-pub commit_ends : {T : Type 0} (n : ℕ) (s t : State) (kept : Kept) (F A : Map) (first second : ℕ) → Commits {T = T} s t kept F A (Err (commit.Unknown first second))
-    → Ends n s t F A (kind.Suspended (record { place = InCommit; why = None; begun = first; again = second }))
-commit_ends n s t kept F A first second c = record {
-  stops = weaker s t (EitherFor F A) (Allowed F A (BelowCount n t.faults) (kind.Suspended (record { place = InCommit; why = None; begun = first; again = second }))) (λ d is. ⊎_elim (λ f. inl f) (λ a. inr (tt, a)) is) c.goes;
-  leaves = c.unknown;
+pub commit_ends : {T : Type 0} (n : ℕ) (s t : State) (kept : Kept) (F A : Map) (first second : ℕ) (r : Result T CommitFault) → r ≡ Err (commit.Unknown first second) → Commits s t kept F A r → Ends n s t F A (unknown first second)
+commit_ends n s t kept F A first second r is c = record {
+  stops = weaker s t (EitherFor F A) (Allowed F A (BelowCount n t.faults) (unknown first second)) (λ d is. ⊎_elim (λ f. inl f) (λ a. inr (tt, a)) is) (subst (λ x. GoesOn s t (BetweenCommit F A x)) is c.goes);
+  leaves = subst (λ x. IfUnknown x (λ first second. Each t (EitherFor F A))) is c.unknown;
   reads = tt;
 }
-
-pub commit_caused : (n : ℕ) (s t : State) (first second : ℕ) → n ≤ s.faults → CountsRise s t first second → PausedInCommit n t.faults first second None
-commit_caused n s t first second le c = record { entry = omega (arith, le, c.entry); between = c.between; exit = c.exit; rose = c.second_rose; met = refl; fell = c.first_rose }
 
 -- ---- a volume with no area
 
@@ -207,3 +203,20 @@ module _ (s t : State) (free : IsFree s) (looks : Looks s t) where
     leaves = subst (λ (m : Map). Each t (StandsFor m)) same_map looks_leave;
     reads = looks_read ∙ same_map;
   }
+
+-- what a commit left in between
+pub before_goes : {T : Type 0} (s t : State) (kept : Kept) (F A : Map) (r : Result T CommitFault) → r ≡ Err commit.Before → Commits s t kept F A r → GoesOn s t (StandsFor F)
+before_goes s t kept F A r is c = subst (λ x. GoesOn s t (BetweenCommit F A x)) is c.goes
+
+pub undoable_goes : {T : Type 0} (s t : State) (kept : Kept) (F A : Map) (r : Result T CommitFault) → r ≡ Err commit.Undoable → Commits s t kept F A r → GoesOn s t (EitherFor F A)
+undoable_goes s t kept F A r is c = subst (λ x. GoesOn s t (BetweenCommit F A x)) is c.goes
+
+pub then_either : (s t u : State) (F A B : Map) → GoesOn s t (StandsFor F) → A ≡ B → GoesOn t u (EitherFor F A) → GoesOn s u (EitherFor F B)
+then_either s t u F A B first is second = subst (λ (m : Map). GoesOn s u (EitherFor F m)) is (joined s t u (EitherFor F A) (weaker s t (StandsFor F) (EitherFor F A) (λ d f. inl f) first) second)
+
+pub free_then : (old mid new : State) → Passes old mid → IsFreeUnlessRose mid new → IsFreeUnlessRose old new
+free_then old mid new passes = ⊎_elim (λ free. inl free) (λ rose. inr (rose_before old mid new passes rose))
+
+pub no_err : {T E P : Type 0} (r : Result T E) → ((e : E) → r ≡ Err e → ⊥) → OnOk r P → P
+no_err (Ok x) none p = p
+no_err (Err e) none p = absurd (none e refl)

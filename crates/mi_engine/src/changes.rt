@@ -38,12 +38,7 @@ fn has_piece<V: Volume>(
 }
 
 /// Whether a name that holds as many bytes as these holds these. They are read in pieces.
-fn has_bytes<V: Volume>(
-    alloc: Global,
-    vol: &mut V,
-    name: &Name,
-    bytes: &[u8],
-) -> Result<bool, Stop>
+fn has_bytes<V: Volume>(alloc: Global, vol: &mut V, name: &Name, bytes: &[u8]) -> Result<bool, Stop>
     requires long { V.told → (held : List ℕ) × ((get (V.state vol.old).held name.now ≡ Some held) × (length held ≡ length bytes.now)) }
     ensures value { V.told → IfOk result (λ b. b ≡ holds (get (V.state vol.old).held name.now) bytes.now) }
     ensures looks { V.told → Looks (V.state vol.old) (V.state vol.new) }
@@ -62,12 +57,7 @@ fn has_bytes<V: Volume>(
 }
 
 /// Whether a name holds exactly these bytes. No more than these are read.
-fn is_held<V: Volume>(
-    alloc: Global,
-    vol: &mut V,
-    name: &Name,
-    bytes: &[u8],
-) -> Result<bool, Stop>
+fn is_held<V: Volume>(alloc: Global, vol: &mut V, name: &Name, bytes: &[u8]) -> Result<bool, Stop>
     ensures value { V.told → IfOk result (λ b. b ≡ holds (get (V.state vol.old).held name.now) bytes.now) }
     ensures looks { V.told → Looks (V.state vol.old) (V.state vol.new) }
     ensures passes { Passes (V.state vol.old) (V.state vol.new) }
@@ -83,11 +73,7 @@ fn is_held<V: Volume>(
 }
 
 /// What is planned for the names that don't hold their record, in byte order of the names.
-fn changes<V: Volume>(
-    alloc: Global,
-    vol: &mut V,
-    plan: Plan,
-) -> Result<Vec<(Name, Bytes)>, Stop>
+fn changes<V: Volume>(alloc: Global, vol: &mut V, plan: Plan) -> Result<Vec<(Name, Bytes)>, Stop>
     requires outside { NothingInside (map_of plan.entries) }
     ensures changes { V.told → IfOk result (λ es. es.items ≡ changes_of (V.state vol.old).held (entries (map_of plan.entries))) }
     ensures outside { IfOk result (λ es. AreOutside (names_in es.items)) }

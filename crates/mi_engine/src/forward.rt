@@ -21,12 +21,7 @@ use mi_volume::Volume;
 use std::alloc::Global;
 
 /// Begins an area, makes the changes over it and commits them, or goes back. The names are those of the changes.
-fn work<V: Volume>(
-    alloc: Global,
-    vol: &mut V,
-    names: &[Name],
-    changes: &[(Name, Bytes)],
-) -> Kind
+fn work<V: Volume>(alloc: Global, vol: &mut V, names: &[Name], changes: &[(Name, Bytes)]) -> Kind
     requires free { V.told → IsFree (V.state vol.old) }
     requires outside { AreOutside names.now }
     requires names { names.now ≡ names_in changes.now }
@@ -84,15 +79,16 @@ pub fn write_rows<V: Volume>(alloc: Global, vol: &mut V, rows: &[RegistryRow]) -
     ensures caused { IsNone (V.state vol.old).capacity → WriteCaused (V.state vol.old).faults (V.state vol.new).faults result }
     ensures passes { Passes (V.state vol.old) (V.state vol.new) }
 {
-    let changes = match pending(alloc, vol, rows) {
-        Ok(changes) => changes,
+    let found = match pending(alloc, vol, rows) {
+        Ok(found) => found,
         Err(stop) => return give_up(stop),
     };
+    let changes = found.as_slice();
     if changes.is_empty() {
         return Kind::Done;
     }
-    match names_of(alloc, changes.as_slice()) {
-        Ok(names) => work(alloc, vol, names.as_slice(), changes.as_slice()),
+    match names_of(alloc, changes) {
+        Ok(names) => work(alloc, vol, names.as_slice(), changes),
         Err(_) => Kind::NoMemory,
     }
 }
