@@ -11,9 +11,10 @@ use Rattle.mi_base.specs.declared.answers.Cause.TheVariants as cause
 use Rattle.mi_engine.specs.declared.stop.Stop.{Stop}
 use Rattle.mi_engine.specs.declared.stop.Stop.TheVariants.{NoMemory, Refuse}
 use Rattle.mi_engine.specs.Calls.{IsVolumeStop}
-use Rattle.mi_engine.specs.Ends.{BelowCount, WriteCaused}
+use Rattle.mi_engine.specs.Ends.{BelowCount, WriteCaused, IsWriteKind}
 use Rattle.mi_engine.specs.Falls.{Falls, AnswersStop, fell, gone, stuck}
 use Rattle.mi_engine.proofs.EndLemmas.{raised}
+use Rattle.mi_engine.proofs.PlanLemmas.{volume_stop}
 
 pub answers : {T : Type 0} (r : Result T BackFault) (why : Stop) (begun again : ℕ) → AnswersStop why begun again (fell r why begun again)
 answers (Ok x) why begun again = inl refl
@@ -36,6 +37,27 @@ module _ (s t : State) (F : Map) where
   fallen (Err back.Fault) why begun again went = fallen_stuck why begun again back.Fault went
   fallen (Err back.Full) why begun again went = fallen_stuck why begun again back.Full went
 
+-- ---- the answers that there are
+
+pub gone_kind : (rose : Type 0) (why : Stop) → IsVolumeStop rose why → IsWriteKind (gone why)
+gone_kind rose NoMemory is = tt
+gone_kind rose (Refuse VolumeFault) is = tt
+gone_kind rose (Refuse cause.SourceFault) is = absurd is
+gone_kind rose (Refuse (cause.Table fault)) is = absurd is
+gone_kind rose (Refuse (cause.BadWords place)) is = absurd is
+gone_kind rose (Refuse (cause.BadRollback name)) is = absurd is
+gone_kind rose (Refuse (cause.BadImage name)) is = absurd is
+
+stuck_kind : (why : Stop) (begun again : ℕ) → IsWriteKind (stuck why begun again)
+stuck_kind NoMemory begun again = tt
+stuck_kind (Refuse cause) begun again = tt
+
+pub fell_kind : {T : Type 0} (rose : Type 0) (r : Result T BackFault) (why : Stop) (begun again : ℕ) → IsVolumeStop rose why → IsWriteKind (fell r why begun again)
+fell_kind rose (Ok x) why begun again is = gone_kind rose why is
+fell_kind rose (Err back.NoMemory) why begun again is = tt
+fell_kind rose (Err back.Fault) why begun again is = stuck_kind why begun again
+fell_kind rose (Err back.Full) why begun again is = stuck_kind why begun again
+
 -- ---- causes: n is the count when the run began to write, a when going back begins, m at the exit
 
 later_gone : (n a m : ℕ) (why : Stop) → n ≤ a → a ≤ m → IsVolumeStop (BelowCount n a) why → WriteCaused n m (gone why)
@@ -56,11 +78,11 @@ later_stuck n a m (Refuse (cause.BadWords place)) le more is rose = absurd is
 later_stuck n a m (Refuse (cause.BadRollback name)) le more is rose = absurd is
 later_stuck n a m (Refuse (cause.BadImage name)) le more is rose = absurd is
 
-pub fell_caused : {T told : Type 0} (r : Result T BackFault) (why : Stop) (n : ℕ) (s t : State) → n ≤ s.faults → s.faults ≤ t.faults → IsVolumeStop (BelowCount n s.faults) why → IsNone s.capacity
+pub fell_caused : {T told : Type 0} (r : Result T BackFault) (why : Stop) (n : ℕ) (s t : State) → n ≤ s.faults → s.faults ≤ t.faults → IsVolumeStop (IsNone s.capacity → BelowCount n s.faults) why → IsNone s.capacity
     → (IsErrOf r back.Fault → Rose s t) → (IsErrOf r back.Full → told × IsSome s.capacity) → WriteCaused n t.faults (fell r why n s.faults)
-fell_caused (Ok x) why n s t le more is none fault full = later_gone n s.faults t.faults why le more is
+fell_caused (Ok x) why n s t le more is none fault full = later_gone n s.faults t.faults why le more (volume_stop _ _ why (λ rose. rose none) is)
 fell_caused (Err back.NoMemory) why n s t le more is none fault full = tt
-fell_caused (Err back.Fault) why n s t le more is none fault full = later_stuck n s.faults t.faults why le more is (raised s t more (fault refl))
+fell_caused (Err back.Fault) why n s t le more is none fault full = later_stuck n s.faults t.faults why le more (volume_stop _ _ why (λ rose. rose none) is) (raised s t more (fault refl))
 fell_caused (Err back.Full) why n s t le more is none fault full = absurd (not_both s.capacity none (full refl).1)
   where
     not_both : (o : Option ℕ) → IsNone o → IsSome o → ⊥

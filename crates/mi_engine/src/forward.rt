@@ -7,7 +7,7 @@ ghost use Rattle.mi_undo.specs.Area.{AreOutside};
 ghost use Rattle.mi_undo.specs.Answers.{IsFreeUnlessRose};
 ghost use Rattle.mi_engine.specs.After.{after};
 ghost use Rattle.mi_engine.specs.Changes.{laid, names_in};
-ghost use Rattle.mi_engine.specs.Ends.{Ends, WriteCaused};
+ghost use Rattle.mi_engine.specs.Ends.{Ends, WriteCaused, IsWriteKind};
 ghost use Rattle.mi_engine.specs.Falls.{unknown};
 
 use crate::carry::make_changes;
@@ -28,6 +28,7 @@ fn work<V: Volume>(alloc: Global, vol: &mut V, names: &[Name], changes: &[(Name,
     ensures ends { V.told → Ends (V.state vol.old).faults (V.state vol.old) (V.state vol.new) (V.state vol.old).held (laid changes.now (V.state vol.old).held) result }
     ensures free { V.told → result ≡ Kind.Done → IsFreeUnlessRose (V.state vol.old) (V.state vol.new) }
     ensures caused { IsNone (V.state vol.old).capacity → WriteCaused (V.state vol.old).faults (V.state vol.new).faults result }
+    ensures kinds { IsWriteKind result }
     ensures passes { Passes (V.state vol.old) (V.state vol.new) }
 {
     let begun = vol.faults();
@@ -77,6 +78,7 @@ pub fn write_rows<V: Volume>(alloc: Global, vol: &mut V, rows: &[RegistryRow]) -
     ensures ends { V.told → Ends (V.state vol.old).faults (V.state vol.old) (V.state vol.new) (V.state vol.old).held (after rows.now (V.state vol.old).held) result }
     ensures free { V.told → result ≡ Kind.Done → IsFreeUnlessRose (V.state vol.old) (V.state vol.new) }
     ensures caused { IsNone (V.state vol.old).capacity → WriteCaused (V.state vol.old).faults (V.state vol.new).faults result }
+    ensures kinds { IsWriteKind result }
     ensures passes { Passes (V.state vol.old) (V.state vol.new) }
 {
     let found = match pending(alloc, vol, rows) {
