@@ -110,3 +110,12 @@ WriteCaused n m (Recovered settled) = ⊥
 WriteCaused n m (Refused cause) = WriteRefused n m cause
 WriteCaused n m (Suspended pause) = Paused n m pause.place pause.begun pause.again pause.why
 WriteCaused n m NoMemory = Unit {0}
+
+-- the answers of a run that writes its plan
+abbrev pub IsWriteKind : Kind → Type 0
+IsWriteKind Done = Unit {0}
+IsWriteKind Listed = ⊥
+IsWriteKind (Recovered settled) = ⊥
+IsWriteKind (Refused cause) = IsVolumeFault cause
+IsWriteKind (Suspended pause) = Unit {0}
+IsWriteKind NoMemory = Unit {0}
