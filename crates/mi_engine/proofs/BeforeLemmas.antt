@@ -114,8 +114,8 @@ ends_before s t u A kind free stays go pass ends =
       stops = joined s t u (Allowed s.held A (BelowCount s.faults u.faults) kind)
           (weaker s t (Images s) (Allowed s.held A (BelowCount s.faults u.faults) kind) (λ d image. inl (free_each s free d image)) go)
           (weaker t u (Allowed s.held A (BelowCount t.faults u.faults) kind) (Allowed s.held A (BelowCount s.faults u.faults) kind)
-              (λ d is. ⊎_elim (λ f. inl f) (λ a. inr (may_commit (BelowCount t.faults u.faults) (BelowCount s.faults u.faults) (earlier s.faults t.faults u.faults go.faults pass.faults) kind a.0, a.1)) is)
-              here.stops);
+          (λ d is. ⊎_elim (λ f. inl f) (λ a. inr (may_commit (BelowCount t.faults u.faults) (BelowCount s.faults u.faults) (earlier s.faults t.faults u.faults go.faults pass.faults) kind a.0, a.1)) is)
+          here.stops);
       leaves = here.leaves;
       reads = here.reads;
     }
@@ -126,7 +126,7 @@ module _ (volume source : Type 0) (s t u : State) (o o' : Outcome) (command : Co
     ends = λ v src.
         subst (λ (A : Map). Ends s.faults s u s.held A kind) (ap (map_after s.held) (is v))
         (ends_before s t u (map_after s.held o') kind (free v) (stays v) (go v) then
-            (subst (λ (F : Map). Ends t.faults t u t.held (map_after F o') kind) (stays v).held (serves.ends v src)));
+        (subst (λ (F : Map). Ends t.faults t u t.held (map_after F o') kind) (stays v).held (serves.ends v src)));
     cleans = λ v. cleans_before s t u pass kind (serves.cleans v);
     caused = caused_before volume source o o' is (Fails s u) (Fails t u) source_fails (MayPause s u) (MayPause t u) (fails_before s t u pass) (pauses_before s t u pass) kind serves.caused;
     answers = serves.answers;

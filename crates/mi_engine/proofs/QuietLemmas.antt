@@ -118,5 +118,6 @@ module _ (volume source : Type 0) (s t : State) (o : Outcome) (command : Command
       at k b kind bytes is_kind is_log at_kind =
           subst (λ (x : Kind). Serves volume source s t o command found source_fails x b) (sym is_kind)
           (subst (λ (x : List ℕ). Serves volume source s t o command found source_fails kind x) (sym is_log) at_kind)
+
       memory : Serves volume source s t o command found source_fails NoMemory (log_of (walks (Ok command)) Clean NoMemory)
       memory = quiet_serves NoMemory (log_of (walks (Ok command)) Clean NoMemory) tt tt (answers_memory command) (Clean, (inr refl, refl))

@@ -1,5 +1,5 @@
 -- What a command leaves on a settled volume, by how it ends.
-use Rattle.std.proofs.Common.{◌≡◌, ◌⊎◌, inl, inr, ⊎_elim, ℕ, ◌-◌, ◌^◌, ◌<◌, arith, Bool, false, true, List, ◌++◌, Result, Ok, Err, refl, sym, ap, subst, ◌∙◌}
+use Rattle.std.proofs.Common.{◌≡◌, ◌⊎◌, inl, inr, ⊎_elim, ℕ, ◌-◌, ◌^◌, ◌<◌, ◌≤◌, arith, Bool, false, true, List, ◌++◌, Result, Ok, Err, refl, sym, ap, subst, ◌∙◌}
 use Rattle.std.specs.Prelude.{IsNone, IsOkAnd}
 use Rattle.mi_text.specs.declared.answers.Settled.{Settled}
 use Rattle.mi_text.specs.declared.answers.Settled.TheVariants.{Clean}
@@ -42,7 +42,7 @@ module _ (volume source : Type 0) (s t : State) (files : Files) (found : Settled
   abbrev scanned : Outcome
   scanned = of_machine files found s.held command (machine_of s.held)
 
-  scan_caused : (e : ImageError) → (volume → (name : Name) → Err {T = Items} e ≡ Err (scan.BadImage name) → machine_of s.held ≡ Err name) → (Err {T = Items} e ≡ Err scan.Fault → Rose s t) → Caused volume source scanned (Fails s t) source_fails (MayPause s t) (kind_unscanned e)
+  scan_caused : (e : ImageError) → (volume → (name : Name) → e ≡ scan.BadImage name → machine_of s.held ≡ Err name) → (e ≡ scan.Fault → Rose s t) → Caused volume source scanned (Fails s t) source_fails (MayPause s t) (kind_unscanned e)
   scan_caused scan.NoMemory bad rose = tt
   scan_caused scan.Fault bad rose = λ none. rose refl
   scan_caused (scan.BadImage name) bad rose = λ v. ap (of_machine files found s.held command) (bad v name refl)
@@ -63,7 +63,7 @@ module _ (volume source : Type 0) (s t : State) (files : Files) (found : Settled
   scan_log scan.Fault = (found, (inl refl, refl))
   scan_log (scan.BadImage name) = (found, (refl, refl))
 
-  scan_serves : (e : ImageError) → (volume → IsFree s) → (volume → Stays s t) → (volume → GoesOn s t (Images s)) → (volume → (name : Name) → Err {T = Items} e ≡ Err (scan.BadImage name) → machine_of s.held ≡ Err name) → (Err {T = Items} e ≡ Err scan.Fault → Rose s t) → Serves volume source s t scanned command (λ x. x ≡ found) source_fails (kind_unscanned e) (log_of (walks (Ok command)) found (kind_unscanned e))
+  scan_serves : (e : ImageError) → (volume → IsFree s) → (volume → Stays s t) → (volume → GoesOn s t (Images s)) → (volume → (name : Name) → e ≡ scan.BadImage name → machine_of s.held ≡ Err name) → (e ≡ scan.Fault → Rose s t) → Serves volume source s t scanned command (λ x. x ≡ found) source_fails (kind_unscanned e) (log_of (walks (Ok command)) found (kind_unscanned e))
   scan_serves e free stays go bad rose =
       quiet_serves volume source s t scanned command (λ x. x ≡ found) source_fails free stays go (kind_unscanned e) (log_of (walks (Ok command)) found (kind_unscanned e)) (quiet e) (scan_caused e bad rose) (scan_answers e command) (scan_log e)
     where
@@ -72,7 +72,7 @@ module _ (volume source : Type 0) (s t : State) (files : Files) (found : Settled
       quiet scan.Fault = tt
       quiet (scan.BadImage name) = tt
 
-  pub unscanned_serves : (e : ImageError) (r : Reply) → (volume → IsFree s) → (volume → Stays s t) → (volume → GoesOn s t (Images s)) → (volume → (name : Name) → Err {T = Items} e ≡ Err (scan.BadImage name) → machine_of s.held ≡ Err name) → (Err {T = Items} e ≡ Err scan.Fault → Rose s t) → Replies (walks (Ok command)) found (kind_unscanned e) r → Serves volume source s t scanned command (λ x. x ≡ found) source_fails r.kind (log_in r)
+  pub unscanned_serves : (e : ImageError) (r : Reply) → (volume → IsFree s) → (volume → Stays s t) → (volume → GoesOn s t (Images s)) → (volume → (name : Name) → e ≡ scan.BadImage name → machine_of s.held ≡ Err name) → (e ≡ scan.Fault → Rose s t) → Replies (walks (Ok command)) found (kind_unscanned e) r → Serves volume source s t scanned command (λ x. x ≡ found) source_fails r.kind (log_in r)
   unscanned_serves e r free stays go bad rose is =
       replied volume source s t scanned command (λ x. x ≡ found) source_fails free stays go (kind_unscanned e) (log_of (walks (Ok command)) found (kind_unscanned e)) r (scan_serves e free stays go bad rose) is
 
@@ -92,6 +92,7 @@ module _ (volume source : Type 0) (s : State) (files : Files) (found : Settled) 
     where
       stays : volume → Stays s s
       stays v = looks_still s
+
       go : volume → GoesOn s s (Images s)
       go v = started s (Images s)
 
@@ -103,10 +104,13 @@ module _ (volume source : Type 0) (s : State) (files : Files) (found : Settled) 
     where
       text : List ℕ
       text = products_text_of (machine_over s.held files image)
+
       o : Outcome
       o = of_command files found s.held (machine_over s.held files image) Products
+
       stays : volume → Stays s s
       stays v = looks_still s
+
       go : volume → GoesOn s s (Images s)
       go v = started s (Images s)
 
@@ -148,10 +152,13 @@ module _ (volume source : Type 0) (files : Files) (folder : List ℕ) (found : S
     where
       o : Outcome
       o = of_package s.held loaded
+
       stays : volume → Stays s s
       stays v = looks_still s
+
       go : volume → GoesOn s s (Images s)
       go v = started s (Images s)
+
       quiet : (e : Stop) → IsQuiet (kind_unloaded e)
       quiet stop.NoMemory = tt
       quiet (stop.Refuse cause) = tt
@@ -161,21 +168,21 @@ module _ (volume source : Type 0) (files : Files) (folder : List ℕ) (found : S
     makes : source → of_package s.held loaded ≡ outcome.Done (after rows s.held)
     makes src = ap (of_package s.held) (is_loaded src)
 
-    write_caused : (kind : Kind) → (IsNone s.capacity → WriteCaused s.faults u.faults kind) → IsWriteKind kind → Caused volume source (of_package s.held loaded) (Fails s u) source_fails (MayPause s u) kind
-    write_caused Done caused is = λ v src. (after rows s.held, makes src)
-    write_caused Listed caused is = absurd is
-    write_caused (Recovered settled) caused is = absurd is
-    write_caused (Refused VolumeFault) caused is = λ none. record { rose = caused_rose (caused none) }
+    write_caused : s.faults ≤ u.faults → (kind : Kind) → (IsNone s.capacity → WriteCaused s.faults u.faults kind) → IsWriteKind kind → Caused volume source (of_package s.held loaded) (Fails s u) source_fails (MayPause s u) kind
+    write_caused le Done caused is = λ v src. (after rows s.held, makes src)
+    write_caused le Listed caused is = absurd is
+    write_caused le (Recovered settled) caused is = absurd is
+    write_caused le (Refused VolumeFault) caused is = λ none. record { rose = caused_rose (caused none) }
       where
         caused_rose : BelowCount s.faults u.faults → u.faults < 2 ^ 64 - 1 → s.faults < u.faults
-        caused_rose below under = grind (arith, below)
-    write_caused (Refused (BadWords place)) caused is = absurd is
-    write_caused (Refused (BadRollback name)) caused is = absurd is
-    write_caused (Refused (BadImage name)) caused is = absurd is
-    write_caused (Refused SourceFault) caused is = absurd is
-    write_caused (Refused (Table fault)) caused is = absurd is
-    write_caused (Suspended pause) caused is = (caused, λ v src. (after rows s.held, makes src))
-    write_caused NoMemory caused is = tt
+        caused_rose below under = grind (arith, le, below)
+    write_caused le (Refused (BadWords place)) caused is = absurd is
+    write_caused le (Refused (BadRollback name)) caused is = absurd is
+    write_caused le (Refused (BadImage name)) caused is = absurd is
+    write_caused le (Refused SourceFault) caused is = absurd is
+    write_caused le (Refused (Table fault)) caused is = absurd is
+    write_caused le (Suspended pause) caused is = (caused, λ v src. (after rows s.held, makes src))
+    write_caused le NoMemory caused is = tt
 
     write_answers : (kind : Kind) → IsWriteKind kind → AnswersCommand (Install folder) kind
     write_answers Done is = tt
@@ -211,11 +218,11 @@ module _ (volume source : Type 0) (files : Files) (folder : List ℕ) (found : S
     write_log o (Suspended pause) bytes is log = log
     write_log o NoMemory bytes is log = log
 
-    pub write_serves : (kind : Kind) (bytes : List ℕ) → (volume → Ends s.faults s u s.held (after rows s.held) kind) → (volume → kind ≡ Done → IsFreeUnlessRose s u) → (IsNone s.capacity → WriteCaused s.faults u.faults kind) → IsWriteKind kind → WriteLogs found kind bytes → Serves volume source s u (of_package s.held loaded) (Install folder) (λ x. x ≡ found) source_fails kind bytes
-    write_serves kind bytes ends free caused is log = record {
+    pub write_serves : s.faults ≤ u.faults → (kind : Kind) (bytes : List ℕ) → (volume → Ends s.faults s u s.held (after rows s.held) kind) → (volume → kind ≡ Done → IsFreeUnlessRose s u) → (IsNone s.capacity → WriteCaused s.faults u.faults kind) → IsWriteKind kind → WriteLogs found kind bytes → Serves volume source s u (of_package s.held loaded) (Install folder) (λ x. x ≡ found) source_fails kind bytes
+    write_serves le kind bytes ends free caused is log = record {
       ends = λ v src. subst (λ (A : Map). Ends s.faults s u s.held A kind) (sym (ap (map_after s.held) (makes src))) (ends v);
       cleans = λ v. write_cleans kind (free v) is;
-      caused = write_caused kind caused is;
+      caused = write_caused le kind caused is;
       answers = write_answers kind is;
       log = write_log (of_package s.held loaded) kind bytes is log;
     }
