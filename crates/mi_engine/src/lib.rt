@@ -24,4 +24,8 @@ pub use code::answer_code;
 pub use top::run;
 
 #[cfg(test)]
+mod command_tests;
+#[cfg(test)]
+mod stop_tests;
+#[cfg(test)]
 mod tests;

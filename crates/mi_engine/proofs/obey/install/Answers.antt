@@ -14,13 +14,13 @@ returns-in-Ok-clause-serves g c =
     let s = g.V.Volume.state c.args.vol.now in
     let u = g.V.Volume.state c.carry_out.new.vol in
     write_serves g.V.Volume.told g.S.Source.told (g.S.Source.files c.args.src.now) c.args.folder.now c.args.settled (Rose (g.S.Source.faults c.args.src.now) (g.S.Source.faults c.load.new.src))
-        s u (package_of (g.S.Source.files c.args.src.now) c.args.folder.now) c.in-Ok.rows.items c.in-Ok.ensures.loads c.carry_out.ensures.passes.faults
-        c.carry_out.result.kind (log_in c.carry_out.result)
-        (λ told. subst (λ (rows : List Row). Ends s.faults s u s.held (after rows s.held) c.carry_out.result.kind) c.as_slice.ensures.value (c.carry_out.ensures.writes told))
-        c.carry_out.ensures.free c.carry_out.ensures.caused c.carry_out.ensures.kinds c.carry_out.ensures.log
+    s u (package_of (g.S.Source.files c.args.src.now) c.args.folder.now) c.in-Ok.rows.items c.in-Ok.ensures.loads c.carry_out.ensures.passes.faults
+    c.carry_out.result.kind (log_in c.carry_out.result)
+    (λ told. subst (λ (rows : List Row). Ends s.faults s u s.held (after rows s.held) c.carry_out.result.kind) c.as_slice.ensures.value (c.carry_out.ensures.writes told))
+    c.carry_out.ensures.free c.carry_out.ensures.caused c.carry_out.ensures.kinds c.carry_out.ensures.log
 
 pub returns-in-Err-clause-serves : goal.returns-in-Err-clause-serves
 returns-in-Err-clause-serves g c =
     unloaded_serves g.V.Volume.told g.S.Source.told (g.S.Source.files c.args.src.now) c.args.folder.now c.args.settled (Rose (g.S.Source.faults c.args.src.now) (g.S.Source.faults c.load.new.src))
-        (g.V.Volume.state c.args.vol.now) (package_of (g.S.Source.files c.args.src.now) c.args.folder.now) c.in-Err.stop c.logged.result
-        c.requires.free c.in-Err.ensures.loads c.in-Err.ensures.stopped (subst (λ (k : Kind). Replies true c.args.settled k c.logged.result) c.unloaded.ensures c.logged.ensures)
+    (g.V.Volume.state c.args.vol.now) (package_of (g.S.Source.files c.args.src.now) c.args.folder.now) c.in-Err.stop c.logged.result
+    c.requires.free c.in-Err.ensures.loads c.in-Err.ensures.stopped (subst (λ (k : Kind). Replies true c.args.settled k c.logged.result) c.unloaded.ensures c.logged.ensures)
