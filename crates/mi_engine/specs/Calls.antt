@@ -92,15 +92,3 @@ first_under q es = find name_cmp q es
 -- these entries stand behind those that are there
 abbrev pub Adds : List (Name × List ℕ) → Map (List ℕ) → Map (List ℕ) → Type 0
 Adds es old new = (q : Name) → get new q ≡ or_else (get old q) (first_under q es)
-
--- a stop of a write
-abbrev pub stop_of_put : PutFault → Stop
-stop_of_put put_memory = NoMemory
-stop_of_put put_failed = Refuse VolumeFault
-stop_of_put put_full = Refuse VolumeFault
-
--- gives one name these bytes, where it answers Ok, and changes no other
-pub record WritesOne {T E : Type 0} (name bytes : Name) (old new : State) (result : Result T E) : Type 0 where
-  pub ok : OnOk result (new.held ≡ insert old.held name bytes)
-  pub others : OthersStay name old.held new.held
-  pub dirty : OnlyDirties name old new
