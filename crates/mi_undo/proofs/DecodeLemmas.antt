@@ -1,14 +1,13 @@
 -- Reading a note of an entry.
-use Rattle.std.proofs.Common.{◌≡◌, ◌≢◌, ℕ, zero, suc, ◌+◌, ◌-◌, ◌≤◌, ◌<◌, Bool, true, false, not, ◌&&◌, cond, nat_le, List, [], ◌∷◌, ◌++◌, length, take, drop, Option, Some, None, refl, sym, ap, subst, ◌∙◌, arith, length-drop}
+use Rattle.std.proofs.Common.{◌≡◌, ◌≢◌, ℕ, zero, suc, ◌+◌, ◌-◌, ◌≤◌, ◌<◌, Bool, true, false, not, ◌&&◌, cond, nat_le, List, [], ◌∷◌, length, take, drop, Option, Some, None, refl, sym, ap, ◌∙◌, arith, length-drop}
 use Rattle.std.specs.Option.{option_map, option_and_then}
 use Rattle.std.specs.Int.{w32, w64, from_be_bytes}
 use Rattle.std.specs.Str.{is_utf8, IsUtf8}
 use Rattle.std.proofs.lemmas.Str.{is_utf8-from_IsUtf8, IsUtf8-from_is_utf8}
 use Rattle.std.proofs.lemmas.Bool.{le-leb, leb-true}
 use Rattle.std.proofs.lemmas.List.{drop-drop}
-use Rattle.mi_volume.specs.Maps.{Map}
 use Rattle.mi_undo.specs.Names.{is_inside}
-use Rattle.mi_undo.specs.Notes.{Note, is_note, split_at, text_at, blob_at, note_at}
+use Rattle.mi_undo.specs.Notes.{Note, split_at, text_at, blob_at, note_at}
 use Rattle.mi_undo.specs.Reading.{head_at, as_name, good_name, if_good, good_note, span_placed}
 use Rattle.mi_undo.specs.declared.kept.Span.{Span}
 

@@ -1,13 +1,11 @@
 -- Reading an entry, note by note.
-use Rattle.std.proofs.Common.{◌≡◌, ◌≢◌, ℕ, zero, suc, ◌+◌, ◌-◌, ◌<◌, ◌≤◌, Bool, true, false, not, ◌&&◌, nat_le, cond, List, [], ◌∷◌, ◌++◌, length, take, drop, map, is_none, Option, Some, None, Result, Ok, Err, refl, sym, ap, subst, ◌∙◌, arith, append_assoc, length-drop}
+use Rattle.std.proofs.Common.{◌≡◌, ◌≢◌, ℕ, zero, suc, ◌+◌, ◌<◌, ◌≤◌, Bool, true, false, not, ◌&&◌, nat_le, cond, List, [], ◌∷◌, ◌++◌, length, take, drop, is_none, Option, Some, None, refl, sym, ap, subst, ◌∙◌, arith, append_assoc, length-drop}
 use Rattle.std.proofs.lemmas.List.{append-nil, drop_all}
-use Rattle.std.proofs.lemmas.Bool.{leb-true}
 use Rattle.std.specs.Option.{option_map, option_and_then}
 use Rattle.std.specs.Int.{w32, w64, from_be_bytes}
 use Rattle.std.specs.FinMap.{get}
 use Rattle.mi_text.specs.Maps.{is_among}
 use Rattle.mi_volume.specs.Maps.{Map, bytes_or_none}
-use Rattle.mi_undo.specs.Names.{entry_name}
 use Rattle.mi_undo.specs.Notes.{Note, note_of, is_note, are_new, split_at, text_at, blob_at, note_at, notes_within, notes_of}
 use Rattle.mi_undo.specs.Stands.{only_new, entry_notes}
 use Rattle.mi_undo.specs.Area.{AreBelow, place_names, notes_in, note_in}

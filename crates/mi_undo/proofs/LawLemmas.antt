@@ -1,5 +1,5 @@
 -- Laws of what a map stands for.
-use Rattle.std.proofs.Common.{◌≡◌, ◌≢◌, ℕ, ◌+◌, ◌≤◌, ◌<◌, Bool, true, false, cond, not, List, [], ◌++◌, length, Option, Some, None, Result, Ok, Err, refl, sym, ap, ◌∙◌, arith}
+use Rattle.std.proofs.Common.{◌≡◌, ℕ, ◌≤◌, ◌<◌, true, false, cond, not, List, [], ◌++◌, length, Option, Some, None, Result, Ok, Err, refl, sym, ap, ◌∙◌, arith}
 use Rattle.std.specs.FinMap.{get}
 use Rattle.mi_volume.specs.Maps.{Map}
 use Rattle.mi_text.proofs.MapLemmas.{same}
@@ -11,7 +11,7 @@ use Rattle.mi_undo.specs.Reading.{IsUnread, first_shut}
 use Rattle.mi_undo.proofs.NameLemmas.{same_entry, gate_not_entry, marker_not_entry}
 use Rattle.mi_undo.proofs.NotesOf.{note_of-append, first_of_two, new_outside}
 use Rattle.mi_undo.proofs.NoteLemmas.{not_both}
-use Rattle.mi_undo.proofs.StandsLemmas.{read_opened, get-outside, get-restored, or_else, unnoted_is}
+use Rattle.mi_undo.proofs.StandsLemmas.{read_opened, get-outside, get-restored, or_else}
 use Rattle.mi_undo.proofs.SettleLemmas.{read_same, read_new, first_at_most}
 
 module _ (d e : Map) (alike : (q : List ℕ) → ¬ IsUnread (first_shut d 0 most_entries) q → get e q ≡ get d q) where

@@ -1,15 +1,15 @@
 -- Reading the area.
-use Rattle.std.proofs.Common.{◌≡◌, ◌≢◌, ℕ, zero, suc, ◌+◌, ◌-◌, ◌<◌, ◌≤◌, Bool, true, false, cond, List, [], ◌∷◌, ◌++◌, take, drop, Option, Some, None, Ok, Err, Result, IsErr, refl, sym, ap, subst, ◌∙◌, arith}
+use Rattle.std.proofs.Common.{◌≡◌, ℕ, suc, ◌+◌, ◌-◌, ◌<◌, ◌≤◌, Bool, true, false, cond, List, ◌++◌, Option, Some, None, Ok, Err, Result, IsErr, refl, sym, ap, subst, ◌∙◌, arith}
 use Rattle.std.specs.FinMap.{get}
-use Rattle.mi_volume.specs.Maps.{Map, Fits, size, bytes_or_none}
+use Rattle.mi_volume.specs.Maps.{Map, Fits, size}
 use Rattle.mi_undo.specs.Names.{gate_name, entry_name, most_entries}
 use Rattle.mi_undo.specs.Notes.{Note}
 use Rattle.mi_undo.specs.Stands.{is_one, entry_notes, read_from}
 use Rattle.mi_volume.specs.declared.volume.VolFault.{VolFault}
-use Rattle.mi_volume.specs.State.{State, GoesOn, Images, Stays}
+use Rattle.mi_volume.specs.State.{State, Images}
 use Rattle.mi_volume.proofs.Moments.{started, joined, weaker}
-use Rattle.mi_undo.specs.Area.{Knows, AreBelow, place_names, notes_in, note_in}
-use Rattle.mi_undo.specs.Reading.{Looks, AddsEntry, Turns, Half, good_note, if_good, note_placed, first_shut}
+use Rattle.mi_undo.specs.Area.{notes_in}
+use Rattle.mi_undo.specs.Reading.{Looks, AddsEntry, Turns, first_shut}
 use Rattle.mi_undo.specs.declared.kept.Place.{Place}
 use Rattle.mi_undo.specs.declared.read.Turn.{Turn}
 use Rattle.mi_undo.specs.declared.read.Turn.TheVariants.{Read, Shut, Bad}

@@ -1,18 +1,17 @@
 -- What is read keeps what the volume stands for.
-use Rattle.std.proofs.Common.{◌≡◌, ◌≢◌, inl, inr, ⊎_elim, ℕ, zero, suc, ◌+◌, ◌≤◌, ◌<◌, arith, Bool, true, false, ◌&&◌, not, cond, List, [], ◌∷◌, ◌++◌, Option, Some, None, Result, Ok, Err, refl, sym, ap, subst, ◌∙◌, ◌⊎◌, append_assoc}
-use Rattle.std.proofs.lemmas.List.{append-nil}
+use Rattle.std.proofs.Common.{◌≡◌, inl, ⊎_elim, ℕ, zero, suc, ◌+◌, ◌≤◌, ◌<◌, arith, true, false, not, cond, List, [], ◌++◌, Option, Some, None, Result, Ok, refl, sym, ap, ◌∙◌, ◌⊎◌}
 use Rattle.std.specs.FinMap.{get}
 use Rattle.mi_volume.specs.Maps.{Map}
 use Rattle.mi_volume.specs.State.{State, NothingDirty}
 use Rattle.mi_text.proofs.MapLemmas.{same}
 use Rattle.mi_undo.specs.Names.{marker, gate_name, entry_name, most_entries, is_inside}
-use Rattle.mi_undo.specs.Notes.{Note, note_of, notes_of, is_note, are_new}
+use Rattle.mi_undo.specs.Notes.{Note, note_of, notes_of, are_new}
 use Rattle.mi_undo.specs.Stands.{is_one, only_new, entry_notes, or_bad, read_from, noted, restored, outside, back_by, stands, StandsFor}
-use Rattle.mi_undo.specs.Keeps.{Keeps, IsNoted}
+use Rattle.mi_undo.specs.Keeps.{IsNoted}
 use Rattle.mi_undo.specs.Reading.{first_shut, IsUnread, Spare}
 use Rattle.mi_undo.proofs.NameLemmas.{same_entry, gate_not_entry, marker_not_entry}
 use Rattle.mi_undo.proofs.StandsLemmas.{get-outside, get-restored, or_else}
-use Rattle.mi_undo.proofs.NotesOf.{both_true, new_outside, are_new-append}
+use Rattle.mi_undo.proofs.NotesOf.{new_outside, are_new-append}
 
 or_bad_same : (o : Option (List Note)) (name : List ℕ) (f g : List Note → Result (List Note) (List ℕ)) → ((ns : List Note) → f ns ≡ g ns) → or_bad o name f ≡ or_bad o name g
 or_bad_same None name f g alike = refl

@@ -1,20 +1,18 @@
 -- The calls of settling.
-use Rattle.std.proofs.Common.{◌≡◌, ⊎_elim, ℕ, zero, suc, ◌<◌, ◌≤◌, Bool, true, false, cond, not, List, [], ◌∷◌, length, map, slice_index_or, Contains, Option, Some, None, Result, Ok, Err, IsErr, IsErrAnd, IfOk, OnOk, refl, arith, sym, ap, subst, ◌∙◌}
+use Rattle.std.proofs.Common.{◌≡◌, ⊎_elim, ℕ, zero, suc, ◌<◌, Bool, true, false, cond, not, List, [], ◌∷◌, length, map, slice_index_or, Contains, None, Result, Ok, Err, IsErr, IsErrAnd, IfOk, OnOk, refl, arith, sym, ap, subst, ◌∙◌}
 use Rattle.std.proofs.lemmas.List.{length-map}
 use Rattle.std.specs.FinMap.{get}
-use Rattle.mi_text.specs.declared.answers.Settled.{Settled}
 use Rattle.mi_text.specs.declared.answers.Settled.TheVariants.{Clean, Undone}
 use Rattle.mi_volume.specs.Maps.{Map, HoldsByte}
-use Rattle.mi_volume.specs.State.{State, GoesOn, Images, ImagesOf, Stays, NothingDirty}
+use Rattle.mi_volume.specs.State.{State, GoesOn, Images, NothingDirty}
 use Rattle.mi_volume.specs.declared.volume.Failed.{Failed}
 use Rattle.mi_volume.proofs.Moments.{weaker, joined}
 use Rattle.mi_undo.specs.Names.{marker, is_inside, most_entries}
 use Rattle.mi_undo.specs.Notes.{Note, note_of, are_new}
-use Rattle.mi_undo.specs.Stands.{is_one, read_from, noted, restored, outside, back_by, stands, settled, count_of, StandsFor}
-use Rattle.mi_undo.specs.Keeps.{Keeps, EitherFor, IsFree, Each}
-use Rattle.mi_undo.specs.Area.{AreBelow, note_in, notes_in, place_names}
+use Rattle.mi_undo.specs.Stands.{is_one, read_from, noted, restored, outside, stands, settled, StandsFor}
+use Rattle.mi_undo.specs.Keeps.{Keeps, IsFree}
+use Rattle.mi_undo.specs.Area.{note_in, notes_in, place_names}
 use Rattle.mi_undo.specs.Steps.{SealsByte}
-use Rattle.mi_undo.specs.Commit.{IsHalfway}
 use Rattle.mi_undo.specs.Clear.{IsShut, Clears}
 use Rattle.mi_undo.specs.Back.{PutsBack}
 use Rattle.mi_undo.specs.Reading.{Looks, first_shut, Spare, Spares}
@@ -25,14 +23,12 @@ use Rattle.mi_undo.specs.declared.fault.UndoError.{UndoError}
 use Rattle.mi_undo.specs.declared.fault.UndoError.TheVariants.{NoMemory, Fault, BadRollback, Full}
 use Rattle.mi_undo.proofs.FaultLemmas.{at_err}
 use Rattle.mi_undo.proofs.StandsLemmas.{clean_same, get-outside, unnoted_is}
-use Rattle.mi_undo.proofs.NoteLemmas.{not_both}
 use Rattle.mi_undo.proofs.EntryLemmas.{notes_in_same}
 use Rattle.mi_undo.proofs.BackSteps.{keeps_byte, keeps_image, back_halfway}
 use Rattle.mi_undo.proofs.CloseLemmas.{halfway_either}
 use Rattle.mi_undo.proofs.CommitLemmas.{shut_from}
-use Rattle.mi_undo.proofs.ClearLemmas.{shut_image, shut_outside, shut_held}
 use Rattle.mi_undo.proofs.SettleLemmas.{notes_new, keeps_read}
-use Rattle.mi_undo.proofs.PutLemmas.{unshut, shut_goes, shut_then}
+use Rattle.mi_undo.proofs.PutLemmas.{unshut, shut_goes}
 
 one_map : (a b : Map) → ◌≡◌ {A = Result Map (List ℕ)} (Ok a) (Ok b) → a ≡ b
 one_map a b e = cc

@@ -1,14 +1,14 @@
 -- Entries that aren't read.
-use Rattle.std.proofs.Common.{◌≡◌, ◌≢◌, ◌⊎◌, inl, inr, ⊎_elim, ℕ, ◌≤◌, ◌<◌, Bool, true, false, List, Option, Some, None, refl, sym, ap, ◌∙◌, arith}
+use Rattle.std.proofs.Common.{◌≡◌, ◌≢◌, ◌⊎◌, inl, inr, ⊎_elim, ℕ, ◌≤◌, ◌<◌, true, false, List, refl, sym, ap, ◌∙◌, arith}
 use Rattle.std.specs.FinMap.{get}
 use Rattle.mi_volume.specs.Maps.{Map, OthersStay}
 use Rattle.mi_volume.specs.State.{State, GoesOn, Images, ImagesOf, OnlyDirties, Stays}
 use Rattle.mi_volume.proofs.MapLemmas.{name_cases}
 use Rattle.mi_volume.proofs.Moments.{started, joined, weaker}
 use Rattle.mi_undo.specs.Names.{marker, entry_name, most_entries, is_inside}
-use Rattle.mi_undo.specs.Notes.{Note, note_of}
+use Rattle.mi_undo.specs.Notes.{Note}
 use Rattle.mi_undo.specs.Stands.{is_one, StandsFor}
-use Rattle.mi_undo.specs.Keeps.{Robust, IsNoted, Loose, Keeps}
+use Rattle.mi_undo.specs.Keeps.{Robust, Loose, Keeps}
 use Rattle.mi_undo.specs.Reading.{IsUnread, Spare, Spares}
 use Rattle.mi_undo.proofs.NameLemmas.{same_entry, marker_not_entry}
 use Rattle.mi_undo.proofs.OpenLemmas.{robust_step}

@@ -1,19 +1,18 @@
 -- Taking away whatever is inside the area.
-use Rattle.std.proofs.Common.{◌≡◌, ◌≢◌, ◌⊎◌, inl, inr, ⊎_elim, ℕ, arith, length, true, false, List, [], ◌∷◌, Option, Some, None, IfSome, Result, Ok, Err, IsErr, OnOk, refl, sym, ap, subst, ◌∙◌}
+use Rattle.std.proofs.Common.{◌≡◌, ◌≢◌, inl, ⊎_elim, ℕ, arith, length, true, false, List, [], ◌∷◌, Option, Some, None, IfSome, Result, Ok, Err, IsErr, OnOk, refl, sym, ap, subst, ◌∙◌}
 use Rattle.std.specs.FinMap.{get, remove}
 use Rattle.std.specs.Ordering.{is_gt, ordering_reverse}
-use Rattle.mi_text.specs.Maps.{name_cmp}
 use Rattle.mi_text.specs.Next.{is_behind, next_name}
 use Rattle.mi_text.proofs.MapLemmas.{names_total, from_same}
 use Rattle.mi_text.proofs.NextLemmas.{next-first, next-none}
-use Rattle.mi_volume.specs.Maps.{Map, IsAbove, OthersStay}
+use Rattle.mi_volume.specs.Maps.{Map, IsAbove}
 use Rattle.mi_volume.specs.State.{State, GoesOn, Images, ImagesOf, Stays}
 use Rattle.mi_volume.specs.declared.volume.Failed.{Failed}
 use Rattle.mi_volume.specs.Calls.{Removes}
 use Rattle.mi_volume.proofs.MapLemmas.{name_cases, get-remove_same, get-remove_other}
 use Rattle.mi_volume.proofs.Moments.{started, joined, weaker}
 use Rattle.mi_undo.specs.Names.{marker, is_inside}
-use Rattle.mi_undo.specs.Stands.{StandsFor, outside}
+use Rattle.mi_undo.specs.Stands.{StandsFor}
 use Rattle.mi_undo.specs.Clear.{IsShut, AreAll, Clears}
 use Rattle.mi_undo.specs.Sweep.{IsAway, Sweeps, Sweeping, Swept}
 use Rattle.mi_undo.proofs.FaultLemmas.{at_err}

@@ -1,5 +1,5 @@
 -- Settling.
-use Rattle.std.specs.Prelude.{◌≡◌, ℕ, true, false, List, [], None, Result, Ok, Err, OnOk}
+use Rattle.std.specs.Prelude.{◌≡◌, ℕ, true, false, List, [], None, Result, Ok, OnOk}
 use Rattle.std.specs.FinMap.{get}
 use Rattle.mi_volume.specs.Maps.{Map}
 use Rattle.mi_volume.specs.State.{State, GoesOn, NothingDirty}

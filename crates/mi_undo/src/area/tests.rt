@@ -10,7 +10,7 @@ use crate::fault::{CommitFault, OpFault};
 use crate::names::{MOST_ENTRIES, is_within};
 use crate::settling::settle;
 use crate::tests::held;
-use mi_text::{Name, Settled};
+use mi_text::{Bytes, Name, Settled};
 use mi_volume::{Choice, Fails, MemVolume, PIECE, Volume};
 use std::alloc::Global;
 use std::process::Abort;
@@ -344,6 +344,59 @@ fn a_run_with_any_failing_call_is_settled(rt: HostRuntime) -> Result<(), Fail> {
         }
     }
     assert!(rt; false, "the runs don't end");
+    Ok(())
+}
+
+/// Settles the volume, makes a run up to its commit, and goes back or leaves the area as it is.
+/// Answers what the name held in between, where each call was Ok and the name had four bytes.
+fn visit<V: Volume>(alloc: Global, vol: &mut V, name: &Name, goes_back: bool) -> Option<Bytes> {
+    match settle(alloc, vol) {
+        Ok(_) => (),
+        Err(_) => return None,
+    }
+    let mut area = match begin(alloc, vol) {
+        Ok(area) => area,
+        Err(Refused { vol: _, fault: _ }) => return None,
+    };
+    match carry(alloc, &mut area, RUN) {
+        Ok(()) => (),
+        Err(_) => {
+            area.end();
+            return None;
+        }
+    }
+    let size = area.size(name);
+    let bytes = area.read(alloc, name, 0, PIECE);
+    let faults = area.faults();
+    if goes_back {
+        if area.back(alloc).is_err() {
+            return None;
+        }
+    } else {
+        area.end();
+    }
+    match (size, bytes, faults) {
+        (Ok(Some(4)), Ok(bytes), 0) => Some(bytes),
+        _ => None,
+    }
+}
+
+#[test]
+fn an_area_is_gone_back_over_or_left_to_settling(rt: HostRuntime) -> Result<(), Fail> {
+    let alloc = rt.alloc();
+    let mut vol = former(alloc)?;
+    let name = Name::of(alloc, "a")?;
+    for goes_back in [true, false] {
+        let bytes = visit(alloc, &mut vol, &name, goes_back);
+        assert!(rt; matches!(&bytes, Some(bytes) if bytes.as_slice() == b"xyz!".as_slice()));
+        let settled = settle(alloc, &mut vol);
+        if goes_back {
+            assert!(rt; matches!(settled, Ok(Settled::Clean)));
+        } else {
+            assert!(rt; matches!(settled, Ok(Settled::Undone(3))));
+        }
+        assert!(rt; held(alloc, &mut vol)?.as_str() == FORMER);
+    }
     Ok(())
 }
 

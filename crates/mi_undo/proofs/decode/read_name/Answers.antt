@@ -1,4 +1,4 @@
-use Rattle.std.proofs.Common.{◌≡◌, ◌∙◌, arith, sym, ap, length, List, ℕ}
+use Rattle.std.proofs.Common.{◌∙◌, arith, sym}
 use Rattle.mi_undo.proofs.DecodeLemmas.{name_no_text, name_good}
 use Rattle.mi_undo.proofs.decode.read_name.Goals as goal
 

@@ -1,4 +1,4 @@
-use Rattle.std.proofs.Common.{◌≡◌, ◌∙◌, ℕ, List, length, take, drop, ◌-◌, Option, Some, None, arith, sym, ap, refl}
+use Rattle.std.proofs.Common.{◌∙◌, ℕ, List, length, take, drop, ◌-◌, Option, Some, None, arith, sym, ap}
 use Rattle.std.specs.FinMap.{get}
 use Rattle.mi_volume.specs.Maps.{Map, bytes_or_none}
 use Rattle.mi_undo.specs.Reading.{span_placed}

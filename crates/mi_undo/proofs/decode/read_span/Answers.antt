@@ -1,4 +1,4 @@
-use Rattle.std.proofs.Common.{◌≡◌, ◌∙◌, arith, sym, ap}
+use Rattle.std.proofs.Common.{◌∙◌, arith, sym}
 use Rattle.mi_undo.proofs.DecodeLemmas.{blob_none, blob_short, blob_there}
 use Rattle.mi_undo.proofs.decode.read_span.Goals as goal
 

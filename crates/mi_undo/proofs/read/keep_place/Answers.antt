@@ -1,4 +1,4 @@
-use Rattle.std.proofs.Common.{◌≡◌, ◌∙◌, ◌++◌, ◌∷◌, [], List, ℕ, sym, ap, subst}
+use Rattle.std.proofs.Common.{◌++◌, ◌∷◌, [], List, ℕ, subst}
 use Rattle.mi_undo.specs.Area.{Knows, place_names}
 use Rattle.mi_undo.proofs.FreshLemmas.{knows_new, knows_placed}
 use Rattle.mi_undo.proofs.read.keep_place.Goals as goal

@@ -1,5 +1,4 @@
-use Rattle.std.proofs.Common.{◌≡◌, ◌∙◌, ℕ, List, Ok, sym, ap, refl}
-use Rattle.mi_volume.specs.Maps.{Map}
+use Rattle.std.proofs.Common.{Ok, refl}
 use Rattle.mi_undo.specs.Area.{notes_in}
 use Rattle.mi_undo.proofs.ReadLemmas.{turn_shut, turn_bad, turn_more, adds_same}
 use Rattle.mi_undo.proofs.read.read_number.Goals as goal

@@ -1,4 +1,3 @@
-use Rattle.std.proofs.Common.{refl}
 use Rattle.mi_undo.proofs.SettleSteps.{named_at}
 use Rattle.mi_undo.proofs.settling.refused.Goals as goal
 

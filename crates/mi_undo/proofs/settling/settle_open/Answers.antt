@@ -1,8 +1,8 @@
-use Rattle.std.proofs.Common.{◌≡◌, length, vec_len, arith, IsSome, ℕ, Option, List, ap, subst, ◌∙◌, refl}
+use Rattle.std.proofs.Common.{◌≡◌, length, vec_len, arith, IsSome, ℕ, Option, ap, subst, ◌∙◌}
 use Rattle.mi_text.specs.declared.answers.Settled.TheVariants.{Undone}
 use Rattle.mi_volume.proofs.Moments.{joined}
 use Rattle.mi_undo.specs.Stands.{StandsFor, restored, outside}
-use Rattle.mi_undo.specs.Area.{notes_in, place_names}
+use Rattle.mi_undo.specs.Area.{notes_in}
 use Rattle.mi_undo.proofs.FaultLemmas.{at_err}
 use Rattle.mi_undo.proofs.SettleSteps.{stands_read, stands_bad, not_both_read, settled_undone, looked_goes, looked_stands, settles_looked, settles_undone, settles_cleared, bad_handed, full_handed, noted_name}
 use Rattle.mi_undo.proofs.settling.settle_open.Goals as goal

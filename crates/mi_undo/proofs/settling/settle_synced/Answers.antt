@@ -1,10 +1,8 @@
-use Rattle.std.proofs.Common.{◌≡◌, false, OnOk, ap, subst, sym, ◌∙◌}
-use Rattle.std.specs.FinMap.{get}
+use Rattle.std.proofs.Common.{false, OnOk, subst}
 use Rattle.mi_volume.specs.Maps.{Map}
-use Rattle.mi_undo.specs.Names.{marker}
-use Rattle.mi_undo.specs.Stands.{StandsFor, outside, is_one}
+use Rattle.mi_undo.specs.Stands.{StandsFor, outside}
 use Rattle.mi_undo.proofs.FaultLemmas.{at_err}
-use Rattle.mi_undo.proofs.SettleSteps.{stands_shut, not_both_read, settled_clean, looked_goes, looked_clean, looked_stands, settles_looked, settles_after, settles_cleared, at_marker, shut_looked}
+use Rattle.mi_undo.proofs.SettleSteps.{stands_shut, not_both_read, settled_clean, looked_goes, looked_stands, settles_looked, settles_after, settles_cleared, at_marker, shut_looked}
 use Rattle.mi_undo.proofs.settling.settle_synced.Goals as goal
 
 pub returns-in_err-is_open-clause-settles : goal.returns-in_err-is_open-clause-settles

@@ -1,4 +1,3 @@
-use Rattle.std.proofs.Common.{List, Ok}
 use Rattle.mi_undo.specs.Stands.{restored, outside}
 use Rattle.mi_undo.specs.Area.{notes_in}
 use Rattle.mi_undo.proofs.FaultLemmas.{at_err}

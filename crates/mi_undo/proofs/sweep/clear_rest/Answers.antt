@@ -1,8 +1,7 @@
-use Rattle.std.proofs.Common.{◌≡◌, ◌≢◌, ℕ, ◌∷◌, [], List, true, sym, ap, ◌∙◌}
+use Rattle.std.proofs.Common.{ap}
 use Rattle.mi_volume.proofs.Moments.{started, joined}
-use Rattle.mi_undo.specs.Names.{marker, is_inside}
+use Rattle.mi_undo.specs.Names.{is_inside}
 use Rattle.mi_undo.specs.Stands.{StandsFor}
-use Rattle.mi_undo.proofs.ClearLemmas.{then_cleared}
 use Rattle.mi_undo.proofs.SweepLemmas.{away_top, top_not_marker, clears_not, cleared_not, all_clears}
 use Rattle.mi_undo.proofs.sweep.clear_rest.Goals as goal
 

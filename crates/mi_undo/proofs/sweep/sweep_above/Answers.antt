@@ -1,6 +1,6 @@
-use Rattle.std.proofs.Common.{refl, sym, ap, ◌∙◌}
+use Rattle.std.proofs.Common.{refl, sym, ◌∙◌}
 use Rattle.mi_volume.proofs.Moments.{passes, then_passes}
-use Rattle.mi_undo.proofs.SweepLemmas.{none_left, past_last, still_next, above_some, sweeping_start, sweeping_looked, sweeping_step, swept_err, swept_looked, swept_all}
+use Rattle.mi_undo.proofs.SweepLemmas.{none_left, past_last, still_next, above_some, sweeping_looked, sweeping_step, swept_err, swept_looked, swept_all}
 use Rattle.mi_undo.proofs.sweep.sweep_above.Goals as goal
 
 pub returns-in_err-name-clause-swept : goal.returns-in_err-name-clause-swept

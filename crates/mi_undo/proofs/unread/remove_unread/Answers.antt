@@ -1,7 +1,4 @@
-use Rattle.std.proofs.Common.{List}
-use Rattle.mi_volume.specs.Maps.{Map}
 use Rattle.mi_volume.proofs.Moments.{passes, then_passes}
-use Rattle.mi_undo.specs.Notes.{Note}
 use Rattle.mi_undo.proofs.SpareLemmas.{spares_then, spares_looked}
 use Rattle.mi_undo.proofs.unread.remove_unread.Goals as goal
 
