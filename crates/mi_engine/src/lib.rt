@@ -26,3 +26,5 @@ pub use top::run;
 
 #[cfg(test)]
 mod tests;
+#[cfg(test)]
+mod tests_forward;
