@@ -12,4 +12,5 @@ mod ResultLemmas
 mod RowLemmas
 mod TopLemmas
 mod TreeLemmas
+mod VolumeLemmas
 mod WriteLemmas
