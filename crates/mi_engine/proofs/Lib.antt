@@ -6,6 +6,7 @@ mod FallLemmas
 mod FileLemmas
 mod LoadLemmas
 mod LookLemmas
+mod PieceLemmas
 mod PlanLemmas
 mod RegistryLemmas
 mod ResultLemmas

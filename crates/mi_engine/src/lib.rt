@@ -27,4 +27,4 @@ pub use top::run;
 #[cfg(test)]
 mod tests;
 #[cfg(test)]
-mod tests_forward;
+mod forward_tests;

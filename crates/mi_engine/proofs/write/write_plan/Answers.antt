@@ -3,7 +3,8 @@ use Rattle.std.specs.Map.Iter.{deref_pair}
 use Rattle.std.specs.BTreeMap as tree
 use Rattle.std.proofs.lemmas.Map.Iter.{iter_end, btree_map_turn}
 use Rattle.std.specs.Cmp.Lexicographic.{nat_list_cmp_total}
-use Rattle.mi_engine.proofs.WriteLemmas.{name_written, others_stay, plan_written, tree_at, record_is, record_fails}
+use Rattle.mi_engine.proofs.WriteLemmas.{name_written, others_stay, plan_written, record_is, record_fails}
+use Rattle.mi_engine.proofs.TreeLemmas.{tree_at}
 use Rattle.mi_engine.specs.Calls.{map_of}
 use Rattle.mi_engine.proofs.write.write_plan.Goals as goal
 

@@ -2,7 +2,8 @@ use Rattle.std.proofs.Common.{◌≡◌, ◌<◌, ◌+◌, ◌≤◌, ℕ, List,
 use Rattle.mi_volume.specs.State.{State}
 use Rattle.mi_volume.specs.declared.volume.TheConstants.{PIECE}
 use Rattle.mi_volume.proofs.Moments.{then_passes}
-use Rattle.mi_engine.proofs.WriteLemmas.{first_piece, next_piece, first_front, next_front, failed_piece, whole_record}
+use Rattle.mi_engine.proofs.WriteLemmas.{first_piece, next_piece, failed_piece, whole_record}
+use Rattle.mi_engine.proofs.PieceLemmas.{first_front, next_front}
 use Rattle.mi_engine.proofs.PlanLemmas.{fails_later, volume_stop}
 use Rattle.std.proofs.lemmas.Result.{err_from_is_err_and}
 use Rattle.mi_engine.proofs.write.write_record.Goals as goal
