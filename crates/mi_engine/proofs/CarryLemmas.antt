@@ -3,7 +3,7 @@ use Rattle.std.proofs.Common.{◌≡◌, ℕ, zero, suc, ◌+◌, ◌≤◌, ◌
 use Rattle.std.specs.FinMap.{get, insert}
 use Rattle.std.proofs.lemmas.List.{take_more}
 use Rattle.mi_text.specs.Maps.{Name, same_name, is_among}
-use Rattle.mi_text.proofs.MapLemmas.{get-set_to, same_itself, from_same, is_among-append}
+use Rattle.mi_text.proofs.MapLemmas.{same, get-set_to, same_itself, from_same, is_among-append}
 use Rattle.mi_volume.specs.Maps.{Map, bytes_or_none, Exceeds}
 use Rattle.mi_volume.specs.State.{State, Passes, Rose, GoesOn}
 use Rattle.mi_volume.proofs.Moments.{joined, then_passes, started}
@@ -21,7 +21,6 @@ use Rattle.mi_undo.proofs.AreaLemmas.{works_go_back}
 use Rattle.mi_engine.specs.Calls.{IsVolumeStop, Fails}
 use Rattle.mi_engine.specs.Changes.{laid, names_in}
 use Rattle.mi_engine.specs.Falls.{AreNoted, Makes, stop_of_op}
-use Rattle.mi_engine.proofs.WriteLemmas.{insert_twice}
 use Rattle.mi_engine.proofs.ChangeLemmas.{laid_none, laid-push}
 
 -- a call of the area that failed, as a stop
@@ -33,6 +32,16 @@ op_stopped old new op.Full n fault full = λ none. absurd (unlimited old.capacit
     unlimited : (o : Option ℕ) → IsNone o → Exceeds o n → ⊥
     unlimited None none passes = passes
     unlimited (Some x) none passes = cc
+
+-- giving a name bytes twice
+pub insert_twice : (m : Map) (name a b : List ℕ) → insert (insert m name a) name b ≡ insert m name b
+insert_twice m name a b = same _ _ (λ q. get-set_to (insert m name a) name (Some b) q ∙ step q (same_name q name) refl ∙ sym (get-set_to m name (Some b) q))
+  where
+    step : (q : Name) (t : Bool) → same_name q name ≡ t → cond t (Some b) (get (insert m name a) q) ≡ cond t (Some b) (get m q)
+    step q t is = elim t as (λ t. same_name q name ≡ t → cond t (Some b) (get (insert m name a) q) ≡ cond t (Some b) (get m q)) [
+      | true ↦ λ e. refl
+      | false ↦ λ e. get-set_to m name (Some a) q ∙ ap (λ t. cond t (Some a) (get m q)) e
+    ] is
 
 -- a name that is noted is outside the area
 pub noted_outside : (names : List Name) (x : Name) → AreOutside names → Contains names x → is_inside x ≡ false

@@ -22,8 +22,8 @@ use Rattle.mi_engine.specs.Calls.{Overlays, or_else, first_under}
 use Rattle.mi_engine.specs.Changes.{holds, is_change, changes_of, names_in, laid, NothingInside}
 use Rattle.mi_engine.specs.Looks.{Looks}
 use Rattle.mi_volume.proofs.Moments.{then_passes}
-use Rattle.mi_engine.proofs.FileLemmas.{take_own}
 use Rattle.mi_engine.proofs.LookLemmas.{looks_none, looks_then}
+use Rattle.mi_engine.proofs.PieceLemmas.{own_piece}
 use Rattle.mi_engine.proofs.PlanLemmas.{after_overlay}
 
 -- ---- what a name holds
@@ -80,9 +80,6 @@ other_piece (Some x) bytes piece n is differ = other (bytes_eq x bytes) refl
         let clash : true ≡ false = sym equal ∙ differ in
         cc
     other false e = refl
-
-own_piece : (piece bytes : List ℕ) (n k : ℕ) → piece ≡ take k (drop n bytes) → take (length piece) (drop n bytes) ≡ piece
-own_piece piece bytes n k is = ap (λ (l : List ℕ). take (length l) (drop n bytes)) is ∙ take_own k (drop n bytes) ∙ sym is
 
 module _ (old mid : State) (name bytes piece : List ℕ) (n k : ℕ) (t : Bool) (looks : Looks old mid) (is : t ≡ bytes_eq (take (length piece) (drop n (bytes_or_none (get mid.held name)))) piece) where
   read_before : t ≡ bytes_eq (take (length piece) (drop n (bytes_or_none (get old.held name)))) piece

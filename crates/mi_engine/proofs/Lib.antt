@@ -6,6 +6,7 @@ mod FallLemmas
 mod FileLemmas
 mod LoadLemmas
 mod LookLemmas
+mod PieceLemmas
 mod PlanLemmas
 mod RegistryLemmas
 mod ResultLemmas
@@ -17,4 +18,4 @@ mod ReplyLemmas
 mod RunLemmas
 mod TopLemmas
 mod TreeLemmas
-mod WriteLemmas
+mod VolumeLemmas

@@ -32,3 +32,5 @@ mod command_tests;
 mod stop_tests;
 #[cfg(test)]
 mod tests;
+#[cfg(test)]
+mod forward_tests;

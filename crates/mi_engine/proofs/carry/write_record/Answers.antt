@@ -1,7 +1,7 @@
 use Rattle.std.proofs.Common.{arith, lit<, ◌∙◌}
 use Rattle.mi_volume.specs.declared.volume.TheConstants.{PIECE}
 use Rattle.mi_volume.proofs.Moments.{then_passes}
-use Rattle.mi_engine.proofs.WriteLemmas.{first_front, next_front}
+use Rattle.mi_engine.proofs.PieceLemmas.{first_front, next_front}
 use Rattle.mi_engine.proofs.PlanLemmas.{fails_later, volume_stop}
 use Rattle.mi_engine.specs.Falls.{stop_of_op}
 use Rattle.std.proofs.lemmas.Result.{err_from_is_err_and}

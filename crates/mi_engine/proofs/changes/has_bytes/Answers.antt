@@ -2,7 +2,7 @@ use Rattle.std.proofs.Common.{arith, lit<}
 use Rattle.std.specs.FinMap.{get}
 use Rattle.mi_volume.specs.declared.volume.TheConstants.{PIECE}
 use Rattle.mi_volume.proofs.Moments.{then_passes}
-use Rattle.mi_engine.proofs.WriteLemmas.{next_front}
+use Rattle.mi_engine.proofs.PieceLemmas.{next_front}
 use Rattle.mi_engine.proofs.LookLemmas.{looks_then}
 use Rattle.mi_engine.proofs.ChangeLemmas.{piece_differs, piece_agrees, same_bytes}
 use Rattle.mi_engine.proofs.changes.has_bytes.Goals as goal
