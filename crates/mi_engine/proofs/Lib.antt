@@ -11,7 +11,11 @@ mod PlanLemmas
 mod RegistryLemmas
 mod ResultLemmas
 mod RowLemmas
+mod BeforeLemmas
+mod QuietLemmas
+mod ServeLemmas
+mod ReplyLemmas
+mod RunLemmas
 mod TopLemmas
 mod TreeLemmas
 mod VolumeLemmas
-mod WriteLemmas
