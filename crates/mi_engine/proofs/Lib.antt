@@ -1,6 +1,12 @@
+mod CarryLemmas
+mod ChangeLemmas
+mod EndLemmas
 mod EntryLemmas
+mod FallLemmas
 mod FileLemmas
 mod LoadLemmas
+mod LookLemmas
+mod PieceLemmas
 mod PlanLemmas
 mod RegistryLemmas
 mod ResultLemmas
@@ -12,4 +18,4 @@ mod ReplyLemmas
 mod RunLemmas
 mod TopLemmas
 mod TreeLemmas
-mod WriteLemmas
+mod VolumeLemmas

@@ -4,7 +4,7 @@ use Rattle.std.specs.FinMap.{get}
 use Rattle.mi_text.specs.declared.answers.Settled.{Settled}
 use Rattle.mi_text.specs.declared.answers.Settled.TheVariants.{Clean}
 use Rattle.mi_volume.specs.Maps.{Map}
-use Rattle.mi_volume.specs.State.{State, Stays, StaysDirty}
+use Rattle.mi_volume.specs.State.{State}
 use Rattle.mi_undo.specs.Names.{is_inside}
 use Rattle.mi_undo.specs.Notes.{Note, note_of}
 use Rattle.mi_undo.specs.Stands.{StandsFor, noted, outside}
@@ -85,16 +85,6 @@ abbrev pub SameCount : ℕ → ℕ → Type 0
 SameCount old new = (new ≡ old) × (old < 2 ^ 64 - 1)
 
 -- ---- the volume
-
--- a volume that is left as it was
-pub record Unchanged (old new : State) : Type 0 where
-  pub stays : Stays old new
-  pub still : StaysDirty old new
-
--- names that aren't among these are left as they were
-pub record OnlyWrites (names : Map) (old new : State) : Type 0 where
-  pub others : (q : List ℕ) → get names q ≡ None → get new.held q ≡ get old.held q
-  pub dirty : (q : List ℕ) → get names q ≡ None → new.dirty q → old.dirty q
 
 -- ---- the machine, where what is handed in stands for the former map F
 

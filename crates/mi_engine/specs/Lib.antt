@@ -14,3 +14,6 @@ pub mod Package
 pub mod Replies
 pub mod Rows
 pub mod Words
+pub mod Changes
+pub mod Falls
+pub mod Looks

@@ -1,7 +1,7 @@
 use Rattle.std.proofs.Common.{◌≤◌, ◌-◌, length, drop, arith, length-drop}
 use Rattle.mi_volume.specs.declared.volume.TheConstants.{PIECE}
-use Rattle.mi_engine.proofs.WriteLemmas.{piece_of}
-use Rattle.mi_engine.proofs.write.piece_at.Goals as goal
+use Rattle.mi_engine.proofs.PieceLemmas.{piece_of}
+use Rattle.mi_engine.proofs.piece.piece_at.Goals as goal
 
 pub returns-clause-piece : goal.returns-clause-piece
 returns-clause-piece c =
