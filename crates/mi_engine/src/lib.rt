@@ -29,8 +29,8 @@ pub use top::run;
 #[cfg(test)]
 mod command_tests;
 #[cfg(test)]
+mod forward_tests;
+#[cfg(test)]
 mod stop_tests;
 #[cfg(test)]
 mod tests;
-#[cfg(test)]
-mod forward_tests;

@@ -3,7 +3,7 @@
 use crate::{Answer, run};
 use mi_base::{Bytes, Cause, Kind, Name};
 use mi_source::{MemSink, MemSource};
-use mi_volume::{Fails, MemVolume, Volume};
+use mi_volume::{Fails, MemVolume, PIECE, Volume};
 use std::alloc::Global;
 use std::test::Fail;
 
@@ -73,7 +73,8 @@ pub fn held(alloc: Global, volume: &mut MemVolume) -> Result<Bytes, Fail> {
 /// Gives a volume these names and bytes, for good.
 pub fn hold(alloc: Global, volume: &mut MemVolume, names: &[(&str, &[u8])]) -> Result<(), Fail> {
     for (name, bytes) in names {
-        volume.put(alloc, &Name::of(alloc, name)?, bytes)?;
+        let piece = &bytes[..bytes.len().min(PIECE)];
+        volume.put(alloc, &Name::of(alloc, name)?, piece)?;
     }
     volume.sync()?;
     Ok(())
