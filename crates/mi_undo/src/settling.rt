@@ -116,8 +116,10 @@ fn settle_synced<V: Volume>(
     Ok(Settled::Clean)
 }
 
-/// Makes the volume what it stands for, with no rollback area. It may be stopped at any moment, and
-/// called again after any answer.
+/// Makes the volume what it stands for, with no rollback area (this project's own). It may be stopped
+/// at any moment, and called again after any answer. Fault comes only where the volume's count rose.
+/// BadRollback names the first entry that is read and absent or not spelled; all stays as it was then.
+/// Full names a noted name for whose old bytes there is no room.
 pub fn settle<V: Volume>(alloc: Global, vol: &mut V) -> Result<Settled, UndoError>
     ensures settled { V.told → IfOk result (λ s. s ≡ settled (V.state vol.old).held) }
     ensures free { V.told → IfOk result (λ s. IsFree (V.state vol.new)) }

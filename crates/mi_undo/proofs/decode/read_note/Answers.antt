@@ -10,18 +10,41 @@ pub returns-in_default-clause-value : goal.returns-in_default-clause-value
 returns-in_default-clause-value g c = λ told is all. no_head _ (sym c.in_default.is ∙ c.in_ok-tag.ensures.value told)
 
 pub returns-in_default-2-clause-value : goal.returns-in_default-2-clause-value
-returns-in_default-2-clause-value g c = λ told is all. unnamed c.args.at c.in-Some.len c.in-Some.tag _ _ (sym c.in-Some.is ∙ c.in_ok-tag.ensures.value told) (ap (λ (m : Map). bytes_or_none (get m c.args.entry.now)) (c.in_ok-tag.ensures.looks told).stays.held) (sym c.in_default-2.is ∙ c.in_ok-name.ensures.value told)
+returns-in_default-2-clause-value g c = λ told is all.
+    let tag = sym c.in-Some.is ∙ c.in_ok-tag.ensures.value told in
+    let first = ap (λ (m : Map). bytes_or_none (get m c.args.entry.now)) (c.in_ok-tag.ensures.looks told).stays.held in
+    unnamed c.args.at c.in-Some.len c.in-Some.tag _ _ tag first (sym c.in_default-2.is ∙ c.in_ok-name.ensures.value told)
 
 pub returns-then-tag-eq0-clause-value : goal.returns-then-tag-eq0-clause-value
-returns-then-tag-eq0-clause-value g c = λ told is all. placed_absent c.args.at c.in-Some.len c.in-Some.tag _ _ (sym c.in-Some.is ∙ c.in_ok-tag.ensures.value told) (ap (λ (m : Map). bytes_or_none (get m c.args.entry.now)) (c.in_ok-tag.ensures.looks told).stays.held) _ c.from.result c.from.ensures c.if-tag-eq0.true (sym c.in-Some-2.is ∙ c.in_ok-name.ensures.value told)
+returns-then-tag-eq0-clause-value g c = λ told is all.
+    let tag = sym c.in-Some.is ∙ c.in_ok-tag.ensures.value told in
+    let first = ap (λ (m : Map). bytes_or_none (get m c.args.entry.now)) (c.in_ok-tag.ensures.looks told).stays.held in
+    placed_absent c.args.at c.in-Some.len c.in-Some.tag _ _ tag first _ c.from.result c.from.ensures c.if-tag-eq0.true (sym c.in-Some-2.is ∙ c.in_ok-name.ensures.value told)
 
 pub returns-clause-value : goal.returns-clause-value
 returns-clause-value g c = λ told is all.
-    placed_held c.args.at c.in-Some.len c.in-Some.tag _ _ (sym c.in-Some.is ∙ c.in_ok-tag.ensures.value told) (ap (λ (m : Map). bytes_or_none (get m c.args.entry.now)) (c.in_ok-tag.ensures.looks told).stays.held) _ _ c.from.result (Some c.in-Some-3.span) c.from.ensures (omega (arith, c.if-tag-gt1.false, c.if-tag-eq0.false)) (sym c.in-Some-2.is ∙ c.in_ok-name.ensures.value told) (ap (λ (m : Map). bytes_or_none (get m c.args.entry.now)) ((c.in_ok-name.ensures.looks told).stays.held ∙ (c.in_ok-tag.ensures.looks told).stays.held)) (c.in_ok-span.ensures.value told (all ∙ ap (λ (l : List ℕ). length l) (sym (ap (λ (m : Map). bytes_or_none (get m c.args.entry.now)) ((c.in_ok-name.ensures.looks told).stays.held ∙ (c.in_ok-tag.ensures.looks told).stays.held)))) ∙ ap (λ (o : Option Span). span_placed (bytes_or_none (get (g.V.Volume.state c.read_name.new.vol).held c.args.entry.now)) o) c.in-Some-3.is)
-    ∙ ap (λ (n : List ℕ). Some (record { name = c.in-Some-2.name; was = Some (take (c.in-Some-3.span.end - c.in-Some-3.span.at) (drop c.in-Some-3.span.at (bytes_or_none (get (g.V.Volume.state c.args.vol.now).held n)))) }, drop c.in-Some-3.span.end (bytes_or_none (get (g.V.Volume.state c.args.vol.now).held c.args.entry.now)))) is
+    let tag = sym c.in-Some.is ∙ c.in_ok-tag.ensures.value told in
+    let first = ap (λ (m : Map). bytes_or_none (get m c.args.entry.now)) (c.in_ok-tag.ensures.looks told).stays.held in
+    let name = sym c.in-Some-2.is ∙ c.in_ok-name.ensures.value told in
+    let second = ap (λ (m : Map). bytes_or_none (get m c.args.entry.now)) ((c.in_ok-name.ensures.looks told).stays.held ∙ (c.in_ok-tag.ensures.looks told).stays.held) in
+    let span = c.in_ok-span.ensures.value told (all ∙ ap (λ (l : List ℕ). length l) (sym second)) in
+    let here = bytes_or_none (get (g.V.Volume.state c.read_name.new.vol).held c.args.entry.now) in
+    let old = c.in-Some-3.span in
+    placed_held c.args.at c.in-Some.len c.in-Some.tag _ _ tag first _ _ c.from.result (Some old) c.from.ensures (omega (arith, c.if-tag-gt1.false, c.if-tag-eq0.false)) name second (span ∙ ap (λ (o : Option Span). span_placed here o) c.in-Some-3.is)
+    ∙ ap (λ (n : List ℕ). Some (record { name = c.in-Some-2.name; was = Some (take (old.end - old.at) (drop old.at (bytes_or_none (get (g.V.Volume.state c.args.vol.now).held n)))) }, drop old.end (bytes_or_none (get (g.V.Volume.state c.args.vol.now).held c.args.entry.now)))) is
 
 pub returns-in_default-3-clause-value : goal.returns-in_default-3-clause-value
-returns-in_default-3-clause-value g c = λ told is all. placed_held c.args.at c.in-Some.len c.in-Some.tag _ _ (sym c.in-Some.is ∙ c.in_ok-tag.ensures.value told) (ap (λ (m : Map). bytes_or_none (get m c.args.entry.now)) (c.in_ok-tag.ensures.looks told).stays.held) _ _ c.from.result None c.from.ensures (omega (arith, c.if-tag-gt1.false, c.if-tag-eq0.false)) (sym c.in-Some-2.is ∙ c.in_ok-name.ensures.value told) (ap (λ (m : Map). bytes_or_none (get m c.args.entry.now)) ((c.in_ok-name.ensures.looks told).stays.held ∙ (c.in_ok-tag.ensures.looks told).stays.held)) (c.in_ok-span.ensures.value told (all ∙ ap (λ (l : List ℕ). length l) (sym (ap (λ (m : Map). bytes_or_none (get m c.args.entry.now)) ((c.in_ok-name.ensures.looks told).stays.held ∙ (c.in_ok-tag.ensures.looks told).stays.held)))) ∙ ap (λ (o : Option Span). span_placed (bytes_or_none (get (g.V.Volume.state c.read_name.new.vol).held c.args.entry.now)) o) c.in_default-3.is)
+returns-in_default-3-clause-value g c = λ told is all.
+    let tag = sym c.in-Some.is ∙ c.in_ok-tag.ensures.value told in
+    let first = ap (λ (m : Map). bytes_or_none (get m c.args.entry.now)) (c.in_ok-tag.ensures.looks told).stays.held in
+    let name = sym c.in-Some-2.is ∙ c.in_ok-name.ensures.value told in
+    let second = ap (λ (m : Map). bytes_or_none (get m c.args.entry.now)) ((c.in_ok-name.ensures.looks told).stays.held ∙ (c.in_ok-tag.ensures.looks told).stays.held) in
+    let span = c.in_ok-span.ensures.value told (all ∙ ap (λ (l : List ℕ). length l) (sym second)) in
+    let here = bytes_or_none (get (g.V.Volume.state c.read_name.new.vol).held c.args.entry.now) in
+    placed_held c.args.at c.in-Some.len c.in-Some.tag _ _ tag first _ _ c.from.result None c.from.ensures (omega (arith, c.if-tag-gt1.false, c.if-tag-eq0.false)) name second (span ∙ ap (λ (o : Option Span). span_placed here o) c.in_default-3.is)
 
 pub returns-then-tag-gt1-clause-value : goal.returns-then-tag-gt1-clause-value
-returns-then-tag-gt1-clause-value g c = λ told is all. untagged c.args.at c.in-Some.len c.in-Some.tag _ _ (sym c.in-Some.is ∙ c.in_ok-tag.ensures.value told) (ap (λ (m : Map). bytes_or_none (get m c.args.entry.now)) (c.in_ok-tag.ensures.looks told).stays.held) (λ e. omega (arith, e, c.if-tag-gt1.true)) (λ e. omega (arith, e, c.if-tag-gt1.true))
+returns-then-tag-gt1-clause-value g c = λ told is all.
+    let tag = sym c.in-Some.is ∙ c.in_ok-tag.ensures.value told in
+    let first = ap (λ (m : Map). bytes_or_none (get m c.args.entry.now)) (c.in_ok-tag.ensures.looks told).stays.held in
+    untagged c.args.at c.in-Some.len c.in-Some.tag _ _ tag first (λ e. omega (arith, e, c.if-tag-gt1.true)) (λ e. omega (arith, e, c.if-tag-gt1.true))

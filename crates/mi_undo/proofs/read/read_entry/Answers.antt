@@ -24,24 +24,47 @@ loop-at-init g c = record {
 
 pub returns-in_default-clause-adds : goal.returns-in_default-clause-adds
 returns-in_default-clause-adds g c = λ told.
-    entry_there (notes_in (g.V.Volume.state c.args.vol.now).held c.args.places.now.items) (get (g.V.Volume.state c.args.vol.now).held c.args.entry.now) _ (held_total (get (g.V.Volume.state c.args.vol.now).held c.args.entry.now) c.in-Ok-Some.total (sym c.in-Ok-Some.field-0-is ∙ c.in-Ok-Some.ensures.value told)).1 (half_bad (bytes_or_none (get (g.V.Volume.state c.args.vol.now).held c.args.entry.now)) (notes_in (g.V.Volume.state c.args.vol.now).held c.args.places.now.items) (notes_in (g.V.Volume.state c.args.vol.now).held c.loop-at.places.items) c.loop-at.at (c.loop-at.invariant.half told) (omega (arith, c.loop-at-test.true, (held_total (get (g.V.Volume.state c.args.vol.now).held c.args.entry.now) c.in-Ok-Some.total (sym c.in-Ok-Some.field-0-is ∙ c.in-Ok-Some.ensures.value told)).0)) ((placed_same (g.V.Volume.state c.args.vol.now).held (g.V.Volume.state c.loop-at.vol).held c.args.entry.now c.loop-at.at _ (c.loop-at.invariant.looks told).stays.held (c.in_ok-place.ensures.value told c.requires.entry ((held_total (get (g.V.Volume.state c.args.vol.now).held c.args.entry.now) c.in-Ok-Some.total (sym c.in-Ok-Some.field-0-is ∙ c.in-Ok-Some.ensures.value told)).0 ∙ ap (λ (m : Map). length (bytes_or_none (get m c.args.entry.now))) (sym (c.loop-at.invariant.looks told).stays.held)))) ∙ ap (λ (o : Option (Place × ℕ)). note_placed (g.V.Volume.state c.args.vol.now).held (bytes_or_none (get (g.V.Volume.state c.args.vol.now).held c.args.entry.now)) o) c.in_default.is))
+    let h = (g.V.Volume.state c.args.vol.now).held in let entry = c.args.entry.now in let bytes = bytes_or_none (get h entry) in
+    let seen = notes_in h c.args.places.now.items in let now = notes_in h c.loop-at.places.items in
+    let whole = held_total (get h entry) c.in-Ok-Some.total (sym c.in-Ok-Some.field-0-is ∙ c.in-Ok-Some.ensures.value told) in
+    let stays = (c.loop-at.invariant.looks told).stays.held in
+    let placed = placed_same h (g.V.Volume.state c.loop-at.vol).held entry c.loop-at.at _ stays (c.in_ok-place.ensures.value told c.requires.entry (whole.0 ∙ ap (λ (m : Map). length (bytes_or_none (get m entry))) (sym stays))) in
+    entry_there seen (get h entry) _ whole.1 (half_bad bytes seen now c.loop-at.at (c.loop-at.invariant.half told) (omega (arith, c.loop-at-test.true, whole.0)) (placed ∙ ap (λ (o : Option (Place × ℕ)). note_placed h bytes o) c.in_default.is))
 
 pub returns-then-not-branch-clause-adds : goal.returns-then-not-branch-clause-adds
 returns-then-not-branch-clause-adds g c = λ told.
-    entry_there (notes_in (g.V.Volume.state c.args.vol.now).held c.args.places.now.items) (get (g.V.Volume.state c.args.vol.now).held c.args.entry.now) _ (held_total (get (g.V.Volume.state c.args.vol.now).held c.args.entry.now) c.in-Ok-Some.total (sym c.in-Ok-Some.field-0-is ∙ c.in-Ok-Some.ensures.value told)).1 (half_twice (bytes_or_none (get (g.V.Volume.state c.args.vol.now).held c.args.entry.now)) (notes_in (g.V.Volume.state c.args.vol.now).held c.args.places.now.items) (notes_in (g.V.Volume.state c.args.vol.now).held c.loop-at.places.items) c.loop-at.at (c.loop-at.invariant.half told) (note_in (g.V.Volume.state c.args.vol.now).held c.in-Some.place) c.in-Some.next ((placed_same (g.V.Volume.state c.args.vol.now).held (g.V.Volume.state c.loop-at.vol).held c.args.entry.now c.loop-at.at _ (c.loop-at.invariant.looks told).stays.held (c.in_ok-place.ensures.value told c.requires.entry ((held_total (get (g.V.Volume.state c.args.vol.now).held c.args.entry.now) c.in-Ok-Some.total (sym c.in-Ok-Some.field-0-is ∙ c.in-Ok-Some.ensures.value told)).0 ∙ ap (λ (m : Map). length (bytes_or_none (get m c.args.entry.now))) (sym (c.loop-at.invariant.looks told).stays.held)))) ∙ (ap (λ (o : Option (Place × ℕ)). note_placed (g.V.Volume.state c.args.vol.now).held (bytes_or_none (get (g.V.Volume.state c.args.vol.now).held c.args.entry.now)) o) c.in-Some.is)) (noted_place (g.V.Volume.state c.args.vol.now).held c.loop-at.places.items c.in-Some.place.name _ c.in_ok-keep_place.ensures.is_new ∙ c.if-not-branch.true))
+    let h = (g.V.Volume.state c.args.vol.now).held in let entry = c.args.entry.now in let bytes = bytes_or_none (get h entry) in
+    let seen = notes_in h c.args.places.now.items in let now = notes_in h c.loop-at.places.items in
+    let whole = held_total (get h entry) c.in-Ok-Some.total (sym c.in-Ok-Some.field-0-is ∙ c.in-Ok-Some.ensures.value told) in
+    let stays = (c.loop-at.invariant.looks told).stays.held in
+    let placed = placed_same h (g.V.Volume.state c.loop-at.vol).held entry c.loop-at.at _ stays (c.in_ok-place.ensures.value told c.requires.entry (whole.0 ∙ ap (λ (m : Map). length (bytes_or_none (get m entry))) (sym stays))) in
+    let read = placed ∙ ap (λ (o : Option (Place × ℕ)). note_placed h bytes o) c.in-Some.is in
+    let known = noted_place h c.loop-at.places.items c.in-Some.place.name _ c.in_ok-keep_place.ensures.is_new in
+    entry_there seen (get h entry) _ whole.1 (half_twice bytes seen now c.loop-at.at (c.loop-at.invariant.half told) (note_in h c.in-Some.place) c.in-Some.next read (known ∙ c.if-not-branch.true))
 
 pub loop-at-preserved : goal.loop-at-preserved
 loop-at-preserved g c = record {
   knows = c.in_ok-keep_place.ensures.knows c.if-not-branch.false;
   below = below_placed c.args.number c.loop-at.places.items _ c.in-Some.place (c.in_ok-keep_place.ensures.kept c.if-not-branch.false) c.loop-at.invariant.below
       (subst (λ (o : Option (Place × ℕ)). IfSome o (λ p. p.0.entry ≡ c.args.number)) c.in-Some.is c.in_ok-place.ensures.number);
-  half = λ told. half_placed (g.V.Volume.state c.args.vol.now).held _ _ c.loop-at.places.items _ c.in-Some.place c.in-Some.next (c.in_ok-keep_place.ensures.kept c.if-not-branch.false)
-      (half_next (bytes_or_none (get (g.V.Volume.state c.args.vol.now).held c.args.entry.now)) (notes_in (g.V.Volume.state c.args.vol.now).held c.args.places.now.items) (notes_in (g.V.Volume.state c.args.vol.now).held c.loop-at.places.items) c.loop-at.at (c.loop-at.invariant.half told) (note_in (g.V.Volume.state c.args.vol.now).held c.in-Some.place) c.in-Some.next ((placed_same (g.V.Volume.state c.args.vol.now).held (g.V.Volume.state c.loop-at.vol).held c.args.entry.now c.loop-at.at _ (c.loop-at.invariant.looks told).stays.held (c.in_ok-place.ensures.value told c.requires.entry ((held_total (get (g.V.Volume.state c.args.vol.now).held c.args.entry.now) c.in-Ok-Some.total (sym c.in-Ok-Some.field-0-is ∙ c.in-Ok-Some.ensures.value told)).0 ∙ ap (λ (m : Map). length (bytes_or_none (get m c.args.entry.now))) (sym (c.loop-at.invariant.looks told).stays.held)))) ∙ (ap (λ (o : Option (Place × ℕ)). note_placed (g.V.Volume.state c.args.vol.now).held (bytes_or_none (get (g.V.Volume.state c.args.vol.now).held c.args.entry.now)) o) c.in-Some.is)) (noted_place (g.V.Volume.state c.args.vol.now).held c.loop-at.places.items c.in-Some.place.name _ c.in_ok-keep_place.ensures.is_new ∙ c.if-not-branch.false));
+  half = λ told.
+      let h = (g.V.Volume.state c.args.vol.now).held in let entry = c.args.entry.now in let bytes = bytes_or_none (get h entry) in
+      let seen = notes_in h c.args.places.now.items in let now = notes_in h c.loop-at.places.items in
+      let whole = held_total (get h entry) c.in-Ok-Some.total (sym c.in-Ok-Some.field-0-is ∙ c.in-Ok-Some.ensures.value told) in
+      let stays = (c.loop-at.invariant.looks told).stays.held in
+      let placed = placed_same h (g.V.Volume.state c.loop-at.vol).held entry c.loop-at.at _ stays (c.in_ok-place.ensures.value told c.requires.entry (whole.0 ∙ ap (λ (m : Map). length (bytes_or_none (get m entry))) (sym stays))) in
+      let read = placed ∙ ap (λ (o : Option (Place × ℕ)). note_placed h bytes o) c.in-Some.is in
+      let known = noted_place h c.loop-at.places.items c.in-Some.place.name _ c.in_ok-keep_place.ensures.is_new in
+      half_placed h bytes seen c.loop-at.places.items _ c.in-Some.place c.in-Some.next (c.in_ok-keep_place.ensures.kept c.if-not-branch.false)
+      (half_next bytes seen now c.loop-at.at (c.loop-at.invariant.half told) (note_in h c.in-Some.place) c.in-Some.next read (known ∙ c.if-not-branch.false));
   looks = λ told. look_then _ _ _ (c.loop-at.invariant.looks told) (c.in_ok-place.ensures.looks told);
   passes = then_passes _ _ _ c.loop-at.invariant.passes c.read_note.ensures.passes;
 }
 
 pub returns-clause-adds : goal.returns-clause-adds
 returns-clause-adds g c = λ told.
+    let h = (g.V.Volume.state c.args.vol.now).held in let entry = c.args.entry.now in let bytes = bytes_or_none (get h entry) in
+    let seen = notes_in h c.args.places.now.items in let now = notes_in h c.loop-at.places.items in
+    let whole = held_total (get h entry) c.in-Ok-Some.total (sym c.in-Ok-Some.field-0-is ∙ c.in-Ok-Some.ensures.value told) in
     let half = c.loop-at.invariant.half told in
-    (half.done, (entry_there (notes_in (g.V.Volume.state c.args.vol.now).held c.args.places.now.items) (get (g.V.Volume.state c.args.vol.now).held c.args.entry.now) _ (held_total (get (g.V.Volume.state c.args.vol.now).held c.args.entry.now) c.in-Ok-Some.total (sym c.in-Ok-Some.field-0-is ∙ c.in-Ok-Some.ensures.value told)).1 (half_end (bytes_or_none (get (g.V.Volume.state c.args.vol.now).held c.args.entry.now)) (notes_in (g.V.Volume.state c.args.vol.now).held c.args.places.now.items) (notes_in (g.V.Volume.state c.args.vol.now).held c.loop-at.places.items) c.loop-at.at (c.loop-at.invariant.half told) (omega (arith, c.loop-at-test.false, (held_total (get (g.V.Volume.state c.args.vol.now).held c.args.entry.now) c.in-Ok-Some.total (sym c.in-Ok-Some.field-0-is ∙ c.in-Ok-Some.ensures.value told)).0))), half.now_is))
+    (half.done, (entry_there seen (get h entry) _ whole.1 (half_end bytes seen now c.loop-at.at half (omega (arith, c.loop-at-test.false, whole.0))), half.now_is))
