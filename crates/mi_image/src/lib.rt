@@ -4,6 +4,7 @@
 mod fault;
 mod image;
 mod item;
+mod lists;
 mod reading;
 mod scan;
 

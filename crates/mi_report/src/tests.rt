@@ -1,7 +1,10 @@
 //! Logs of the commands, by the texts that they have.
 
+use crate::listings::push_product;
 use crate::{Outcome, report};
-use mi_base::{Cause, Fault, IdtFault, Kind, Name, Pause, Place, Settled, Text, Texts};
+use mi_base::{
+    Cause, Fault, Guid, IdtFault, Kind, Name, Pause, Place, Product, Settled, Text, Texts, Version,
+};
 use std::alloc::Global;
 use std::process::Abort;
 use std::test::Fail;
@@ -93,4 +96,51 @@ fn a_walk_says_what_was_undone_and_which_actions_were_begun(rt: HostRuntime) -> 
     let lines = b"Recovered: 3\nAction: LaunchConditions\nAction: CostFinalize\nResult: Done\n";
     assert_eq!(rt; log.as_slice(), lines.as_slice());
     Ok(())
+}
+
+// A product of version 1.0, in English.
+fn product(alloc: Global, name: &str, features: Texts) -> Result<Product, Fail> {
+    Ok(Product {
+        code: Guid {
+            number: 0x1111_1111_1111_1111_1111_1111_1111_1111,
+        },
+        name: text(alloc, name)?,
+        version: Version {
+            major: 1,
+            minor: 0,
+            build: 0,
+            revision: 0,
+        },
+        language: 1033,
+        features,
+    })
+}
+
+// The listing of one product is this line.
+fn assert_line(rt: &impl Abort, alloc: Global, product: &Product, line: &str) -> Result<(), Fail> {
+    let mut out = Vec::new(alloc);
+    push_product(alloc, &mut out, product)?;
+    assert_eq!(rt; out.as_slice(), line.as_bytes(), "{line}");
+    Ok(())
+}
+
+#[test]
+fn a_product_has_its_line(rt: HostRuntime) -> Result<(), Fail> {
+    let alloc = rt.alloc();
+    let mut features = Texts::new(alloc);
+    features.push(text(alloc, "Main")?)?;
+    let demo = product(alloc, "Demo", features)?;
+    let line = "{11111111-1111-1111-1111-111111111111} 1.0.0.0 1033 Main Demo\n";
+    assert_line(&rt, alloc, &demo, line)
+}
+
+#[test]
+fn features_are_joined_and_low_bytes_are_shown(rt: HostRuntime) -> Result<(), Fail> {
+    let alloc = rt.alloc();
+    let mut features = Texts::new(alloc);
+    features.push(text(alloc, "Do\ncs")?)?;
+    features.push(text(alloc, "Main")?)?;
+    let demo = product(alloc, "De\tmo", features)?;
+    let line = "{11111111-1111-1111-1111-111111111111} 1.0.0.0 1033 Do?cs,Main De?mo\n";
+    assert_line(&rt, alloc, &demo, line)
 }
