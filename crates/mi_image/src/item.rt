@@ -1,6 +1,6 @@
 //! What stands at the names of an image.
 
-use mi_base::{Entry, FileHead, Name, Text};
+use mi_base::{Entry, FileHead, Name, Product, Text};
 
 /// Where the bytes of an image's file are (this project's own).
 #[derive(Debug, Drop)]

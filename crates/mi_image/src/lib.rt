@@ -1,9 +1,11 @@
 //! The image of a machine: what a scan of the volume reads, without the bytes of files.
 #![tactic(auto)]
 
+mod buffer;
 mod fault;
 mod image;
 mod item;
+mod kinds;
 mod reading;
 mod scan;
 
