@@ -1,5 +1,6 @@
 pub mod ItemLemmas
 pub mod LookLemmas
+pub mod LookupLemmas
 pub mod PrefixLemmas
 pub mod RankLemmas
 pub mod ReadLemmas

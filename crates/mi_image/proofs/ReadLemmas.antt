@@ -20,7 +20,6 @@ use Rattle.mi_base.specs.Machine.{ok_entry}
 use Rattle.mi_base.proofs.ByteLemmas.{bytes-append}
 use Rattle.mi_base.proofs.EntryLemmas.{spells}
 use Rattle.mi_base.proofs.HeadLemmas.{head_takes}
-use Rattle.mi_base.proofs.NameLemmas.{name_length}
 use Rattle.mi_image.specs.declared.item.Content.TheVariants.{Held}
 use Rattle.mi_image.specs.declared.item.Item.{Item}
 use Rattle.mi_image.specs.declared.item.Item.TheVariants.{Head, Whole}

@@ -1,4 +1,5 @@
 pub mod Faults
 pub mod Items
+pub mod Lookups
 pub mod Looks
 pub mod Scan

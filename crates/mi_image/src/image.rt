@@ -1,10 +1,12 @@
 //! The image of a machine.
 
-ghost use Rattle.std.specs.Prelude.{◌≡◌, OnOk, OnErr};
+ghost use Rattle.std.specs.Prelude.{◌≡◌, List, ℕ, OnOk, OnErr};
 ghost use Rattle.std.specs.Option.{option_copied};
 ghost use Rattle.std.specs.FinMap as map;
 ghost use Rattle.mi_image.specs.Items.{MayStand, AreRight};
+ghost use Rattle.mi_image.specs.Lookups.{IsComposed};
 
+use crate::buffer::NameBuffer;
 use crate::item::Item;
 use mi_base::{Name, NoMemory};
 use std::alloc::Global;
@@ -43,12 +45,13 @@ impl Image {
         }
     }
 
-    /// What stands at a name. It takes no memory.
-    pub(crate) fn get(&self, name: &[u8]) -> Option<&Item>
-        ensures value { option_copied result ≡ map.get self.now name.now }
+    /// What stands at a composed name, which takes no memory.
+    pub(crate) fn at(&self, name: Option<NameBuffer>) -> Option<&Item>
+        ensures value { (q : List ℕ) → IsComposed q name → option_copied result ≡ map.get self.now q }
         ensures right { AreRight self.now }
     {
-        self.items.get(name)
+        let items = &self.items;
+        items.get(name?.as_slice())
     }
 
     /// Sets what stands at a name.

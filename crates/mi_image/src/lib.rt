@@ -6,6 +6,8 @@ mod fault;
 mod image;
 mod item;
 mod kinds;
+mod lookups;
+mod names;
 mod reading;
 mod scan;
 
