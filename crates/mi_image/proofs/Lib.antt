@@ -5,3 +5,4 @@ pub mod PrefixLemmas
 pub mod RankLemmas
 pub mod ReadLemmas
 pub mod ScanLemmas
+pub mod UnderLemmas

@@ -1,5 +1,6 @@
 pub mod Faults
 pub mod Items
+pub mod Lists
 pub mod Lookups
 pub mod Looks
 pub mod Scan

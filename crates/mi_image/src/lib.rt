@@ -2,6 +2,7 @@
 #![tactic(auto)]
 
 mod buffer;
+mod copies;
 mod fault;
 mod image;
 mod item;
@@ -10,6 +11,7 @@ mod lookups;
 mod names;
 mod reading;
 mod scan;
+mod under;
 
 pub use fault::ImageError;
 pub use image::Image;
