@@ -28,12 +28,12 @@ pub get_over : (held files : Map (List ℕ)) (items : Items) (q : Name) → get 
 unfolding machine_over
 get_over held files items q = get-map_values (entry_over held files) items q
 
-by_item : {Y : Type 0} → (kind : Option Entry → Option Y) → ((f : FileEntry) → kind (Some (entry.File f)) ≡ kind None) → (held files : Map (List ℕ)) (o : Option Item) → kind (whole_of o) ≡ kind (option_map (entry_over held files) o)
+-- what isn't a file is known by the entry that stands whole
+pub by_item : {Y : Type 0} → (kind : Option Entry → Option Y) → ((f : FileEntry) → kind (Some (entry.File f)) ≡ kind None) → (held files : Map (List ℕ)) (o : Option Item) → kind (whole_of o) ≡ kind (option_map (entry_over held files) o)
 by_item kind known held files None = refl
 by_item kind known held files (Some (Head h content)) = sym (known _)
 by_item kind known held files (Some (Whole e)) = refl
 
--- what isn't a file is known by the entry that stands whole
 pub over_whole : {Y : Type 0} → (kind : Option Entry → Option Y) → ((f : FileEntry) → kind (Some (entry.File f)) ≡ kind None) → (held files : Map (List ℕ)) (items : Items) (q : Name) → kind (whole_of (get items q)) ≡ kind (get (machine_over held files items) q)
 over_whole kind known held files items q = by_item kind known held files (get items q) ∙ ap kind (sym (get_over held files items q))
 

@@ -3,4 +3,5 @@ pub mod Items
 pub mod Lists
 pub mod Lookups
 pub mod Looks
+pub mod Picks
 pub mod Scan
