@@ -11,6 +11,7 @@ use Rattle.mi_base.specs.declared.rec_error.RecFault.{RecFault}
 use Rattle.mi_base.specs.declared.entry.FileHead.{FileHead}
 use Rattle.mi_base.specs.declared.entry.Entry.{Entry}
 use Rattle.mi_base.specs.declared.entry.Entry.TheVariants as entry
+use Rattle.mi_base.specs.Limits.{fits}
 use Rattle.mi_base.specs.Names.{file_name}
 use Rattle.mi_base.specs.Spelling.{name_of}
 use Rattle.mi_base.specs.Reading.{◌>>=◌}
@@ -19,11 +20,10 @@ use Rattle.mi_base.specs.Machine.{ok_entry}
 use Rattle.mi_base.proofs.ByteLemmas.{bytes-append}
 use Rattle.mi_base.proofs.EntryLemmas.{spells}
 use Rattle.mi_base.proofs.HeadLemmas.{head_takes}
-use Rattle.mi_base.proofs.NameLemmas.{name_length}
 use Rattle.mi_image.specs.declared.item.Content.TheVariants.{Held}
 use Rattle.mi_image.specs.declared.item.Item.{Item}
 use Rattle.mi_image.specs.declared.item.Item.TheVariants.{Head, Whole}
-use Rattle.mi_image.specs.Items.{item_name, is_split, MayStand}
+use Rattle.mi_image.specs.Items.{item_name, is_split, item_fits, MayStand}
 use Rattle.mi_image.specs.Scan.{scanned_item, item_read}
 use Rattle.mi_image.proofs.PrefixLemmas.{starts_is, starts_append}
 
@@ -51,6 +51,18 @@ split q (entry.Client c) = refl
 split q (entry.Product p) = refl
 split q (entry.System p t) = refl
 
+right : (q : Name) (e : Entry) → fits e ≡ true → item_fits (scanned_item q e) ≡ true
+unfolding fits
+right q (entry.File f) is = is
+right q (entry.Folder t) is = is
+right q (entry.Value k v) is = is
+right q (entry.Key r t) is = is
+right q (entry.Shortcut s) is = is
+right q (entry.Variable v) is = is
+right q (entry.Client c) is = is
+right q (entry.Product p) is = is
+right q (entry.System p t) is = is
+
 -- what is read under a name may stand there
 pub may_stand : (q : Name) (bytes : List ℕ) (i : Item) → item_read q bytes ≡ Some i → MayStand q i
 may_stand q bytes i is = by_read (entry_of q bytes) refl is
@@ -59,10 +71,9 @@ may_stand q bytes i is = by_read (entry_of q bytes) refl is
     by_read (Ok e) read is =
         let spelled = spells q bytes e read in
         let here : scanned_item q e ≡ i = cc in
-        let long : length (name_of e) ≤ 1024 = (name_length e spelled.right).1 in
         subst (MayStand q) here (record {
           named = named q e ∙ spelled.named;
-          short = subst (λ (n : List ℕ). length n ≤ 1024) spelled.named long;
+          right = right q e spelled.right;
           split = split q e;
         })
     by_read (Err f) read is = absurd cc

@@ -28,7 +28,7 @@ use Rattle.mi_image.specs.Scan.{scanned_item, item_read, item_at, Tells, ReadUpT
 
 -- ---- the first name that fails a test
 
-head_first : {X : Type 0} → (k q : Name) (es : List (Name × X)) (x : X) → below_all name_cmp k es ≡ true → fin.find name_cmp q es ≡ Some x → name_cmp k q ≡ Less
+pub head_first : {X : Type 0} → (k q : Name) (es : List (Name × X)) (x : X) → below_all name_cmp k es ≡ true → fin.find name_cmp q es ≡ Some x → name_cmp k q ≡ Less
 head_first k q [] x below is = absurd cc
 head_first k q (e ∷ es) x below is =
     elim (name_cmp k e.0) as (λ o. name_cmp k e.0 ≡ o → (is_lt o && below_all name_cmp k es) ≡ true → name_cmp k q ≡ Less) [
@@ -44,7 +44,7 @@ both : (a b : Bool) → (a && b) ≡ true → (a ≡ true) × (b ≡ true)
 both true b e = (refl, e)
 both false b e = absurd cc
 
-apart : (a b : Name) → name_cmp a b ≡ Less → same_name b a ≡ false
+pub apart : (a b : Name) → name_cmp a b ≡ Less → same_name b a ≡ false
 apart a b less = ap is_eq (names_total.antisymm b a ∙ ap ordering_reverse less)
 
 -- in a sorted list, where all that stands below k passes and k does not, k is found

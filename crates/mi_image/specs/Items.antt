@@ -1,10 +1,11 @@
 -- The items of an image, and the machine that they stand for (this project's own).
-use Rattle.std.specs.Prelude.{◌≡◌, ℕ, ◌≤◌, Bool, true, false, List, [], length, map, Option, Some, None, Vec}
+use Rattle.std.specs.Prelude.{◌≡◌, ℕ, Bool, true, false, List, [], length, map, Option, Some, None, Vec}
 use Rattle.std.specs.FinMap.{get, from_entries}
 use Rattle.std.specs.declared.alloc.Global.{Global}
 use Rattle.mi_text.specs.Maps.{Name, Map, map_values}
 use Rattle.mi_base.specs.declared.entry.Entry.{Entry}
 use Rattle.mi_base.specs.declared.entry.Entry.TheVariants as entry
+use Rattle.mi_base.specs.Limits.{fits}
 use Rattle.mi_base.specs.Names.{file_name}
 use Rattle.mi_base.specs.Spelling.{name_of}
 use Rattle.mi_base.specs.SpelledMaps.{spelled_at}
@@ -77,10 +78,15 @@ is_split (Head h content) = true
 is_split (Whole (entry.File f)) = false
 is_split (Whole e) = true
 
+-- what an item stands for keeps the limits of its record
+abbrev pub item_fits : Item → Bool
+item_fits (Head h content) = fits (entry.File (with_bytes h []))
+item_fits (Whole e) = fits e
+
 -- the item may stand at this name
 pub record MayStand (q : Name) (i : Item) : Type 0 where
   pub named : item_name i ≡ q
-  pub short : length q ≤ 1024
+  pub right : item_fits i ≡ true
   pub split : is_split i ≡ true
 
 abbrev pub AreRight : Items → Type 0

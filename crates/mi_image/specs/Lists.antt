@@ -44,13 +44,14 @@ file_below folder other = None
 unfoldable pub files_under : Machine → List ℕ → List (List ℕ)
 files_under m folder = picked (file_below folder) m
 
--- a folded key that is this one, or is below it, in whichever case
-abbrev pub is_at_or_below : List ℕ → List ℕ → Bool
-is_at_or_below key other = bytes_eq (folded key) other || starts_with nat_eq other (folded key ++ 92 ∷ [])
+-- the value stands in this key, or in a key that begins so; keys are folded
+abbrev pub value_in_keys : ℕ → List ℕ → List ℕ → Entry → Option ValueKey
+value_in_keys root key front (entry.Value k v) = if (k.root == root) && (bytes_eq k.key key || starts_with nat_eq k.key front) then Some k else None
+value_in_keys root key front other = None
 
+-- in this key, or in a key below it, in whichever case
 abbrev pub value_below : ℕ → List ℕ → Entry → Option ValueKey
-value_below root key (entry.Value k v) = if (k.root == root) && is_at_or_below key k.key then Some k else None
-value_below root key other = None
+value_below root key e = value_in_keys root (folded key) (folded key ++ 92 ∷ []) e
 
 -- where the values of a key and of the keys below it stand (Registry table)
 unfoldable pub values_under : Machine → ℕ → List ℕ → List ValueKey

@@ -1,13 +1,10 @@
 //! Reading the image of a volume.
 
 ghost use Rattle.std.specs.Prelude.{◌≡◌, List, ℕ, Some, Option, Err, IfOk, OnOk, IsErrOf, IsOkAnd};
-ghost use Rattle.std.specs.Str.{IsUtf8};
-ghost use Rattle.mi_text.specs.Fold.{IsNameLength};
 ghost use Rattle.mi_text.specs.Maps.{Map};
 ghost use Rattle.mi_text.specs.Next.{next_name};
 ghost use Rattle.mi_volume.specs.State.{Passes, Rose};
 ghost use Rattle.mi_base.specs.Machine.{machine_of};
-ghost use Rattle.mi_base.specs.SpelledMaps.{is_area};
 ghost use Rattle.mi_image.specs.Items.{ImageOf};
 ghost use Rattle.mi_image.specs.Looks.{OnlyLooks};
 ghost use Rattle.mi_image.specs.Scan.{ReadUpTo};
