@@ -60,7 +60,8 @@ impl Image {
         let mut front = Text::copy_of(alloc, key.as_str())?;
         front.push_str("\\")?;
         // No value has a greater root than 3.
-        let items = self.under(alloc, &[b'v', b'/', b'0' + root.min(9)])?;
+        let kind = [b'v', b'/', b'0' + root.min(9)];
+        let items = self.under(alloc, &kind)?;
         let values = ValuesIn {
             root,
             key: key.as_str(),
