@@ -67,27 +67,56 @@ fn push_features(out: &mut Vec<u8>, features: &[Text]) -> Result<(), NoMemory>
     }
 }
 
-/// Adds the line of a product.
-#[tactic(auto, unfolding(crate::specs::Listings::product_line))]
-pub fn push_product(alloc: Global, out: &mut Vec<u8>, product: &Product) -> Result<(), NoMemory>
-    ensures { OnOk result (out.new.items ≡ out.old.items ++ product_line product.now) }
-{
-    push_code(alloc, out, product.code)?;
-    push_version(alloc, out, product.version)?;
-    push_field(alloc, out, u64::from(product.language))?;
-    push_features(out, product.features.as_slice())?;
-    push_text(out, product.name.as_str())?;
-    out.push(b'\n')?;
-    Ok(())
+/// What has a line in a listing.
+pub trait Line {
+    ghost use Rattle.std.specs.Prelude.{List, ℕ};
+
+    /// The line.
+    ghost line: { Self → List ℕ };
+
+    /// Adds the line.
+    fn push_line(&self, alloc: Global, out: &mut Vec<u8>) -> Result<(), NoMemory>
+        ensures { OnOk result (out.new.items ≡ out.old.items ++ line self.now) };
 }
 
-fn push_products(alloc: Global, out: &mut Vec<u8>, products: &[Product]) -> Result<(), NoMemory>
-    ensures { OnOk result (out.new.items ≡ out.old.items ++ flat_map product_line products.now) }
-{
-    for product in products {
-        push_product(alloc, out, product)?;
+impl Line for Product {
+    ghost line = { product_line };
+
+    #[tactic(auto, unfolding(crate::specs::Listings::product_line))]
+    fn push_line(&self, alloc: Global, out: &mut Vec<u8>) -> Result<(), NoMemory> {
+        push_code(alloc, out, self.code)?;
+        push_version(alloc, out, self.version)?;
+        push_field(alloc, out, u64::from(self.language))?;
+        push_features(out, self.features.as_slice())?;
+        push_text(out, self.name.as_str())?;
+        out.push(b'\n')?;
+        Ok(())
     }
-    Ok(())
+}
+
+impl Line for Client {
+    ghost line = { client_line };
+
+    #[tactic(auto, unfolding(crate::specs::Listings::client_line))]
+    fn push_line(&self, alloc: Global, out: &mut Vec<u8>) -> Result<(), NoMemory> {
+        push_code(alloc, out, self.component)?;
+        out.push(b' ')?;
+        push_code(alloc, out, self.product)?;
+        push_text(out, self.key_path.as_str())?;
+        out.push(b'\n')?;
+        Ok(())
+    }
+}
+
+/// The lines of entries, in their order.
+pub fn listing<T: Drop + Line>(alloc: Global, entries: &[T]) -> Result<Bytes, NoMemory>
+    ensures { IfOk result (λ bytes. bytes ≡ flat_map T.line entries.now) }
+{
+    let mut out = Vec::new(alloc);
+    for entry in entries {
+        entry.push_line(alloc, &mut out)?;
+    }
+    Ok(Bytes::from_vec(out))
 }
 
 /// The listing of the products (this project's own): for each a line with its code in braces and upper case, its
@@ -96,30 +125,7 @@ pub fn products_text(alloc: Global, image: &Image) -> Result<Bytes, NoMemory>
     ensures { (held files : Map (List ℕ)) → IfOk result (λ bytes. bytes ≡ products_text_of (machine_over held files image.now)) }
 {
     let products = image.products(alloc)?;
-    let mut out = Vec::new(alloc);
-    push_products(alloc, &mut out, products.as_slice())?;
-    Ok(Bytes::from_vec(out))
-}
-
-#[tactic(auto, unfolding(crate::specs::Listings::client_line))]
-fn push_client(alloc: Global, out: &mut Vec<u8>, client: &Client) -> Result<(), NoMemory>
-    ensures { OnOk result (out.new.items ≡ out.old.items ++ client_line client.now) }
-{
-    push_code(alloc, out, client.component)?;
-    out.push(b' ')?;
-    push_code(alloc, out, client.product)?;
-    push_text(out, client.key_path.as_str())?;
-    out.push(b'\n')?;
-    Ok(())
-}
-
-fn push_clients(alloc: Global, out: &mut Vec<u8>, clients: &[Client]) -> Result<(), NoMemory>
-    ensures { OnOk result (out.new.items ≡ out.old.items ++ flat_map client_line clients.now) }
-{
-    for client in clients {
-        push_client(alloc, out, client)?;
-    }
-    Ok(())
+    listing(alloc, products.as_slice())
 }
 
 /// The listing of the clients (Component table): for each a line with the codes of its component and its product
@@ -128,7 +134,5 @@ pub fn clients_text(alloc: Global, image: &Image) -> Result<Bytes, NoMemory>
     ensures { (held files : Map (List ℕ)) → IfOk result (λ bytes. bytes ≡ clients_text_of (machine_over held files image.now)) }
 {
     let clients = image.clients(alloc)?;
-    let mut out = Vec::new(alloc);
-    push_clients(alloc, &mut out, clients.as_slice())?;
-    Ok(Bytes::from_vec(out))
+    listing(alloc, clients.as_slice())
 }
