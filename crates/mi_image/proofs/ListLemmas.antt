@@ -44,9 +44,10 @@ true_of false t = absurd t
 each_found : {X : Type 0} → (P : Name → X → Type 0) (es : List (Name × X)) → is_sorted name_cmp es ≡ true → ((q : Name) (x : X) → fin.find name_cmp q es ≡ Some x → P q x) → AllByRecursion (λ e. P e.0 e.1) es
 each_found P [] sorted h = tt
 each_found P (e ∷ es) sorted h =
-    let parts = both (below_all name_cmp e.0 es) (is_sorted name_cmp es) sorted in
-    (h e.0 e.1 (ap (λ (b : Bool). cond b (Some e.1) (fin.find name_cmp e.0 es)) (same_itself e.0)),
-    each_found P es parts.1 (λ q x at. h q x (ap (λ (b : Bool). cond b (Some e.1) (fin.find name_cmp q es)) (apart e.0 q (head_first e.0 q es x parts.0 at)) ∙ at)))
+    let parts = both (below_all name_cmp e.0 es) (is_sorted name_cmp es) sorted in (
+      h e.0 e.1 (ap (λ (b : Bool). cond b (Some e.1) (fin.find name_cmp e.0 es)) (same_itself e.0)),
+      each_found P es parts.1 (λ q x at. h q x (ap (λ (b : Bool). cond b (Some e.1) (fin.find name_cmp q es)) (apart e.0 q (head_first e.0 q es x parts.0 at)) ∙ at)),
+    )
 
 each_right : (items : Items) → AreRight items → AllByRecursion (λ e. MayStand e.0 e.1) (entries items)
 each_right items right = each_found MayStand (entries items) (true_of _ (entries_sorted items)) (λ q i at. right q i (get-entries items q ∙ at))
@@ -152,7 +153,7 @@ clients_with_are held files items component front is right = list_is held files 
     by_component q c named true same =
         let number : c.component.number ≡ component = eqb-true c.component.number component same in
         inr (begins_so q (client_name c.component.number c.product.number) front (guid_text c.product.number) named
-          (client_is c.component.number c.product.number ∙ ap (λ (n : ℕ). codes "c/" ++ guid_text n ++ guid_text c.product.number) number ∙ ap (λ (f : List ℕ). f ++ guid_text c.product.number) (sym is)))
+        (client_is c.component.number c.product.number ∙ ap (λ (n : ℕ). codes "c/" ++ guid_text n ++ guid_text c.product.number) number ∙ ap (λ (f : List ℕ). f ++ guid_text c.product.number) (sym is)))
     by_component q c named false other = inl refl
 
     by_client : (q : Name) (i : Item) (o : Option Client) → client_in i ≡ o → MayStand q i → (with_component component (client_in i) ≡ None) ⊎ (starts_with nat_eq q front ≡ true)
@@ -249,9 +250,9 @@ values_are held files items root key fold_key front key_is front_is right = list
 paired : (front : List ℕ) (es : List (Vec ℕ Global × Item)) → map (λ e. e.1) (filter (λ e. starts_with nat_eq e.0.items front) es) ≡ map (λ e. e.1) (filter (λ e. starts_with nat_eq e.0 front) (map pair_of es))
 paired front [] = refl
 paired front (e ∷ es) = elim (starts_with nat_eq e.0.items front) as (λ b. map (λ e. e.1) (cond b (e ∷ filter (λ e. starts_with nat_eq e.0.items front) es) (filter (λ e. starts_with nat_eq e.0.items front) es)) ≡ map (λ e. e.1) (cond b (pair_of e ∷ filter (λ e. starts_with nat_eq e.0 front) (map pair_of es)) (filter (λ e. starts_with nat_eq e.0 front) (map pair_of es)))) [
-    | true ↦ ap (λ (is : List Item). e.1 ∷ is) (paired front es)
-    | false ↦ paired front es
-  ]
+  | true ↦ ap (λ (is : List Item). e.1 ∷ is) (paired front es)
+  | false ↦ paired front es
+]
 
 ok_both : {X E : Type 0} → (r : Result X E) (P Q R : X → Type 0) → ((x : X) → P x → Q x → R x) → IfOk r P → IfOk r Q → IfOk r R
 ok_both (Ok x) P Q R h p q = h x p q

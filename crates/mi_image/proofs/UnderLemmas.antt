@@ -50,9 +50,9 @@ between (x ∷ p) (y ∷ a) r low high = by_order (λ same high. same_head x y p
 -- behind a name that doesn't begin with the text and isn't below it, none does
 past : (p a b : List ℕ) → is_le (name_cmp p a) ≡ true → starts_with nat_eq a p ≡ false → name_cmp a b ≡ Less → starts_with nat_eq b p ≡ false
 past p a b low differs less = elim (starts_with nat_eq b p) as (λ t. starts_with nat_eq b p ≡ t → t ≡ false) [
-    | true ↦ λ t. let begins = between p a (drop (length p) b) low (ap (name_cmp a) (sym (starts_is b p t)) ∙ less) in absurd (let clash : true ≡ false = sym begins ∙ differs in cc)
-    | false ↦ λ t. refl
-  ] refl
+  | true ↦ λ t. let begins = between p a (drop (length p) b) low (ap (name_cmp a) (sym (starts_is b p t)) ∙ less) in absurd (let clash : true ≡ false = sym begins ∙ differs in cc)
+  | false ↦ λ t. refl
+] refl
 
 abbrev by_name : {K : Type 0} → (K → List ℕ) → K → K → Ordering
 by_name name a b = name_cmp (name a) (name b)
@@ -79,9 +79,9 @@ module _ {K X : Type 0} (name : K → List ℕ) (p : List ℕ) where
   come_first : (es : List (K × X)) → IsStrictlySortedBy (by_name name) (keys es) → AllByRecursion (λ y. is_le (name_cmp p (name y)) ≡ true) (keys es) → leading begins es ≡ filter begins es
   come_first [] sorted low = refl
   come_first (e ∷ es) sorted low = elim (begins e) as (λ b. begins e ≡ b → cond b (e ∷ leading begins es) [] ≡ cond b (e ∷ filter begins es) (filter begins es)) [
-      | true ↦ λ b. ap (λ (xs : List (K × X)). e ∷ xs) (come_first es (sorted_tail (by_name name) e.0 (keys es) sorted) low.1)
-      | false ↦ λ b. sym (none_past e.0 es low.0 b (sorted_head (by_name name) e.0 (keys es) sorted))
-    ] refl
+    | true ↦ λ b. ap (λ (xs : List (K × X)). e ∷ xs) (come_first es (sorted_tail (by_name name) e.0 (keys es) sorted) low.1)
+    | false ↦ λ b. sym (none_past e.0 es low.0 b (sorted_head (by_name name) e.0 (keys es) sorted))
+  ] refl
 
   all_kept : (es : List (K × X)) → AllByRecursion (λ y. is_le (name_cmp p (name y)) ≡ true) (keys es) → filter is_from es ≡ es
   all_kept [] low = refl
@@ -91,14 +91,14 @@ module _ {K X : Type 0} (name : K → List ℕ) (p : List ℕ) where
   pub sought : (es : List (K × X)) → IsStrictlySortedBy (by_name name) (keys es) → leading begins (filter is_from es) ≡ filter begins es
   sought [] sorted = refl
   sought (e ∷ es) sorted = elim (is_le (name_cmp p (name e.0))) as (λ b. is_le (name_cmp p (name e.0)) ≡ b → leading begins (cond (b && true) (e ∷ filter is_from es) (filter is_from es)) ≡ filter begins (e ∷ es)) [
-      | true ↦ λ b.
-          let low : AllByRecursion (λ y. is_le (name_cmp p (name y)) ≡ true) (keys (e ∷ es)) = (b, all_from name p e.0 (keys es) b (sorted_head (by_name name) e.0 (keys es) sorted)) in
-          ap (λ (xs : List (K × X)). leading begins (e ∷ xs)) (all_kept es low.1) ∙ come_first (e ∷ es) sorted low
-      | false ↦ λ b. sought es (sorted_tail (by_name name) e.0 (keys es) sorted) ∙ elim (begins e) as (λ t. begins e ≡ t → filter begins es ≡ cond t (e ∷ filter begins es) (filter begins es)) [
-          | true ↦ λ t. let low : is_le (name_cmp p (name e.0)) ≡ true = ap (λ (n : List ℕ). is_le (name_cmp p n)) (starts_is (name e.0) p t) ∙ front_first p (drop (length p) (name e.0)) in absurd (let clash : true ≡ false = sym low ∙ b in cc)
-          | false ↦ λ t. refl
-        ] refl
+    | true ↦ λ b.
+        let low : AllByRecursion (λ y. is_le (name_cmp p (name y)) ≡ true) (keys (e ∷ es)) = (b, all_from name p e.0 (keys es) b (sorted_head (by_name name) e.0 (keys es) sorted)) in
+        ap (λ (xs : List (K × X)). leading begins (e ∷ xs)) (all_kept es low.1) ∙ come_first (e ∷ es) sorted low
+    | false ↦ λ b. sought es (sorted_tail (by_name name) e.0 (keys es) sorted) ∙ elim (begins e) as (λ t. begins e ≡ t → filter begins es ≡ cond t (e ∷ filter begins es) (filter begins es)) [
+      | true ↦ λ t. let low : is_le (name_cmp p (name e.0)) ≡ true = ap (λ (n : List ℕ). is_le (name_cmp p n)) (starts_is (name e.0) p t) ∙ front_first p (drop (length p) (name e.0)) in absurd (let clash : true ≡ false = sym low ∙ b in cc)
+      | false ↦ λ t. refl
     ] refl
+  ] refl
 
   -- nothing is found at first
   pub found_first : (found : List (Bor X)) (iter es : List (K × X)) (from : List ℕ) → found ≡ [] → iter ≡ filter (λ e. is_le (name_cmp from (name e.0)) && not false) es → from ≡ p → IsStrictlySortedBy (by_name name) (keys es)

@@ -53,7 +53,12 @@ impl Image {
     }
 
     /// Where the values of a registry key and of the keys below it stand (Registry table).
-    pub fn values_below(&self, alloc: Global, root: u8, key: &str) -> Result<Vec<ValueKey>, NoMemory>
+    pub fn values_below(
+        &self,
+        alloc: Global,
+        root: u8,
+        key: &str,
+    ) -> Result<Vec<ValueKey>, NoMemory>
         ensures { (held files : Map (List ℕ)) → IfOk result (λ values. values.items ≡ values_under (machine_over held files self.now) root key.now) }
     {
         let key = fold(alloc, key)?;

@@ -119,8 +119,7 @@ impl Pick<ValueKey> for ValuesIn<'_> {
     fn pick(&self, alloc: Global, item: &Item) -> Result<Option<ValueKey>, NoMemory> {
         match item {
             Item::Whole(Entry::Value(key, _))
-                if key.root == self.root && is_in(key.key.as_str(), self.key, self.front) =>
-            {
+                if key.root == self.root && is_in(key.key.as_str(), self.key, self.front) => {
                 Ok(Some(copy_value_key(alloc, key)?))
             }
             _ => Ok(None),
