@@ -77,44 +77,66 @@ fn stopping(alloc: Global, image: &mut MemVolume, from: u64) -> Result<MemVolume
     Ok(copy)
 }
 
-/// Whether a recovery that is stopped at this call leaves images that the answer allows. None where it isn't stopped.
+/// Whether recovery of one image leaves a machine that the answer allows.
+fn is_image_recovered(
+    alloc: Global,
+    kind: &Kind,
+    volume: &MemVolume,
+    choice: Choice,
+) -> Result<bool, Fail> {
+    let mut image = volume.image(alloc, choice)?;
+    is_recovered(alloc, kind, &mut image)
+}
+
+/// Whether recovery of each image leaves a machine that the answer allows.
+fn are_images_recovered(alloc: Global, kind: &Kind, volume: &MemVolume) -> Result<bool, Fail> {
+    for choice in IMAGES {
+        if !is_image_recovered(alloc, kind, volume, choice)? {
+            return Ok(false);
+        }
+    }
+    Ok(true)
+}
+
+/// Whether a recovery that is stopped at this call leaves images that the answer allows, and whether it was stopped.
 fn is_stopped_recovery(
     alloc: Global,
     kind: &Kind,
     image: &mut MemVolume,
     from: u64,
-) -> Result<Option<bool>, Fail> {
+) -> Result<(bool, bool), Fail> {
     let mut copy = stopping(alloc, image, from)?;
-    let (answer, _) = run_words(alloc, &["/recover"], &mut package(alloc, ROW)?, &mut copy)?;
-    for choice in IMAGES {
-        if !is_recovered(alloc, kind, &mut copy.image(alloc, choice)?)? {
-            return Ok(Some(false));
-        }
-    }
-    Ok(matches!(answer.kind, Kind::Refused(_)).then_some(true))
+    log_of(alloc, &["/recover"], ROW, &mut copy)?;
+    let right = are_images_recovered(alloc, kind, &copy)?;
+    Ok((right, copy.faults() > 0))
 }
 
 /// Whether recovery, stopped at each of its calls and run again, leaves a machine that the answer allows.
 fn recovers(alloc: Global, kind: &Kind, image: &mut MemVolume) -> Result<bool, Fail> {
     for from in 0..MOST_CALLS {
-        match is_stopped_recovery(alloc, kind, image, from)? {
-            Some(true) => {}
-            Some(false) => return Ok(false),
-            None => break,
+        let (right, stopped) = is_stopped_recovery(alloc, kind, image, from)?;
+        if !right || !stopped {
+            return Ok(right);
         }
     }
-    is_recovered(alloc, kind, image)
+    Ok(false)
+}
+
+/// Whether recovery of each image, stopped or not, leaves a machine that the answer allows.
+fn all_recover(alloc: Global, kind: &Kind, volume: &MemVolume) -> Result<bool, Fail> {
+    for choice in IMAGES {
+        let mut image = volume.image(alloc, choice)?;
+        if !recovers(alloc, kind, &mut image)? {
+            return Ok(false);
+        }
+    }
+    Ok(true)
 }
 
 /// Whether each image of a run that is stopped from this call on is recovered.
 fn is_stopped_well(alloc: Global, from: u64) -> Result<bool, Fail> {
     let (answer, volume) = installed(alloc, &[], Some(from))?;
-    for choice in IMAGES {
-        if !recovers(alloc, &answer.kind, &mut volume.image(alloc, choice)?)? {
-            return Ok(false);
-        }
-    }
-    Ok(true)
+    all_recover(alloc, &answer.kind, &volume)
 }
 
 /// How many calls a run makes.
@@ -192,20 +214,24 @@ fn says_what_it_finds(alloc: Global, noted: bool, image: &mut MemVolume) -> Resu
     Ok(all || (none && !noted))
 }
 
-/// Whether each image of a run that gave this answer is recovered.
-fn are_recovered(alloc: Global, kind: &Kind, volume: &MemVolume) -> Result<bool, Fail> {
+/// Whether recovery of each image of a suspended run says what it finds.
+fn all_say_what_they_find(alloc: Global, volume: &MemVolume) -> Result<bool, Fail> {
+    let noted = has_noted(volume);
     for choice in IMAGES {
-        if !is_recovered(alloc, kind, &mut volume.image(alloc, choice)?)? {
+        let mut image = volume.image(alloc, choice)?;
+        if !says_what_it_finds(alloc, noted, &mut image)? {
             return Ok(false);
-        }
-        if matches!(kind, Kind::Suspended(_)) {
-            let mut image = volume.image(alloc, choice)?;
-            if !says_what_it_finds(alloc, has_noted(volume), &mut image)? {
-                return Ok(false);
-            }
         }
     }
     Ok(true)
+}
+
+/// Whether each image of a run that gave this answer is recovered.
+fn are_recovered(alloc: Global, kind: &Kind, volume: &MemVolume) -> Result<bool, Fail> {
+    if matches!(kind, Kind::Suspended(_)) && !all_say_what_they_find(alloc, volume)? {
+        return Ok(false);
+    }
+    are_images_recovered(alloc, kind, volume)
 }
 
 /// What a run of which these calls fail answers, where that is right and each of its images is recovered.
