@@ -1,14 +1,14 @@
 -- What each exit of a run that writes leaves.
-use Rattle.std.proofs.Common.{◌≡◌, ◌⊎◌, inl, inr, ⊎_elim, ℕ, ◌≤◌, ◌<◌, ◌-◌, ◌^◌, Bool, true, false, List, Option, None, Some, Result, Ok, Err, OnOk, IsErrOf, cond, not, refl, sym, ap, subst, ◌∙◌, arith}
+use Rattle.std.proofs.Common.{◌≡◌, inl, inr, ⊎_elim, ℕ, ◌≤◌, ◌<◌, true, false, List, Option, None, Result, Ok, Err, OnOk, cond, not, refl, sym, ap, subst, ◌∙◌, arith}
 use Rattle.std.specs.FinMap.{get}
 use Rattle.mi_text.proofs.MapLemmas.{same}
 use Rattle.mi_volume.specs.Maps.{Map}
-use Rattle.mi_volume.specs.State.{State, Rose, GoesOn, Images, Stays, Passes}
-use Rattle.mi_volume.proofs.Moments.{each, joined, weaker, started, rose_before}
+use Rattle.mi_volume.specs.State.{State, Rose, GoesOn, Images, Passes}
+use Rattle.mi_volume.proofs.Moments.{joined, weaker, rose_before}
 use Rattle.mi_undo.specs.Names.{marker, is_inside, most_entries}
 use Rattle.mi_undo.specs.Stands.{StandsFor, outside}
 use Rattle.mi_undo.specs.Keeps.{Each, EitherFor, IsFree}
-use Rattle.mi_undo.specs.Answers.{Commits, InCommit as BetweenCommit, IfUnknown, CountsRise, IsFreeUnlessRose}
+use Rattle.mi_undo.specs.Answers.{Commits, InCommit as BetweenCommit, IfUnknown, IsFreeUnlessRose}
 use Rattle.mi_undo.specs.declared.kept.Kept.{Kept}
 use Rattle.mi_undo.specs.declared.fault.CommitFault.{CommitFault}
 use Rattle.mi_undo.specs.declared.fault.CommitFault.TheVariants as commit
@@ -19,14 +19,13 @@ use Rattle.mi_base.specs.declared.answers.Cause.TheVariants.{VolumeFault}
 use Rattle.mi_base.specs.declared.answers.Cause.TheVariants as cause
 use Rattle.mi_base.specs.declared.answers.Place.{Place}
 use Rattle.mi_base.specs.declared.answers.Place.TheVariants.{InRollback, InCommit}
-use Rattle.mi_base.specs.declared.answers.Pause.{Pause}
 use Rattle.mi_base.specs.declared.answers.Kind.{Kind}
 use Rattle.mi_base.specs.declared.answers.Kind.TheVariants as kind
 use Rattle.mi_engine.specs.declared.stop.Stop.{Stop}
 use Rattle.mi_engine.specs.declared.stop.Stop.TheVariants.{NoMemory, Refuse}
-use Rattle.mi_engine.specs.Calls.{IsVolumeStop, Fails}
+use Rattle.mi_engine.specs.Calls.{IsVolumeStop}
 use Rattle.mi_engine.specs.Looks.{Looks}
-use Rattle.mi_engine.specs.Ends.{BelowCount, IsVolumeFault, SuspendedMay, MayCommit, Allowed, AtPause, AtExit, Reads, Ends, PausedInRollback, PausedInCommit, Paused, WriteRefused, WriteCaused}
+use Rattle.mi_engine.specs.Ends.{BelowCount, MayCommit, Allowed, AtExit, Reads, Ends, Paused, WriteCaused}
 use Rattle.mi_engine.specs.Falls.{Falls, AnswersStop, ReadsBack, gone, stuck, unknown}
 
 -- ---- counts
