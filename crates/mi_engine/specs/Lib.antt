@@ -1,14 +1,17 @@
 pub mod After
 pub mod Answers
+pub mod Asked
 pub mod Built
 pub mod Calls
 pub mod Codes
 pub mod Files
 pub mod Collected
+pub mod Endings
 pub mod Ends
 pub mod Known
 pub mod Outcome
 pub mod Package
+pub mod Replies
 pub mod Rows
 pub mod Words
 pub mod Changes

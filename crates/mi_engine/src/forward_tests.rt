@@ -154,14 +154,11 @@ fn word(kind: &Kind) -> &'static str {
 }
 
 /// The three names that the row makes, with their records.
-const MADE: &[u8] = b"k/2software=\0\0\0\x08Software k/2software\\acme=\0\0\0\x0dSoftware\\Acme v/20013software\\acmever=\0\0\0\x03Ver\x01\0\0\0\x011 ";
+const MADE: &[u8] =
+    b"k/2software=\0\0\0\x08Software k/2software\\acme=\0\0\0\x0dSoftware\\Acme v/20013software\\acmever=\0\0\0\x03Ver\x01\0\0\0\x011 ";
 
 /// Whether writing the row over calls that fail so is answered by this word.
-fn answers(
-    alloc: Global,
-    failing: &[u64],
-    expected: &str,
-) -> Result<(bool, MemVolume), Fail> {
+fn answers(alloc: Global, failing: &[u64], expected: &str) -> Result<(bool, MemVolume), Fail> {
     let rows = rows(alloc)?;
     let mut volume = volume(alloc, failing)?;
     let kind = write_rows(alloc, &mut volume, rows.as_slice());
