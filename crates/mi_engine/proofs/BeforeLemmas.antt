@@ -22,24 +22,10 @@ use Rattle.mi_engine.specs.Calls.{Fails}
 use Rattle.mi_engine.specs.Ends.{BelowCount, MayCommit, Allowed, AtExit, Ends, Paused}
 use Rattle.mi_engine.specs.Answers.{AnswersCommand, IsDone, Caused, MayPause, Cleans, walks, Tells, log_of, IsLog}
 use Rattle.mi_engine.specs.Replies.{Serves}
-use Rattle.mi_engine.proofs.QuietLemmas.{free_each}
+use Rattle.mi_engine.specs.Looks.{Looks}
+use Rattle.mi_engine.proofs.EndLemmas.{paused_before, then_ends, looks_go, free_then}
 
 -- ---- counts
-
-pub earlier : (n k m : ℕ) → n ≤ k → k ≤ m → BelowCount k m → BelowCount n m
-earlier n k m le above below = λ under. grind (arith, le, above, below)
-
-pub may_commit : (rose then : Type 0) → (rose → then) → (kind : Kind) → MayCommit rose kind → MayCommit then kind
-may_commit rose then f Done may = tt
-may_commit rose then f Listed may = may
-may_commit rose then f (Recovered settled) may = may
-may_commit rose then f (Refused cause) may = may
-may_commit rose then f (Suspended pause) may = may
-may_commit rose then f NoMemory may = f may
-
-paused_before : (n k m : ℕ) (place : Place) (begun again : ℕ) (why : Option Cause) → n ≤ k → Paused k m place begun again why → Paused n m place begun again why
-paused_before n k m InRollback begun again why le p = record { entry = omega (arith, le, p.entry); between = p.between; exit = p.exit; rose = p.rose; met = p.met; fell = p.fell }
-paused_before n k m InCommit begun again why le p = record { entry = omega (arith, le, p.entry); between = p.between; exit = p.exit; rose = p.rose; met = p.met; fell = p.fell }
 
 none_before : (s t : State) → Passes s t → IsNone s.capacity → IsNone t.capacity
 none_before s t pass none = subst (λ (c : Option ℕ). IsNone c) (sym pass.capacity) none
@@ -56,18 +42,18 @@ done_as : (o o' : Outcome) → o' ≡ o → IsDone o' → IsDone o
 done_as o o' is done = (done.0, sym is ∙ done.1)
 
 module _ (volume source : Type 0) (o o' : Outcome) (is : volume → o' ≡ o) (fails fails' source_fails : Type 0) (pauses pauses' : Pause → Type 0) (rises : fails' → fails) (lasts : (pause : Pause) → pauses' pause → pauses pause) where
-  pub caused_before : (kind : Kind) → Caused volume source o' fails' source_fails pauses' kind → Caused volume source o fails source_fails pauses kind
-  caused_before Done c = λ v src. done_as o o' (is v) (c v src)
-  caused_before Listed c = λ v. ((c v).0, sym (is v) ∙ (c v).1)
-  caused_before (Recovered settled) c = λ v. sym (is v) ∙ c v
-  caused_before (Refused (BadWords place)) c = λ v. sym (is v) ∙ c v
-  caused_before (Refused VolumeFault) c = rises c
-  caused_before (Refused (BadRollback name)) c = λ v. sym (is v) ∙ c v
-  caused_before (Refused (BadImage name)) c = λ v. sym (is v) ∙ c v
-  caused_before (Refused SourceFault) c = c
-  caused_before (Refused (Table fault)) c = λ v src. sym (is v) ∙ c v src
-  caused_before (Suspended pause) c = (lasts pause c.0, λ v src. done_as o o' (is v) (c.1 v src))
-  caused_before NoMemory c = tt
+  pub caused_from : (kind : Kind) → Caused volume source o' fails' source_fails pauses' kind → Caused volume source o fails source_fails pauses kind
+  caused_from Done c = λ v src. done_as o o' (is v) (c v src)
+  caused_from Listed c = λ v. ((c v).0, sym (is v) ∙ (c v).1)
+  caused_from (Recovered settled) c = λ v. sym (is v) ∙ c v
+  caused_from (Refused (BadWords place)) c = λ v. sym (is v) ∙ c v
+  caused_from (Refused VolumeFault) c = rises c
+  caused_from (Refused (BadRollback name)) c = λ v. sym (is v) ∙ c v
+  caused_from (Refused (BadImage name)) c = λ v. sym (is v) ∙ c v
+  caused_from (Refused SourceFault) c = c
+  caused_from (Refused (Table fault)) c = λ v src. sym (is v) ∙ c v src
+  caused_from (Suspended pause) c = (lasts pause c.0, λ v src. done_as o o' (is v) (c.1 v src))
+  caused_from NoMemory c = tt
 
 -- ---- the log
 
@@ -80,55 +66,44 @@ refusal_as found found' f SourceFault s is = f s is
 refusal_as found found' f (Table fault) s is = f s is
 
 module _ (volume : Type 0) (found found' : Settled → Type 0) (f : (s : Settled) → found' s → found s) (says : Bool) (o o' : Outcome) (is : volume → o' ≡ o) (bytes : List ℕ) where
-  pub log_before : (kind : Kind) → IsLog volume found' says o' kind bytes → IsLog volume found says o kind bytes
-  log_before Done log = (log.0, (f log.0 log.1.0, log.1.1))
-  log_before Listed log = λ v. sym (is v) ∙ log v
-  log_before (Recovered settled) log = (log.0, (f log.0 log.1.0, log.1.1))
-  log_before (Refused cause) log = (log.0, (refusal_as found found' f cause log.0 log.1.0, log.1.1))
-  log_before (Suspended pause) log = (log.0, (f log.0 log.1.0, log.1.1))
-  log_before NoMemory log = (log.0, (⊎_elim (λ x. inl (f log.0 x)) (λ x. inr x) log.1.0, log.1.1))
+  pub log_from : (kind : Kind) → IsLog volume found' says o' kind bytes → IsLog volume found says o kind bytes
+  log_from Done log = (log.0, (f log.0 log.1.0, log.1.1))
+  log_from Listed log = λ v. sym (is v) ∙ log v
+  log_from (Recovered settled) log = (log.0, (f log.0 log.1.0, log.1.1))
+  log_from (Refused cause) log = (log.0, (refusal_as found found' f cause log.0 log.1.0, log.1.1))
+  log_from (Suspended pause) log = (log.0, (f log.0 log.1.0, log.1.1))
+  log_from NoMemory log = (log.0, (⊎_elim (λ x. inl (f log.0 x)) (λ x. inr x) log.1.0, log.1.1))
 
 -- ---- what is left
 
-unless_before : (s t u : State) → Passes s t → IsFreeUnlessRose t u → IsFreeUnlessRose s u
-unless_before s t u pass is = ⊎_elim (λ free. inl free) (λ rose. inr (rose_before s t u pass rose)) is
-
-pub cleans_before : (s t u : State) → Passes s t → (kind : Kind) → Cleans t u kind → Cleans s u kind
-cleans_before s t u pass Done c = unless_before s t u pass c
-cleans_before s t u pass Listed c = c
-cleans_before s t u pass (Recovered settled) c = c
-cleans_before s t u pass (Refused (BadWords place)) c = c
-cleans_before s t u pass (Refused VolumeFault) c = c
-cleans_before s t u pass (Refused (BadRollback name)) c = c
-cleans_before s t u pass (Refused (BadImage name)) c = unless_before s t u pass c
-cleans_before s t u pass (Refused SourceFault) c = unless_before s t u pass c
-cleans_before s t u pass (Refused (Table fault)) c = unless_before s t u pass c
-cleans_before s t u pass (Suspended pause) c = c
-cleans_before s t u pass NoMemory c = c
+pub cleans_from : (s t u : State) → Passes s t → (kind : Kind) → Cleans t u kind → Cleans s u kind
+cleans_from s t u pass Done c = free_then s t u pass c
+cleans_from s t u pass Listed c = c
+cleans_from s t u pass (Recovered settled) c = c
+cleans_from s t u pass (Refused (BadWords place)) c = c
+cleans_from s t u pass (Refused VolumeFault) c = c
+cleans_from s t u pass (Refused (BadRollback name)) c = c
+cleans_from s t u pass (Refused (BadImage name)) c = free_then s t u pass c
+cleans_from s t u pass (Refused SourceFault) c = free_then s t u pass c
+cleans_from s t u pass (Refused (Table fault)) c = free_then s t u pass c
+cleans_from s t u pass (Suspended pause) c = c
+cleans_from s t u pass NoMemory c = c
 
 -- before a run that goes on from t the volume was only read
-pub ends_before : (s t u : State) (A : Map) (kind : Kind) → IsFree s → Stays s t → GoesOn s t (Images s) → Passes t u → Ends t.faults t u t.held A kind → Ends s.faults s u s.held A kind
-ends_before s t u A kind free stays go pass ends =
-    let here : Ends t.faults t u s.held A kind = subst (λ (F : Map). Ends t.faults t u F A kind) stays.held ends in
-    record {
-      stops = joined s t u (Allowed s.held A (BelowCount s.faults u.faults) kind)
-          (weaker s t (Images s) (Allowed s.held A (BelowCount s.faults u.faults) kind) (λ d image. inl (free_each s free d image)) go)
-          (weaker t u (Allowed s.held A (BelowCount t.faults u.faults) kind) (Allowed s.held A (BelowCount s.faults u.faults) kind)
-          (λ d is. ⊎_elim (λ f. inl f) (λ a. inr (may_commit (BelowCount t.faults u.faults) (BelowCount s.faults u.faults) (earlier s.faults t.faults u.faults go.faults pass.faults) kind a.0, a.1)) is)
-          here.stops);
-      leaves = here.leaves;
-      reads = here.reads;
-    }
+ends_from : (s t u : State) (A : Map) (kind : Kind) → IsFree s → Looks s t → Passes t u → Ends t.faults t u t.held A kind → Ends s.faults s u s.held A kind
+ends_from s t u A kind free looks pass ends =
+    then_ends s.faults t.faults s t u s.held A kind looks.moments.faults pass.faults (looks_go s t free looks)
+    (subst (λ (F : Map). Ends t.faults t u F A kind) looks.stays.held ends)
 
 module _ (volume source : Type 0) (s t u : State) (o o' : Outcome) (command : Command) (found : Settled → Type 0) (source_fails : Type 0) where
-  pub serves_before : (kind : Kind) (bytes : List ℕ) → (volume → IsFree s) → (volume → Stays s t) → (volume → GoesOn s t (Images s)) → Passes s t → Passes t u → (volume → o' ≡ o) → Serves volume source t u o' command found source_fails kind bytes → Serves volume source s u o command found source_fails kind bytes
-  serves_before kind bytes free stays go pass then is serves = record {
+  pub serves_from : (kind : Kind) (bytes : List ℕ) → (volume → IsFree s) → (volume → Looks s t) → Passes s t → Passes t u → (volume → o' ≡ o) → Serves volume source t u o' command found source_fails kind bytes → Serves volume source s u o command found source_fails kind bytes
+  serves_from kind bytes free looks pass then is serves = record {
     ends = λ v src.
         subst (λ (A : Map). Ends s.faults s u s.held A kind) (ap (map_after s.held) (is v))
-        (ends_before s t u (map_after s.held o') kind (free v) (stays v) (go v) then
-        (subst (λ (F : Map). Ends t.faults t u t.held (map_after F o') kind) (stays v).held (serves.ends v src)));
-    cleans = λ v. cleans_before s t u pass kind (serves.cleans v);
-    caused = caused_before volume source o o' is (Fails s u) (Fails t u) source_fails (MayPause s u) (MayPause t u) (fails_before s t u pass) (pauses_before s t u pass) kind serves.caused;
+        (ends_from s t u (map_after s.held o') kind (free v) (looks v) then
+        (subst (λ (F : Map). Ends t.faults t u t.held (map_after F o') kind) (looks v).stays.held (serves.ends v src)));
+    cleans = λ v. cleans_from s t u pass kind (serves.cleans v);
+    caused = caused_from volume source o o' is (Fails s u) (Fails t u) source_fails (MayPause s u) (MayPause t u) (fails_before s t u pass) (pauses_before s t u pass) kind serves.caused;
     answers = serves.answers;
-    log = log_before volume found found (λ s is. is) (walks (Ok command)) o o' is bytes kind serves.log;
+    log = log_from volume found found (λ s is. is) (walks (Ok command)) o o' is bytes kind serves.log;
   }

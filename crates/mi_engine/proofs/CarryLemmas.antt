@@ -1,16 +1,16 @@
 -- Writing over an open rollback area.
-use Rattle.std.proofs.Common.{◌≡◌, ℕ, zero, suc, ◌+◌, ◌≤◌, ◌<◌, Bool, true, false, cond, not, ◌||◌, inl, inr, ◌⊎◌, ⊎_elim, List, [], ◌∷◌, ◌++◌, length, map, take, drop, get_or, Contains, Option, None, Some, Result, Ok, Err, OnOk, IsErrOf, IsNone, IfErr, refl, sym, ap, subst, ◌∙◌, arith}
+use Rattle.std.proofs.Common.{◌≡◌, ℕ, zero, suc, ◌+◌, ◌≤◌, ◌<◌, Bool, true, false, cond, not, ◌||◌, inl, inr, ◌⊎◌, ⊎_elim, List, [], ◌∷◌, ◌++◌, length, map, take, get_or, Contains, Option, None, Some, Result, Ok, Err, OnOk, IsErrOf, IsNone, refl, sym, ap, subst, ◌∙◌, arith}
 use Rattle.std.specs.FinMap.{get, insert}
 use Rattle.std.proofs.lemmas.List.{take_more}
 use Rattle.mi_text.specs.Maps.{Name, same_name, is_among}
 use Rattle.mi_text.proofs.MapLemmas.{same, get-set_to, same_itself, from_same, is_among-append}
 use Rattle.mi_volume.specs.Maps.{Map, bytes_or_none, Exceeds}
 use Rattle.mi_volume.specs.State.{State, Passes, Rose, GoesOn}
-use Rattle.mi_volume.proofs.Moments.{joined, then_passes, started}
+use Rattle.mi_volume.proofs.Moments.{joined, started}
 use Rattle.mi_undo.specs.Names.{is_inside}
 use Rattle.mi_undo.specs.Notes.{new_names}
 use Rattle.mi_undo.specs.Stands.{StandsFor, outside}
-use Rattle.mi_undo.specs.Area.{AreOutside, Works, CanGoBack, volume, place_names, IsWorking}
+use Rattle.mi_undo.specs.Area.{AreOutside, Works, volume, place_names, IsWorking}
 use Rattle.mi_undo.specs.Answers.{Changes, Notes}
 use Rattle.mi_undo.specs.declared.kept.Kept.{Kept}
 use Rattle.mi_undo.specs.declared.area.Open.{Open}
@@ -21,7 +21,7 @@ use Rattle.mi_undo.proofs.AreaLemmas.{works_go_back}
 use Rattle.mi_engine.specs.Calls.{IsVolumeStop, Fails}
 use Rattle.mi_engine.specs.Changes.{laid, names_in}
 use Rattle.mi_engine.specs.Falls.{AreNoted, Makes, stop_of_op}
-use Rattle.mi_engine.proofs.ChangeLemmas.{laid_none, laid-push}
+use Rattle.mi_engine.proofs.ChangeLemmas.{laid-push}
 
 -- a call of the area that failed, as a stop
 pub op_stopped : {told : Type 0} (old new : State) (e : OpFault) (n : ℕ) → (IsErrOf {T = Unit {0}} (Err e) op.Fault → Rose old new) → (IsErrOf {T = Unit {0}} (Err e) op.Full → told × Exceeds old.capacity n) → IsVolumeStop (Fails old new) (stop_of_op e)

@@ -1,6 +1,6 @@
 -- Which names of a plan change, and the map with them.
-use Rattle.std.proofs.Common.{◌≡◌, ℕ, ◌+◌, ◌≤◌, ◌<◌, Bool, true, false, cond, not, T, ◌&&◌, ◌||◌, List, [], ◌∷◌, ◌++◌, length, map, take, drop, get_or, Option, Some, None, refl, sym, ap, subst, ◌∙◌, arith, eqb-true, ◌==◌}
-use Rattle.std.specs.Prelude.{option_map, filter}
+use Rattle.std.proofs.Common.{◌≡◌, ℕ, ◌+◌, ◌≤◌, ◌<◌, Bool, true, false, cond, not, T, ◌&&◌, ◌||◌, List, [], ◌∷◌, ◌++◌, length, take, drop, get_or, Option, Some, None, refl, sym, ap, subst, ◌∙◌, arith, eqb-true, ◌==◌}
+use Rattle.std.specs.Prelude.{option_map}
 use Rattle.std.specs.Ordering.{is_lt, is_eq}
 use Rattle.std.specs.declared.cmp.Ordering.{Ordering}
 use Rattle.std.specs.declared.cmp.Ordering.TheVariants.{Less, Equal, Greater}
@@ -11,7 +11,7 @@ use Rattle.std.proofs.lemmas.Slice.Eq.{bytes_eq-Decides}
 use Rattle.std.proofs.lemmas.List.{take_all, take_more}
 use Rattle.std.proofs.Math.Seq.{take-add}
 use Rattle.mi_text.specs.Maps.{Name, Map, name_cmp, same_name, is_among}
-use Rattle.mi_text.proofs.MapLemmas.{same, from_same, same_itself, get-set_to}
+use Rattle.mi_text.proofs.MapLemmas.{from_same, same_itself, get-set_to}
 use Rattle.mi_volume.specs.Maps.{bytes_or_none}
 use Rattle.mi_volume.specs.State.{State, Passes}
 use Rattle.mi_undo.specs.Names.{is_inside}

@@ -1,14 +1,14 @@
 -- What each exit of a run that writes leaves.
-use Rattle.std.proofs.Common.{◌≡◌, ◌⊎◌, inl, inr, ⊎_elim, ℕ, ◌≤◌, ◌<◌, ◌-◌, ◌^◌, Bool, true, false, List, Option, None, Some, Result, Ok, Err, OnOk, IsErrOf, cond, not, refl, sym, ap, subst, ◌∙◌, arith}
+use Rattle.std.proofs.Common.{◌≡◌, inl, inr, ⊎_elim, ℕ, ◌≤◌, ◌<◌, true, false, List, Option, None, Result, Ok, Err, OnOk, cond, not, refl, sym, ap, subst, ◌∙◌, arith}
 use Rattle.std.specs.FinMap.{get}
 use Rattle.mi_text.proofs.MapLemmas.{same}
 use Rattle.mi_volume.specs.Maps.{Map}
-use Rattle.mi_volume.specs.State.{State, Rose, GoesOn, Images, Stays, Passes}
-use Rattle.mi_volume.proofs.Moments.{each, joined, weaker, started, rose_before}
+use Rattle.mi_volume.specs.State.{State, Rose, GoesOn, Images, Passes}
+use Rattle.mi_volume.proofs.Moments.{joined, weaker, rose_before}
 use Rattle.mi_undo.specs.Names.{marker, is_inside, most_entries}
 use Rattle.mi_undo.specs.Stands.{StandsFor, outside}
 use Rattle.mi_undo.specs.Keeps.{Each, EitherFor, IsFree}
-use Rattle.mi_undo.specs.Answers.{Commits, InCommit as BetweenCommit, IfUnknown, CountsRise, IsFreeUnlessRose}
+use Rattle.mi_undo.specs.Answers.{Commits, InCommit as BetweenCommit, IfUnknown, IsFreeUnlessRose}
 use Rattle.mi_undo.specs.declared.kept.Kept.{Kept}
 use Rattle.mi_undo.specs.declared.fault.CommitFault.{CommitFault}
 use Rattle.mi_undo.specs.declared.fault.CommitFault.TheVariants as commit
@@ -19,14 +19,13 @@ use Rattle.mi_base.specs.declared.answers.Cause.TheVariants.{VolumeFault}
 use Rattle.mi_base.specs.declared.answers.Cause.TheVariants as cause
 use Rattle.mi_base.specs.declared.answers.Place.{Place}
 use Rattle.mi_base.specs.declared.answers.Place.TheVariants.{InRollback, InCommit}
-use Rattle.mi_base.specs.declared.answers.Pause.{Pause}
 use Rattle.mi_base.specs.declared.answers.Kind.{Kind}
 use Rattle.mi_base.specs.declared.answers.Kind.TheVariants as kind
 use Rattle.mi_engine.specs.declared.stop.Stop.{Stop}
 use Rattle.mi_engine.specs.declared.stop.Stop.TheVariants.{NoMemory, Refuse}
-use Rattle.mi_engine.specs.Calls.{IsVolumeStop, Fails}
+use Rattle.mi_engine.specs.Calls.{IsVolumeStop}
 use Rattle.mi_engine.specs.Looks.{Looks}
-use Rattle.mi_engine.specs.Ends.{BelowCount, IsVolumeFault, SuspendedMay, MayCommit, Allowed, AtPause, AtExit, Reads, Ends, PausedInRollback, PausedInCommit, Paused, WriteRefused, WriteCaused}
+use Rattle.mi_engine.specs.Ends.{BelowCount, MayCommit, Allowed, AtExit, Reads, Ends, Paused, WriteCaused}
 use Rattle.mi_engine.specs.Falls.{Falls, AnswersStop, ReadsBack, gone, stuck, unknown}
 
 -- ---- counts
@@ -38,8 +37,12 @@ raised s t le rose = λ under. grind (arith, le, under, rose.rose)
 pub rose_still : (n : ℕ) (s t u : State) → n ≤ s.faults → s.faults ≤ t.faults → t.faults ≤ u.faults → Rose s t → BelowCount n u.faults
 rose_still n s t u le more last rose = λ under. grind (arith, le, last, under, raised s t more rose)
 
-below_before : (n k m : ℕ) → n ≤ k → k ≤ m → BelowCount k m → BelowCount n m
+pub below_before : (n k m : ℕ) → n ≤ k → k ≤ m → BelowCount k m → BelowCount n m
 below_before n k m le more below = λ under. grind (arith, le, more, under, below)
+
+pub paused_before : (n k m : ℕ) (place : Place) (begun again : ℕ) (why : Option Cause) → n ≤ k → Paused k m place begun again why → Paused n m place begun again why
+paused_before n k m InRollback begun again why le p = record { entry = omega (arith, le, p.entry); between = p.between; exit = p.exit; rose = p.rose; met = p.met; fell = p.fell }
+paused_before n k m InCommit begun again why le p = record { entry = omega (arith, le, p.entry); between = p.between; exit = p.exit; rose = p.rose; met = p.met; fell = p.fell }
 
 -- a count from before
 pub caused_before : (n k m : ℕ) (answer : Kind) → n ≤ k → k ≤ m → WriteCaused k m answer → WriteCaused n m answer
@@ -52,31 +55,27 @@ caused_before n k m (kind.Refused (cause.Table fault)) le more c = absurd c
 caused_before n k m (kind.Refused (cause.BadWords place)) le more c = absurd c
 caused_before n k m (kind.Refused (cause.BadRollback name)) le more c = absurd c
 caused_before n k m (kind.Refused (cause.BadImage name)) le more c = absurd c
-caused_before n k m (kind.Suspended pause) le more c = at pause.place pause.begun pause.again pause.why c
-  where
-    at : (place : Place) (begun again : ℕ) (why : Option Cause) → Paused k m place begun again why → Paused n m place begun again why
-    at InRollback begun again why p = record { entry = omega (arith, le, p.entry); between = p.between; exit = p.exit; rose = p.rose; met = p.met; fell = p.fell }
-    at InCommit begun again why p = record { entry = omega (arith, le, p.entry); between = p.between; exit = p.exit; rose = p.rose; met = p.met; fell = p.fell }
+caused_before n k m (kind.Suspended pause) le more c = paused_before n k m pause.place pause.begun pause.again pause.why le c
 caused_before n k m kind.NoMemory le more c = tt
 
 -- ---- what was done before the rest of a run
+
+pub may_commit : (rose then : Type 0) → (rose → then) → (answer : Kind) → MayCommit rose answer → MayCommit then answer
+may_commit rose then f kind.Done may = may
+may_commit rose then f kind.Listed may = may
+may_commit rose then f (kind.Recovered settled) may = may
+may_commit rose then f (kind.Refused cause) may = may
+may_commit rose then f (kind.Suspended pause) may = may
+may_commit rose then f kind.NoMemory may = f may
 
 pub then_ends : (n k : ℕ) (s t u : State) (F A : Map) (answer : Kind) → n ≤ k → k ≤ u.faults → GoesOn s t (StandsFor F) → Ends k t u F A answer → Ends n s u F A answer
 then_ends n k s t u F A answer le more go ends = record {
   stops = joined s t u (Allowed F A (BelowCount n u.faults) answer)
       (weaker s t (StandsFor F) (Allowed F A (BelowCount n u.faults) answer) (λ d is. inl is) go)
-      (weaker t u (Allowed F A (BelowCount k u.faults) answer) (Allowed F A (BelowCount n u.faults) answer) (λ d is. ⊎_elim (λ f. inl f) (λ a. inr (commits answer a.0, a.1)) is) ends.stops);
+      (weaker t u (Allowed F A (BelowCount k u.faults) answer) (Allowed F A (BelowCount n u.faults) answer) (λ d is. ⊎_elim (λ f. inl f) (λ a. inr (may_commit (BelowCount k u.faults) (BelowCount n u.faults) (below_before n k u.faults le more) answer a.0, a.1)) is) ends.stops);
   leaves = ends.leaves;
   reads = ends.reads;
 }
-  where
-    commits : (answer : Kind) → MayCommit (BelowCount k u.faults) answer → MayCommit (BelowCount n u.faults) answer
-    commits kind.Done may = may
-    commits kind.Listed may = may
-    commits (kind.Recovered settled) may = may
-    commits (kind.Refused cause) may = may
-    commits (kind.Suspended pause) may = may
-    commits kind.NoMemory may = below_before n k u.faults le more may
 
 -- ---- going back
 

@@ -1,5 +1,5 @@
 -- The answer after going back.
-use Rattle.std.proofs.Common.{◌≡◌, inl, inr, ℕ, ◌≤◌, Option, None, Some, Result, Ok, Err, IsErrOf, IsNone, refl, subst, arith}
+use Rattle.std.proofs.Common.{inl, inr, ℕ, ◌≤◌, Option, None, Some, Result, Ok, Err, IsErrOf, IsNone, refl, arith}
 use Rattle.std.specs.Prelude.{IsSome}
 use Rattle.mi_volume.specs.Maps.{Map}
 use Rattle.mi_volume.specs.State.{State, Rose}

@@ -1,3 +1,4 @@
+mod BeforeLemmas
 mod CarryLemmas
 mod ChangeLemmas
 mod EndLemmas
@@ -8,14 +9,13 @@ mod LoadLemmas
 mod LookLemmas
 mod PieceLemmas
 mod PlanLemmas
+mod QuietLemmas
 mod RegistryLemmas
+mod ReplyLemmas
 mod ResultLemmas
 mod RowLemmas
-mod BeforeLemmas
-mod QuietLemmas
-mod ServeLemmas
-mod ReplyLemmas
 mod RunLemmas
+mod ServeLemmas
 mod TopLemmas
 mod TreeLemmas
 mod VolumeLemmas

@@ -1,8 +1,8 @@
 -- Planning rows.
-use Rattle.std.proofs.Common.{◌≡◌, ℕ, ◌+◌, ◌-◌, ◌<◌, ◌≤◌, Bool, true, false, cond, not, ◌&&◌, List, [], ◌∷◌, ◌++◌, length, map, take, drop, Option, Some, None, refl, sym, ap, ◌∙◌, subst, arith, add-one, append_assoc, suc, Result, Ok, Err, OnOk}
-use Rattle.std.specs.Prelude.{reverse, filter, is_none, is_some, option_map, nat_lt, nat_le, ◌==◌}
-use Rattle.std.specs.List.{flat_map, slice_split, onto_first, list_all, slice_index_or, slice_range}
-use Rattle.std.specs.FinMap.{get, insert, entries, from_entries, find, get-from_entries, get-entries, get-empty, empty}
+use Rattle.std.proofs.Common.{◌≡◌, ℕ, ◌+◌, ◌-◌, ◌<◌, Bool, true, false, cond, not, ◌&&◌, List, [], ◌∷◌, ◌++◌, length, map, take, drop, Option, Some, None, refl, sym, ap, ◌∙◌, subst, arith, add-one, append_assoc, suc, Result, Ok, Err, OnOk}
+use Rattle.std.specs.Prelude.{reverse, filter, is_none, is_some, option_map, nat_le, ◌==◌}
+use Rattle.std.specs.List.{slice_split, onto_first, list_all, slice_index_or, slice_range}
+use Rattle.std.specs.FinMap.{get, insert, entries, get-from_entries, get-entries, get-empty, empty}
 use Rattle.std.proofs.lemmas.List.{map-append, reverse-append, append-nil, take-append-drop}
 use Rattle.std.proofs.lemmas.List.Folds.{list_all-append}
 use Rattle.std.proofs.lemmas.List.Splits.{length-slice_split}
@@ -13,9 +13,9 @@ use Rattle.std.proofs.lemmas.Grind.{flat_map-append}
 use Rattle.std.proofs.Math.Seq.{drop-cons, drop-length, take-length}
 use Rattle.mi_base.specs.Limits.{is_key, has_no_zero}
 use Rattle.mi_text.specs.Maps.{Name, Map, name_cmp, same_name}
-use Rattle.mi_text.proofs.MapLemmas.{names_total, same, get-set_to, same_itself, from_same}
+use Rattle.mi_text.proofs.MapLemmas.{names_total, same, get-set_to, from_same}
 use Rattle.mi_volume.specs.State.{State, Passes}
-use Rattle.mi_volume.proofs.Moments.{then_passes, rose_before, rose_after}
+use Rattle.mi_volume.proofs.Moments.{rose_before, rose_after}
 use Rattle.std.specs.Prelude.{IsNone}
 use Rattle.mi_engine.specs.Changes.{NothingInside}
 use Rattle.mi_engine.specs.Looks.{Looks}
@@ -23,7 +23,7 @@ use Rattle.mi_undo.specs.Names.{is_inside}
 use Rattle.mi_base.specs.Names.{key_name, value_name}
 use Rattle.mi_engine.specs.Built.{Row}
 use Rattle.mi_engine.specs.After.{is_new, key_entry, value_entry, path_of, keys_of, values_of, planned, after, ends_from}
-use Rattle.mi_engine.specs.Calls.{map_of, or_else, first_under, Adds, Overlays, Fails, IsVolumeStop}
+use Rattle.mi_engine.specs.Calls.{or_else, first_under, Adds, Overlays, Fails, IsVolumeStop}
 use Rattle.mi_engine.specs.declared.stop.Stop.{Stop}
 use Rattle.mi_engine.specs.declared.stop.Stop.TheVariants.{NoMemory, Refuse}
 use Rattle.mi_base.specs.declared.answers.Cause.TheVariants.{BadWords, VolumeFault, BadRollback, BadImage, SourceFault, Table}

@@ -24,7 +24,9 @@ use Rattle.mi_engine.specs.Calls.{Fails}
 use Rattle.mi_engine.specs.Ends.{BelowCount, Allowed, AtExit, Reads, Ends}
 use Rattle.mi_engine.specs.Answers.{AnswersCommand, Caused, MayPause, Cleans, walks, log_of, IsLog}
 use Rattle.mi_engine.specs.declared.reply.Reply.{Reply}
-use Rattle.mi_engine.specs.Replies.{log_in, Replies, Serves}
+use Rattle.mi_engine.specs.Looks.{Looks}
+use Rattle.mi_engine.specs.Replies.{log_in, Serves}
+use Rattle.mi_engine.proofs.EndLemmas.{free_looks, looks_go, looks_leave, looks_read}
 
 -- an answer behind which the volume is as it was
 abbrev pub IsQuiet : Kind → Type 0
@@ -34,28 +36,6 @@ IsQuiet (Recovered settled) = Unit {0}
 IsQuiet (Refused cause) = Unit {0}
 IsQuiet (Suspended pause) = ⊥
 IsQuiet NoMemory = Unit {0}
-
--- ---- a settled volume
-
-pub all_outside : (s : State) → IsFree s → outside s.held ≡ s.held
-all_outside s free = same (outside s.held) s.held (λ q. get-outside s.held q ∙ at q)
-  where
-    at : (q : List ℕ) → cond (not (is_inside q)) (get s.held q) None ≡ get s.held q
-    at q =
-        elim (is_inside q) as (λ b. is_inside q ≡ b → cond (not b) (get s.held q) None ≡ get s.held q) [
-          | true ↦ λ is. sym (free.nothing_inside q is)
-          | false ↦ λ is. refl
-        ] refl
-
-pub free_stays : (s t : State) → IsFree s → Stays s t → IsFree t
-free_stays s t free stays = record { nothing_inside = λ q inside. ap (λ (m : Map). get m q) stays.held ∙ free.nothing_inside q inside; clean = λ q now. free.clean q (stays.dirty q now) }
-
-pub looks_still : (s : State) → Stays s s
-looks_still s = record { held = refl; dirty = λ q d. d }
-
--- it stands for what it holds
-pub free_each : (s : State) → IsFree s → Each s (StandsFor s.held)
-free_each s free d image = subst (λ (m : Map). StandsFor s.held m) (sym (clean_same s s.held refl free.clean d image)) (stands_itself s.held free.nothing_inside)
 
 -- ---- the end of such a run
 
@@ -75,11 +55,11 @@ quiet_reads F A (Refused cause) quiet m is = is
 quiet_reads F A (Suspended pause) quiet m is = absurd quiet
 quiet_reads F A NoMemory quiet m is = tt
 
-pub quiet_ends : (s t : State) (A : Map) (kind : Kind) → IsQuiet kind → IsFree s → Stays s t → GoesOn s t (Images s) → Ends s.faults s t s.held A kind
-quiet_ends s t A kind quiet free stays go = record {
-  stops = weaker s t (Images s) (Allowed s.held A (BelowCount s.faults t.faults) kind) (λ d image. inl (free_each s free d image)) go;
-  leaves = λ d image. at_exit s.held A kind quiet d (free_each s free d (image_stays s t go stays d image));
-  reads = quiet_reads s.held A kind quiet (outside t.held) (ap outside stays.held ∙ all_outside s free);
+pub quiet_ends : (s t : State) (A : Map) (kind : Kind) → IsQuiet kind → IsFree s → Looks s t → Ends s.faults s t s.held A kind
+quiet_ends s t A kind quiet free looks = record {
+  stops = weaker s t (StandsFor s.held) (Allowed s.held A (BelowCount s.faults t.faults) kind) (λ d is. inl is) (looks_go s t free looks);
+  leaves = λ d image. at_exit s.held A kind quiet d (looks_leave s t free looks d image);
+  reads = quiet_reads s.held A kind quiet (outside t.held) (looks_read s t free looks);
 }
 
 pub quiet_cleans : (s t : State) (kind : Kind) → IsQuiet kind → IsFree t → Cleans s t kind
@@ -100,11 +80,11 @@ answers_memory (Install folder) = tt
 answers_memory Products = tt
 answers_memory Recover = tt
 
-module _ (volume source : Type 0) (s t : State) (o : Outcome) (command : Command) (found : Settled → Type 0) (source_fails : Type 0) (free : volume → IsFree s) (stays : volume → Stays s t) (go : volume → GoesOn s t (Images s)) where
+module _ (volume source : Type 0) (s t : State) (o : Outcome) (command : Command) (found : Settled → Type 0) (source_fails : Type 0) (free : volume → IsFree s) (looks : volume → Looks s t) where
   pub quiet_serves : (kind : Kind) (bytes : List ℕ) → IsQuiet kind → Caused volume source o (Fails s t) source_fails (MayPause s t) kind → AnswersCommand command kind → IsLog volume found (walks (Ok command)) o kind bytes → Serves volume source s t o command found source_fails kind bytes
   quiet_serves kind bytes quiet caused answers log = record {
-    ends = λ v src. quiet_ends s t (map_after s.held o) kind quiet (free v) (stays v) (go v);
-    cleans = λ v. quiet_cleans s t kind quiet (free_stays s t (free v) (stays v));
+    ends = λ v src. quiet_ends s t (map_after s.held o) kind quiet (free v) (looks v);
+    cleans = λ v. quiet_cleans s t kind quiet (free_looks s t (free v) (looks v));
     caused = caused;
     answers = answers;
     log = log;

@@ -35,7 +35,8 @@ use Rattle.mi_engine.specs.Ends.{BelowCount, MayCommit, Allowed, AtExit, Reads, 
 use Rattle.mi_engine.specs.Answers.{IsBefore, AnswersCommand, AnswersWords, IsDone, Caused, MayPause, Completes, SameCount, MayStand, UnnotedStay, ReadsAfter, Cleans, walks, Tells, log_of, IsLog}
 use Rattle.mi_engine.specs.Endings.{kind_unsettled}
 use Rattle.mi_engine.specs.Replies.{log_in, Replies, Serves, Runs}
-use Rattle.mi_engine.proofs.BeforeLemmas.{earlier, may_commit, fails_before, pauses_before, caused_before, log_before, cleans_before}
+use Rattle.mi_engine.proofs.BeforeLemmas.{fails_before, pauses_before, caused_from, log_from, cleans_from}
+use Rattle.mi_engine.proofs.EndLemmas.{below_before, may_commit}
 
 pub ok_same : (r : Result Map Name) (F H : Map) → r ≡ Ok F → r ≡ Ok H → F ≡ H
 ok_same r F H is was = let both = sym is ∙ was in cc
@@ -89,7 +90,7 @@ module _ (volume source : Type 0) (s t u : State) (files : Files) (command : Com
         joined s t u (MayStand F whole (BelowCount s.faults u.faults) kind)
         (weaker s t (StandsFor F) (MayStand F whole (BelowCount s.faults u.faults) kind) (λ d standing. inl standing) (goes v clean F stood))
         (weaker t u (Allowed F (map_after F inner) (BelowCount t.faults u.faults) kind) (MayStand F whole (BelowCount s.faults u.faults) kind)
-        (λ d. may_stand F whole inner (BelowCount t.faults u.faults) (BelowCount s.faults u.faults) kind d (same_outcome (is v) (value v)) (earlier s.faults t.faults u.faults pass.faults then.faults))
+        (λ d. may_stand F whole inner (BelowCount t.faults u.faults) (BelowCount s.faults u.faults) kind d (same_outcome (is v) (value v)) (below_before s.faults t.faults u.faults pass.faults then.faults))
         (at_former v src F at).stops);
     leaves = λ v src clean F stood.
         let at : t.held ≡ F = ok_same (stands s.held) t.held F (value v) stood in
@@ -100,10 +101,10 @@ module _ (volume source : Type 0) (s t u : State) (files : Files) (command : Com
         (reads_after s.held F (map_after F inner) command kind u.held (at_former v src F at).reads);
     unread = λ v clean bad stood. absurd (not_bad (stands s.held) t.held bad (value v) stood);
     unread_stays = λ v bad stood. absurd (not_bad (stands s.held) t.held bad (value v) stood);
-    cleans = λ v. cleans_before s t u pass kind (serves.cleans v);
-    caused = caused_before volume source whole inner (λ v. same_outcome (is v) (value v)) (Fails s u) (Fails t u) source_fails (MayPause s u) (MayPause t u) (fails_before s t u pass) (pauses_before s t u pass) kind serves.caused;
+    cleans = λ v. cleans_from s t u pass kind (serves.cleans v);
+    caused = caused_from volume source whole inner (λ v. same_outcome (is v) (value v)) (Fails s u) (Fails t u) source_fails (MayPause s u) (MayPause t u) (fails_before s t u pass) (pauses_before s t u pass) kind serves.caused;
     answers = serves.answers;
-    log = log_before volume (λ x. volume → x ≡ settled s.held) (λ x. x ≡ found) (λ x e v. e ∙ is v) (walks (Ok command)) whole inner (λ v. same_outcome (is v) (value v)) bytes kind serves.log;
+    log = log_from volume (λ x. volume → x ≡ settled s.held) (λ x. x ≡ found) (λ x e v. e ∙ is v) (walks (Ok command)) whole inner (λ v. same_outcome (is v) (value v)) bytes kind serves.log;
   }
     where
       at_former : volume → source → (F : Map) → t.held ≡ F → Ends t.faults t u F (map_after F inner) kind

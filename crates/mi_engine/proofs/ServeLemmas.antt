@@ -33,8 +33,10 @@ use Rattle.mi_engine.specs.Calls.{Fails, CausedStop, IsSourceStop}
 use Rattle.mi_engine.specs.Ends.{BelowCount, Ends, WriteCaused, IsWriteKind}
 use Rattle.mi_engine.specs.Answers.{AnswersCommand, IsDone, Caused, MayPause, Cleans, walks, Tells, log_of, IsLog}
 use Rattle.mi_engine.specs.Endings.{kind_unscanned, kind_unloaded}
+use Rattle.mi_engine.specs.Looks.{Looks}
 use Rattle.mi_engine.specs.Replies.{log_in, Replies, Lists, WriteLogs, Serves}
-use Rattle.mi_engine.proofs.QuietLemmas.{IsQuiet, looks_still, quiet_serves, replied}
+use Rattle.mi_engine.proofs.QuietLemmas.{IsQuiet, quiet_serves, replied}
+use Rattle.mi_engine.proofs.LookLemmas.{looks_none}
 
 -- ---- a machine that isn't read
 
@@ -63,18 +65,18 @@ module _ (volume source : Type 0) (s t : State) (files : Files) (found : Settled
   scan_log scan.Fault = (found, (inl refl, refl))
   scan_log (scan.BadImage name) = (found, (refl, refl))
 
-  scan_serves : (e : ImageError) → (volume → IsFree s) → (volume → Stays s t) → (volume → GoesOn s t (Images s)) → (volume → (name : Name) → e ≡ scan.BadImage name → machine_of s.held ≡ Err name) → (e ≡ scan.Fault → Rose s t) → Serves volume source s t scanned command (λ x. x ≡ found) source_fails (kind_unscanned e) (log_of (walks (Ok command)) found (kind_unscanned e))
-  scan_serves e free stays go bad rose =
-      quiet_serves volume source s t scanned command (λ x. x ≡ found) source_fails free stays go (kind_unscanned e) (log_of (walks (Ok command)) found (kind_unscanned e)) (quiet e) (scan_caused e bad rose) (scan_answers e command) (scan_log e)
+  scan_serves : (e : ImageError) → (volume → IsFree s) → (volume → Looks s t) → (volume → (name : Name) → e ≡ scan.BadImage name → machine_of s.held ≡ Err name) → (e ≡ scan.Fault → Rose s t) → Serves volume source s t scanned command (λ x. x ≡ found) source_fails (kind_unscanned e) (log_of (walks (Ok command)) found (kind_unscanned e))
+  scan_serves e free looks bad rose =
+      quiet_serves volume source s t scanned command (λ x. x ≡ found) source_fails free looks (kind_unscanned e) (log_of (walks (Ok command)) found (kind_unscanned e)) (quiet e) (scan_caused e bad rose) (scan_answers e command) (scan_log e)
     where
       quiet : (e : ImageError) → IsQuiet (kind_unscanned e)
       quiet scan.NoMemory = tt
       quiet scan.Fault = tt
       quiet (scan.BadImage name) = tt
 
-  pub unscanned_serves : (e : ImageError) (r : Reply) → (volume → IsFree s) → (volume → Stays s t) → (volume → GoesOn s t (Images s)) → (volume → (name : Name) → e ≡ scan.BadImage name → machine_of s.held ≡ Err name) → (e ≡ scan.Fault → Rose s t) → Replies (walks (Ok command)) found (kind_unscanned e) r → Serves volume source s t scanned command (λ x. x ≡ found) source_fails r.kind (log_in r)
-  unscanned_serves e r free stays go bad rose is =
-      replied volume source s t scanned command (λ x. x ≡ found) source_fails free stays go (kind_unscanned e) (log_of (walks (Ok command)) found (kind_unscanned e)) r (scan_serves e free stays go bad rose) is
+  pub unscanned_serves : (e : ImageError) (r : Reply) → (volume → IsFree s) → (volume → Looks s t) → (volume → (name : Name) → e ≡ scan.BadImage name → machine_of s.held ≡ Err name) → (e ≡ scan.Fault → Rose s t) → Replies (walks (Ok command)) found (kind_unscanned e) r → Serves volume source s t scanned command (λ x. x ≡ found) source_fails r.kind (log_in r)
+  unscanned_serves e r free looks bad rose is =
+      replied volume source s t scanned command (λ x. x ≡ found) source_fails free looks (kind_unscanned e) (log_of (walks (Ok command)) found (kind_unscanned e)) r (scan_serves e free looks bad rose) is
 
 -- the outcome over the scanned machine
 pub scanned_outcome : (files : Files) (found : Settled) (h h' : Map) (image : Items) (command : Command) (r : Result Machine Name) → h' ≡ h → IsOkAnd r (ImageOf h files image) → of_command files found h' (machine_over h' files image) command ≡ of_machine files found h command r
@@ -86,20 +88,17 @@ scanned_outcome files found h h' image command (Err name) is of = absurd of
 module _ (volume source : Type 0) (s : State) (files : Files) (found : Settled) (source_fails : Type 0) (free : volume → IsFree s) where
   pub recover_serves : (m : Machine) (r : Reply) → Replies false found (Recovered found) r → Serves volume source s s (of_command files found s.held m Recover) Recover (λ x. x ≡ found) source_fails r.kind (log_in r)
   recover_serves m r is =
-      replied volume source s s (of_command files found s.held m Recover) Recover (λ x. x ≡ found) source_fails free stays go (Recovered found) (log_of false found (Recovered found)) r
-      (quiet_serves volume source s s (of_command files found s.held m Recover) Recover (λ x. x ≡ found) source_fails free stays go (Recovered found) (log_of false found (Recovered found)) tt (λ v. refl) tt (found, (refl, refl)))
+      replied volume source s s (of_command files found s.held m Recover) Recover (λ x. x ≡ found) source_fails free looks (Recovered found) (log_of false found (Recovered found)) r
+      (quiet_serves volume source s s (of_command files found s.held m Recover) Recover (λ x. x ≡ found) source_fails free looks (Recovered found) (log_of false found (Recovered found)) tt (λ v. refl) tt (found, (refl, refl)))
       is
     where
-      stays : volume → Stays s s
-      stays v = looks_still s
-
-      go : volume → GoesOn s s (Images s)
-      go v = started s (Images s)
+      looks : volume → Looks s s
+      looks v = looks_none s
 
   pub list_serves : (image : Items) (r : Reply) → Lists image r → Serves volume source s s (of_command files found s.held (machine_over s.held files image) Products) Products (λ x. x ≡ found) source_fails r.kind (log_in r)
   list_serves image r is =
-      replied volume source s s o Products (λ x. x ≡ found) source_fails free stays go Listed text r
-      (quiet_serves volume source s s o Products (λ x. x ≡ found) source_fails free stays go Listed text tt (λ v. (text, refl)) tt (λ v. refl))
+      replied volume source s s o Products (λ x. x ≡ found) source_fails free looks Listed text r
+      (quiet_serves volume source s s o Products (λ x. x ≡ found) source_fails free looks Listed text tt (λ v. (text, refl)) tt (λ v. refl))
       (⊎_elim (λ e. inl (e.0, e.1 s.held files)) (λ e. inr e) is)
     where
       text : List ℕ
@@ -108,11 +107,8 @@ module _ (volume source : Type 0) (s : State) (files : Files) (found : Settled) 
       o : Outcome
       o = of_command files found s.held (machine_over s.held files image) Products
 
-      stays : volume → Stays s s
-      stays v = looks_still s
-
-      go : volume → GoesOn s s (Images s)
-      go v = started s (Images s)
+      looks : volume → Looks s s
+      looks v = looks_none s
 
 -- ---- a package
 
@@ -146,18 +142,15 @@ module _ (volume source : Type 0) (files : Files) (folder : List ℕ) (found : S
 
   pub unloaded_serves : (s : State) (loaded : Result (List Row) Fault) (e : Stop) (r : Reply) → (volume → IsFree s) → (source → CausedStop source_fails loaded e) → IsSourceStop source_fails e → Replies true found (kind_unloaded e) r → Serves volume source s s (of_package s.held loaded) (Install folder) (λ x. x ≡ found) source_fails r.kind (log_in r)
   unloaded_serves s loaded e r free caused is replies =
-      replied volume source s s o (Install folder) (λ x. x ≡ found) source_fails free stays go (kind_unloaded e) (log_of true found (kind_unloaded e)) r
-      (quiet_serves volume source s s o (Install folder) (λ x. x ≡ found) source_fails free stays go (kind_unloaded e) (log_of true found (kind_unloaded e)) (quiet e) (load_caused s loaded e caused is) (load_answers e is) (load_log o e is))
+      replied volume source s s o (Install folder) (λ x. x ≡ found) source_fails free looks (kind_unloaded e) (log_of true found (kind_unloaded e)) r
+      (quiet_serves volume source s s o (Install folder) (λ x. x ≡ found) source_fails free looks (kind_unloaded e) (log_of true found (kind_unloaded e)) (quiet e) (load_caused s loaded e caused is) (load_answers e is) (load_log o e is))
       replies
     where
       o : Outcome
       o = of_package s.held loaded
 
-      stays : volume → Stays s s
-      stays v = looks_still s
-
-      go : volume → GoesOn s s (Images s)
-      go v = started s (Images s)
+      looks : volume → Looks s s
+      looks v = looks_none s
 
       quiet : (e : Stop) → IsQuiet (kind_unloaded e)
       quiet stop.NoMemory = tt

@@ -1,5 +1,5 @@
 -- Writing a plan over an open rollback area, and going back.
-use Rattle.std.specs.Prelude.{◌≡◌, ◌⊎◌, ◌≤◌, ℕ, List, None, Some, Result, Ok, Err, OnOk, IsNone}
+use Rattle.std.specs.Prelude.{◌≡◌, ◌⊎◌, ℕ, List, None, Some, Result, Ok, Err, OnOk}
 use Rattle.std.specs.List.{All, Contains}
 use Rattle.mi_text.specs.Maps.{Name}
 use Rattle.mi_volume.specs.Maps.{Map}
@@ -8,8 +8,7 @@ use Rattle.mi_volume.specs.declared.volume.VolFault.{VolFault}
 use Rattle.mi_volume.specs.declared.volume.VolFault.TheVariants as vol
 use Rattle.mi_undo.specs.Stands.{StandsFor, outside}
 use Rattle.mi_undo.specs.Keeps.{Each}
-use Rattle.mi_undo.specs.Area.{Works, CanGoBack, IsWorking, IsLive, noted_names}
-use Rattle.mi_undo.specs.declared.area.Open.{Open}
+use Rattle.mi_undo.specs.Area.{Works, CanGoBack}
 use Rattle.mi_undo.specs.declared.kept.Kept.{Kept}
 use Rattle.mi_undo.specs.declared.fault.OpFault.{OpFault}
 use Rattle.mi_undo.specs.declared.fault.OpFault.TheVariants as op
@@ -17,7 +16,6 @@ use Rattle.mi_undo.specs.declared.fault.BackFault.{BackFault}
 use Rattle.mi_undo.specs.declared.fault.BackFault.TheVariants as back
 use Rattle.mi_base.specs.declared.answers.Cause.TheVariants.{VolumeFault}
 use Rattle.mi_base.specs.declared.answers.Place.TheVariants.{InRollback, InCommit}
-use Rattle.mi_base.specs.declared.answers.Pause.{Pause}
 use Rattle.mi_base.specs.declared.answers.Kind.{Kind}
 use Rattle.mi_base.specs.declared.answers.Kind.TheVariants as kind
 use Rattle.mi_engine.specs.declared.stop.Stop.{Stop}

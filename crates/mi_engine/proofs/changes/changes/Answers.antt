@@ -6,7 +6,6 @@ use Rattle.mi_volume.proofs.Moments.{then_passes}
 use Rattle.mi_engine.specs.Calls.{map_of}
 use Rattle.mi_engine.specs.Changes.{holds, changes_of}
 use Rattle.mi_engine.proofs.LookLemmas.{looks_then}
-use Rattle.mi_engine.proofs.PlanLemmas.{fails_later, volume_stop}
 use Rattle.mi_engine.proofs.TreeLemmas.{entries-map_of, tree_at}
 use Rattle.mi_engine.proofs.ChangeLemmas.{planned_outside, sifts_start, sifts_change, sifts_held, sifted_all}
 use Rattle.mi_engine.proofs.changes.changes.Goals as goal

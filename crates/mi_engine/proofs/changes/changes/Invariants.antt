@@ -1,5 +1,3 @@
-use Rattle.std.specs.FinMap.{entries}
-use Rattle.mi_engine.specs.Calls.{map_of}
 use Rattle.mi_engine.proofs.ChangeLemmas.{Sifts}
 use Rattle.mi_engine.proofs.changes.changes.Given as goal
 

@@ -1,7 +1,7 @@
-use Rattle.std.proofs.Common.{Err, List, ℕ, ◌≡◌, arith, refl, sym, ap, subst, ◌∙◌}
+use Rattle.std.proofs.Common.{Err, arith, sym, ap, subst, ◌∙◌}
 use Rattle.mi_volume.specs.Maps.{Map}
 use Rattle.mi_volume.proofs.Moments.{joined, then_passes}
-use Rattle.mi_undo.specs.Stands.{StandsFor, outside}
+use Rattle.mi_undo.specs.Stands.{StandsFor}
 use Rattle.mi_base.specs.declared.answers.Cause.TheVariants.{VolumeFault}
 use Rattle.mi_base.specs.declared.answers.Kind.TheVariants.{Done}
 use Rattle.mi_engine.specs.declared.stop.Stop.TheVariants.{Refuse}

@@ -1,4 +1,4 @@
-use Rattle.std.proofs.Common.{◌≤◌, ◌-◌, length, drop, arith, length-drop}
+use Rattle.std.proofs.Common.{◌-◌, length, drop, arith, length-drop}
 use Rattle.mi_volume.specs.declared.volume.TheConstants.{PIECE}
 use Rattle.mi_engine.proofs.PieceLemmas.{piece_of}
 use Rattle.mi_engine.proofs.piece.piece_at.Goals as goal

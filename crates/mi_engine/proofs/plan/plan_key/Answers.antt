@@ -1,7 +1,7 @@
-use Rattle.std.proofs.Common.{◌≡◌, ◌∷◌, [], true, None, Some, List, ℕ, Option, ap, sym, subst, ◌∙◌, refl}
-use Rattle.std.specs.Prelude.{filter, is_some, option_map, length}
+use Rattle.std.proofs.Common.{◌≡◌, ◌∷◌, [], true, Some, List, ℕ, ap, sym, subst, ◌∙◌}
+use Rattle.std.specs.Prelude.{filter, is_some}
 use Rattle.std.specs.FinMap.{get}
-use Rattle.mi_text.specs.Maps.{Name, Map}
+use Rattle.mi_text.specs.Maps.{Name}
 use Rattle.mi_engine.specs.After.{is_new, key_entry}
 use Rattle.mi_engine.specs.Calls.{map_of, Adds}
 use Rattle.mi_engine.proofs.PlanLemmas.{adds_present, adds_new, no_length, unplanned, insert_outside, key_outside}

@@ -1,15 +1,14 @@
-use Rattle.std.proofs.Common.{◌≡◌, ◌+◌, ◌∷◌, [], true, false, List, ℕ, take, length, Result, Ok, Err, OnOk, sym, ap, subst, ◌∙◌, arith}
-use Rattle.std.specs.Prelude.{◌==◌, filter, nat_eq}
+use Rattle.std.proofs.Common.{◌≡◌, ◌+◌, true, false, List, ℕ, take, sym, ap, subst, ◌∙◌, arith}
+use Rattle.std.specs.Prelude.{◌==◌, nat_eq}
 use Rattle.std.specs.List.{slice_index_or}
 use Rattle.std.specs.BTreeMap.{BTreeMap}
 use Rattle.std.proofs.lemmas.Bool.Decides.{nat_tests}
 use Rattle.mi_text.specs.Maps.{Name, Map}
 use Rattle.mi_volume.specs.State.{State}
 use Rattle.mi_base.specs.Limits.{is_key}
-use Rattle.mi_engine.specs.After.{is_new, key_entry}
-use Rattle.mi_engine.specs.Calls.{map_of, Adds}
+use Rattle.mi_engine.specs.Calls.{map_of}
 use Rattle.mi_volume.proofs.Moments.{then_passes}
-use Rattle.mi_engine.proofs.PlanLemmas.{PlansPath, key_front, along_end, along_pass, along_all, adds_at, path_planned, front_at}
+use Rattle.mi_engine.proofs.PlanLemmas.{PlansPath, key_front, along_end, along_pass, adds_at, path_planned, front_at}
 use Rattle.mi_engine.proofs.LookLemmas.{looks_then}
 use Rattle.mi_engine.proofs.plan.plan_path.Goals as goal
 use Rattle.mi_engine.proofs.plan.plan_path.Goals.{then-byte-eq92+in_ok-plan_key, else-byte-eq92}

@@ -1,4 +1,4 @@
-use Rattle.std.proofs.Common.{Some, ◌∙◌, ap}
+use Rattle.std.proofs.Common.{Some}
 use Rattle.mi_engine.specs.After.{value_entry}
 use Rattle.mi_engine.specs.Calls.{map_of}
 use Rattle.mi_engine.proofs.TreeLemmas.{stored}

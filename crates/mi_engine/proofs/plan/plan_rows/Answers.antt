@@ -1,5 +1,4 @@
-use Rattle.std.proofs.Common.{refl, sym, ap, subst, ◌∙◌, List, ℕ, arith}
-use Rattle.mi_text.specs.Maps.{Name}
+use Rattle.std.proofs.Common.{refl, sym, ap, subst, ◌∙◌, arith}
 use Rattle.mi_engine.specs.Calls.{map_of}
 use Rattle.mi_engine.proofs.LookLemmas.{looks_none, looks_then}
 use Rattle.mi_engine.specs.Changes.{NothingInside}
