@@ -1,13 +1,13 @@
 //! Writing rows to a volume in memory, where no call fails, and where the first ones that matter do.
 
-ghost use Rattle.std.specs.Prelude.{◌≡◌, IfOk};
+ghost use Rattle.std.specs.Prelude.{IfOk};
 ghost use Rattle.mi_volume.specs.Memory.{state_of};
 ghost use Rattle.mi_undo.specs.Keeps.{IsFree};
 
 use crate::forward::write_rows;
 use crate::rows::{RegistryRow, row_from};
 use mi_base::{Bytes, Cause, Kind, Name, Pause, Place, Text};
-use mi_volume::{Failed, Fails, MemVolume, PIECE, PutFault, VolFault, Volume};
+use mi_volume::{Fails, MemVolume, PIECE, Volume};
 use std::alloc::Global;
 use std::test::Fail;
 
@@ -32,88 +32,6 @@ fn volume(alloc: Global, failing: &[u64]) -> Result<MemVolume, Fail>
     let mut list = Vec::new(alloc);
     list.extend_from_slice(failing)?;
     Ok(MemVolume::new(alloc, None, Fails { list, from: None })?)
-}
-
-/// A volume in memory of which, after so many puts and appends, the next ones answer want of memory.
-#[derive(Drop)]
-struct Scarce {
-    volume: MemVolume,
-    left: u64,
-}
-
-impl Scarce {
-    /// Whether this put or append finds no memory.
-    fn is_out(&mut self) -> bool
-        ensures volume { self.new.volume ≡ self.old.volume }
-    {
-        if self.left == 0 {
-            return true;
-        }
-        self.left -= 1;
-        false
-    }
-}
-
-impl Volume for Scarce {
-    ghost use Rattle.mi_volume.specs.Memory.{state_of};
-
-    ghost told = { Unit {0} };
-
-    ghost state = { λ s. state_of s.volume };
-
-    ghost counts_now = { λ told v t d le image. image };
-
-    fn next(&mut self, alloc: Global, after: Option<&Name>) -> Result<Option<Name>, VolFault> {
-        self.volume.next(alloc, after)
-    }
-
-    fn size(&mut self, name: &Name) -> Result<Option<u64>, Failed> {
-        self.volume.size(name)
-    }
-
-    fn read(
-        &mut self,
-        alloc: Global,
-        name: &Name,
-        at: u64,
-        want: usize,
-    ) -> Result<Bytes, VolFault> {
-        self.volume.read(alloc, name, at, want)
-    }
-
-    fn put(&mut self, alloc: Global, name: &Name, bytes: &[u8]) -> Result<(), PutFault> {
-        if self.is_out() {
-            return Err(PutFault::NoMemory);
-        }
-        self.volume.put(alloc, name, bytes)
-    }
-
-    fn append(&mut self, alloc: Global, name: &Name, bytes: &[u8]) -> Result<(), PutFault> {
-        if self.is_out() {
-            return Err(PutFault::NoMemory);
-        }
-        self.volume.append(alloc, name, bytes)
-    }
-
-    fn mark(&mut self, name: &Name, byte: u8) -> Result<(), Failed> {
-        self.volume.mark(name, byte)
-    }
-
-    fn remove(&mut self, name: &Name) -> Result<(), Failed> {
-        self.volume.remove(name)
-    }
-
-    fn sync(&mut self) -> Result<(), Failed> {
-        self.volume.sync()
-    }
-
-    fn free(&mut self) -> Result<Option<u64>, Failed> {
-        self.volume.free()
-    }
-
-    fn faults(&self) -> u64 {
-        self.volume.faults()
-    }
 }
 
 /// What a volume holds, as `name=record ` for each name.
@@ -215,25 +133,5 @@ fn further_faults_suspend_the_run(rt: HostRuntime) -> Result<(), Fail> {
         let (suspended, _) = answers(rt.alloc(), failing, expected)?;
         assert!(rt; suspended);
     }
-    Ok(())
-}
-
-/// Whether the row is answered by want of memory where its ninth put finds none, and what is held then.
-fn scarce(alloc: Global) -> Result<(bool, Bytes), Fail> {
-    let rows = rows(alloc)?;
-    let mut scarce = Scarce {
-        volume: volume(alloc, &[])?,
-        left: 8,
-    };
-    let kind = write_rows(alloc, &mut scarce, rows.as_slice());
-    let bytes = held(alloc, &mut scarce.volume)?;
-    Ok((word(&kind) == "NoMemory", bytes))
-}
-
-#[test]
-fn want_of_memory_in_a_put_leaves_no_name(rt: HostRuntime) -> Result<(), Fail> {
-    let (out, held) = scarce(rt.alloc())?;
-    assert!(rt; out);
-    assert_eq!(rt; held.as_slice(), b"".as_slice());
     Ok(())
 }
