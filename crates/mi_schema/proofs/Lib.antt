@@ -1,0 +1,3 @@
+pub mod ConditionLaws
+pub mod KeyLemmas
+pub mod NumberLaws

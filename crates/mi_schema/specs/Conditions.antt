@@ -1,6 +1,8 @@
 -- Conditions as values of a table (Conditional Statement Syntax).
 use Rattle.std.specs.Prelude.{◌≡◌, ℕ, ◌+◌, nat_lt, if◌then◌else◌, List, [], ◌∷◌, Option, Some, None, Result, Ok, Err}
 use Rattle.mi_cond.specs.Tree.{Tree}
+use Rattle.mi_cond.specs.declared.error.CondFault.{CondFault}
+use Rattle.mi_cond.specs.declared.error.CondFault.TheVariants.{Syntax, TooDeep}
 use Rattle.mi_cond.specs.Texts.{IsRead}
 use Rattle.mi_cond.specs.Place.{IsPlace}
 use Rattle.mi_cond.specs.Scans.{start}
@@ -11,6 +13,11 @@ use Rattle.mi_cond.specs.Moves.{Place, byte, read_end}
 abbrev pub IsCondition : Result Tree ℕ → List ℕ → Type 0
 IsCondition (Ok tree) text = IsRead text tree
 IsCondition (Err place) text = IsPlace text place
+
+-- the place of a fault
+abbrev pub place_in : CondFault → ℕ
+place_in (Syntax place) = place
+place_in (TooDeep place) = place
 
 -- ---- which of the two, byte by byte; proofs/ConditionLaws shows that it is
 

@@ -1,8 +1,10 @@
 pub mod Answers
+pub mod Checks
 pub mod Conditions
 pub mod Described
 pub mod Reads
 pub mod Rows
+pub mod Seen
 pub mod Tables
 pub mod Texts
 pub mod Values

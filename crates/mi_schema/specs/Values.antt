@@ -5,7 +5,7 @@ use Rattle.std.specs.Ordering.{int_eq}
 use Rattle.std.specs.Option.{option_map_or}
 use Rattle.std.specs.List.{slice_index_or, list_any}
 use Rattle.std.specs.Str.{bytes_eq}
-use Rattle.mi_text.specs.Maps.{Name}
+use Rattle.mi_text.specs.Maps.{Name, same_name}
 use Rattle.mi_text.specs.Guid.{guid_of}
 use Rattle.mi_text.specs.PropertyNames.{is_property_name}
 use Rattle.mi_text.specs.Version.{version_of}
@@ -111,13 +111,20 @@ is_root_below own (Some parent) = bytes_eq parent own
 abbrev pub is_root : Row → Bool
 is_root row = is_root_below (text_at row 0) (text_in (cell_at row 1))
 
--- a row of Component with this id
-abbrev pub same_code : ℕ → Option Cell → Bool
-same_code number (Some (Code code)) = number == code.number
-same_code number other = false
+-- the id of a row of Component
+abbrev pub code_in : Option Cell → Option ℕ
+code_in (Some (Code code)) = Some code.number
+code_in other = None
+
+abbrev pub code_at : Row → Option ℕ
+code_at row = code_in (cell_at row 1)
+
+abbrev pub same_code : ℕ → Option ℕ → Bool
+same_code number None = false
+same_code number (Some code) = number == code
 
 abbrev pub has_code : ℕ → Row → Bool
-has_code number row = same_code number (cell_at row 1)
+has_code number row = same_code number (code_at row)
 
 abbrev pub is_new_code : List Row → Option Cell → Bool
 is_new_code before (Some (Code code)) = not (list_any (has_code code.number) before)
@@ -126,6 +133,10 @@ is_new_code before other = true
 -- a text that passes, or none
 abbrev pub if_text : (List ℕ → Bool) → Option Cell → Bool
 if_text test cell = option_map_or test (text_in cell) true
+
+-- a key of a table
+abbrev pub is_key_in : List Name → Name → Bool
+is_key_in keys q = list_any (same_name q) keys
 
 -- What a rule asks of a value, where `keys` are the texts of the table's first column, `before` the rows before this one
 -- and `front` the values before this one in its row.
@@ -137,7 +148,7 @@ meets rule.DefaultDir keys before front cell = is_root front || if_text is_defau
 meets rule.NewCode keys before front cell = is_new_code before cell
 meets (rule.Without bits) keys before front cell = lacks bits (number_in cell)
 meets (rule.Within low high) keys before front cell = is_none cell || (int_le low (number_in cell) && int_le (number_in cell) high)
-meets rule.VersionOrKey keys before front cell = if_text (λ text. is_some (version_of text) || list_any (bytes_eq text) keys) cell
+meets rule.VersionOrKey keys before front cell = if_text (λ text. is_some (version_of text) || is_key_in keys text) cell
 meets rule.Languages keys before front cell = if_text are_languages cell
 meets rule.WordCount keys before front cell = not (int_eq (number_in (cell_at front 0)) (pos 15)) || is_decimal (unwrap_or (text_in cell) [])
 meets rule.Free keys before front cell = true
