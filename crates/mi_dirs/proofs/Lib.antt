@@ -1,6 +1,6 @@
-mod ChainLemmas
+pub mod ChainLemmas
 mod PathLemmas
-mod RowLemmas
+pub mod RowLemmas
 mod TargetLemmas
 mod SourceLemmas
 mod OwnLemmas

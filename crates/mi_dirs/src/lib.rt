@@ -17,6 +17,5 @@ mod tests;
 
 pub use dirs::{Dirs, resolve};
 pub use fault::{DirError, DirFault};
-pub use index::index_of;
 pub use order::order_of;
 pub use rows::DirRow;

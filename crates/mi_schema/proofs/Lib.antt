@@ -1,3 +1,7 @@
+pub mod ColumnLemmas
 pub mod ConditionLaws
+pub mod FileLemmas
+pub mod FitLemmas
 pub mod KeyLemmas
 pub mod NumberLaws
+pub mod RowLemmas

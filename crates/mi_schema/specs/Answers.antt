@@ -10,13 +10,16 @@ abbrev pub error_of : SrcFault → LoadError
 error_of source.NoMemory = NoMemory
 error_of source.Failed = Source
 
--- A value that is as P says, where there is no fault, or the fault. `failed` says that the source's count rose. Want of
--- memory may come at any time.
+-- why there is no value: `failed` says that the source's count rose; want of memory may come at any time
+abbrev pub Fails : Type 0 → Option Fault → LoadError → Type 0
+Fails failed fault NoMemory = Unit {0}
+Fails failed fault Source = failed
+Fails failed fault (Table f) = fault ≡ Some f
+
+-- a value that is as P says, where there is no fault, or why there is none
 abbrev pub Answers : {X : Type 0} → Type 0 → Option Fault → (X → Type 0) → Result X LoadError → Type 0
 Answers failed fault P (Ok x) = (fault ≡ None) × P x
-Answers failed fault P (Err NoMemory) = Unit {0}
-Answers failed fault P (Err Source) = failed
-Answers failed fault P (Err (Table f)) = fault ≡ Some f
+Answers failed fault P (Err e) = Fails failed fault e
 
 -- the same of a source that doesn't tell its content
 abbrev pub IsCounted : {X : Type 0} → Type 0 → Result X LoadError → Type 0

@@ -2,6 +2,8 @@ pub mod Answers
 pub mod Checks
 pub mod Conditions
 pub mod Described
+pub mod Files
+pub mod Read
 pub mod Reads
 pub mod Rows
 pub mod Seen

@@ -1,0 +1,162 @@
+//! A table of the package, from its file.
+
+ghost use Rattle.std.specs.Prelude.{◌≡◌, ◌≤◌, ◌&&◌, Some, IfOk, map, []};
+ghost use Rattle.std.specs.Str.{bytes_eq};
+ghost use Rattle.mi_base.specs.declared.answers.Fault.TheVariants as fault;
+ghost use Rattle.mi_source.specs.Counts.{Rose};
+ghost use Rattle.mi_idt.specs.Means.{IsSpelled, meaning, column_value};
+ghost use Rattle.mi_schema.specs.Answers.{Answers, IsCounted};
+ghost use Rattle.mi_schema.specs.Described.{column_as, table_as};
+ghost use Rattle.mi_schema.specs.Reads.{Refuses};
+ghost use Rattle.mi_schema.specs.Rows.{is_of_class, begins_with, key_places, has_columns, rows_in, value_fault, table_fault, table_rows};
+ghost use Rattle.mi_schema.specs.Checks.{table_path, bytes_of, rows_of};
+ghost use Rattle.mi_schema.specs.Read.{Holds};
+
+use crate::column::{Column, Kind, Layout};
+use crate::error::LoadError;
+use crate::file::read_file;
+use crate::row::{Rows, read_rows};
+use mi_base::{Fault, IdtFault, NoMemory, Text};
+use mi_idt::{Column as Spelled, IdtError, Table, read_table};
+use mi_source::Source;
+use std::alloc::Global;
+use std::collections::BTreeMap;
+
+/// Whether the letter of a definition is of the class of a kind.
+fn is_of_class(kind: Kind, letter: u8) -> bool
+    ensures { result ≡ is_of_class kind letter }
+{
+    match kind {
+        Kind::Integer => matches!(letter, b'i' | b'I'),
+        _ => matches!(letter, b's' | b'S' | b'l' | b'L'),
+    }
+}
+
+/// Whether a column has the name and the class of a known one.
+fn is_known(column: &Spelled, known: &Column) -> bool
+    ensures { result ≡ (bytes_eq column.now.name.now known.now.name.now && is_of_class known.now.kind column.now.letter) }
+{
+    let named = column.name == known.name;
+    let classed = is_of_class(known.kind, column.letter);
+    named && classed
+}
+
+/// Whether the columns begin with the known ones, in this order.
+fn begins_with(known: &[Column], columns: &[Spelled]) -> bool
+    ensures { result ≡ begins_with (map column_as known.now) (map column_value columns.now) }
+{
+    if columns.len() < known.len() {
+        return false;
+    }
+    for (i, column) in known.iter().enumerate() {
+        if !is_known(&columns[i], column) {
+            return false;
+        }
+    }
+    true
+}
+
+/// Whether the keys are the places of the key columns.
+fn has_keys(known: &[Column], keys: &[u32]) -> bool
+    ensures { result ≡ bytes_eq keys.now (key_places 0 (map column_as known.now)) }
+{
+    let mut next = 0;
+    for (i, column) in known.iter().enumerate() {
+        if column.key {
+            if next == keys.len() || keys[next] as usize != i {
+                return false;
+            }
+            next += 1;
+        }
+    }
+    next == keys.len()
+}
+
+/// Whether a table has the columns and the keys of its layout.
+#[tactic(auto, unfolding(mi_idt::specs::Means::meaning))]
+fn has_columns(known: &[Column], table: &Table) -> bool
+    ensures { result ≡ has_columns (map column_as known.now) (meaning table.now) }
+{
+    let keyed = has_keys(known, table.keys.as_slice());
+    let begun = begins_with(known, table.columns.as_slice());
+    keyed && begun
+}
+
+/// A fault that names its table.
+fn unsupported(alloc: Global, table: &str) -> LoadError
+    ensures { Refuses result (fault.Unsupported table.now) }
+{
+    match Text::copy_of(alloc, table) {
+        Ok(table) => LoadError::Table(Fault::Unsupported(table)),
+        Err(_) => LoadError::NoMemory,
+    }
+}
+
+/// A fault that names its table.
+fn other_columns(alloc: Global, table: &str) -> LoadError
+    ensures { Refuses result (fault.Columns table.now) }
+{
+    match Text::copy_of(alloc, table) {
+        Ok(table) => LoadError::Table(Fault::Columns(table)),
+        Err(_) => LoadError::NoMemory,
+    }
+}
+
+/// A fault of the text of a table.
+fn misspelled(alloc: Global, table: &str, fault: IdtFault) -> LoadError
+    ensures { Refuses result (fault.Idt table.now fault) }
+{
+    match Text::copy_of(alloc, table) {
+        Ok(table) => LoadError::Table(Fault::Idt(table, fault)),
+        Err(_) => LoadError::NoMemory,
+    }
+}
+
+/// A table without rows.
+fn no_rows(alloc: Global) -> Rows
+    ensures { Holds result [] }
+{
+    Rows {
+        rows: Vec::new(alloc),
+        index: BTreeMap::new(alloc),
+    }
+}
+
+/// The rows of a table that its bytes spell, or its first fault.
+fn read_spelled(alloc: Global, layout: &Layout, table: &Table) -> Result<Rows, LoadError>
+    requires { IsSpelled table.now }
+    ensures { Answers ⊥ (value_fault (table_as layout.now) (meaning table.now)) (λ held. Holds held (rows_in (table_as layout.now) (meaning table.now))) result }
+{
+    if layout.columns.is_empty() {
+        if table.rows.is_empty() {
+            return Ok(no_rows(alloc));
+        }
+        return Err(unsupported(alloc, layout.name));
+    }
+    if !has_columns(layout.columns, table) {
+        return Err(other_columns(alloc, layout.name));
+    }
+    read_rows(alloc, layout, table)
+}
+
+/// The rows of a table in these bytes, or its first fault.
+fn read_bytes(alloc: Global, layout: &Layout, bytes: &[u8]) -> Result<Rows, LoadError>
+    ensures { Answers ⊥ (table_fault (table_as layout.now) (Some bytes.now)) (λ held. Holds held (table_rows (table_as layout.now) (Some bytes.now))) result }
+{
+    match read_table(alloc, bytes) {
+        Ok(table) => read_spelled(alloc, layout, &table),
+        Err(IdtError::NoMemory) => Err(LoadError::NoMemory),
+        Err(IdtError::Fault(fault)) => Err(misspelled(alloc, layout.name, fault)),
+    }
+}
+
+/// The path of a table's file.
+pub fn path_of(alloc: Global, folder: &str, table: &str) -> Result<Text, NoMemory>
+    ensures { IfOk result (λ path. path ≡ table_path folder.now table.now) }
+{
+    let mut path = Text::copy_of(alloc, folder)?;
+    path.push_str("/")?;
+    path.push_str(table)?;
+    path.push_str(".idt")?;
+    Ok(path)
+}
