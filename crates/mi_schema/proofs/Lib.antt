@@ -5,3 +5,4 @@ pub mod FitLemmas
 pub mod KeyLemmas
 pub mod NumberLaws
 pub mod RowLemmas
+pub mod TableLemmas

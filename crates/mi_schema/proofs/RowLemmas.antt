@@ -89,14 +89,14 @@ abbrev pub SameRows : Table → List Name → List (List raw.Cell) → ℕ → T
 SameRows t keys rows i = rows_fault t keys (map (row_of t.columns) (take i rows)) (i + 1) (drop i rows) ≡ rows_fault t keys [] 1 rows
 
 -- an error of a value is the fault of its row
-pub refused_at : (e : LoadError) (f : Fault) (o : Option Fault) → Refuses e f → o ≡ Some f → Fails ⊥ o e
-refused_at NoMemory f o is at = tt
-refused_at Source f o is at = is
-refused_at (TableFault g) f o is at = at ∙ ap Some (sym is)
+pub refused_at : (failed : Type 0) (e : LoadError) (f : Fault) (o : Option Fault) → Refuses e f → o ≡ Some f → Fails failed o e
+refused_at failed NoMemory f o is at = tt
+refused_at failed Source f o is at = absurd is
+refused_at failed (TableFault g) f o is at = at ∙ ap Some (sym is)
 
 pub refused_as : (fault : Option Bad) (at : Bad → Fault) (o : Option Fault) → ((b : Bad) → fault ≡ Some b → o ≡ Some (at b)) → (error : CellError) (e : LoadError) → RefusesAs error at e → IsBad fault error → Fails ⊥ o e
 refused_as fault at o h NoCellMemory e refuses bad = subst (Fails ⊥ o) (sym refuses) tt
-refused_as fault at o h (BadCell b) e refuses bad = refused_at e (at b) o refuses (h b bad)
+refused_as fault at o h (BadCell b) e refuses bad = refused_at ⊥ e (at b) o refuses (h b bad)
 
 module _ (t : Table) (keys : List Name) (rows : List (List raw.Cell)) (i : ℕ) (lt : i < length rows) (so : SameRows t keys rows i) where
   abbrev before : List Row

@@ -1,8 +1,9 @@
 //! A table of the package, from its file.
 
-ghost use Rattle.std.specs.Prelude.{◌≡◌, ◌≤◌, ◌&&◌, Some, IfOk, map, []};
+ghost use Rattle.std.specs.Prelude.{◌≡◌, ◌≤◌, ◌&&◌, Some, IfOk, OnErr, is_some, map, []};
+ghost use Rattle.std.specs.FinMap.{get};
 ghost use Rattle.std.specs.Str.{bytes_eq};
-ghost use Rattle.mi_base.specs.declared.answers.Fault.TheVariants as fault;
+ghost use Rattle.mi_base.specs.declared.answers.Fault.TheVariants as faults;
 ghost use Rattle.mi_source.specs.Counts.{Rose};
 ghost use Rattle.mi_idt.specs.Means.{IsSpelled, meaning, column_value};
 ghost use Rattle.mi_schema.specs.Answers.{Answers, IsCounted};
@@ -18,7 +19,7 @@ use crate::file::read_file;
 use crate::row::{Rows, read_rows};
 use mi_base::{Fault, IdtFault, NoMemory, Text};
 use mi_idt::{Column as Spelled, IdtError, Table, read_table};
-use mi_source::Source;
+use mi_source::{Failed, Source};
 use std::alloc::Global;
 use std::collections::BTreeMap;
 
@@ -84,7 +85,7 @@ fn has_columns(known: &[Column], table: &Table) -> bool
 
 /// A fault that names its table.
 fn unsupported(alloc: Global, table: &str) -> LoadError
-    ensures { Refuses result (fault.Unsupported table.now) }
+    ensures { Refuses result (faults.Unsupported table.now) }
 {
     match Text::copy_of(alloc, table) {
         Ok(table) => LoadError::Table(Fault::Unsupported(table)),
@@ -94,7 +95,7 @@ fn unsupported(alloc: Global, table: &str) -> LoadError
 
 /// A fault that names its table.
 fn other_columns(alloc: Global, table: &str) -> LoadError
-    ensures { Refuses result (fault.Columns table.now) }
+    ensures { Refuses result (faults.Columns table.now) }
 {
     match Text::copy_of(alloc, table) {
         Ok(table) => LoadError::Table(Fault::Columns(table)),
@@ -103,11 +104,11 @@ fn other_columns(alloc: Global, table: &str) -> LoadError
 }
 
 /// A fault of the text of a table.
-fn misspelled(alloc: Global, table: &str, fault: IdtFault) -> LoadError
-    ensures { Refuses result (fault.Idt table.now fault) }
+fn misspelled(alloc: Global, table: &str, why: IdtFault) -> LoadError
+    ensures { Refuses result (faults.Idt table.now why) }
 {
     match Text::copy_of(alloc, table) {
-        Ok(table) => LoadError::Table(Fault::Idt(table, fault)),
+        Ok(table) => LoadError::Table(Fault::Idt(table, why)),
         Err(_) => LoadError::NoMemory,
     }
 }
@@ -159,4 +160,38 @@ pub fn path_of(alloc: Global, folder: &str, table: &str) -> Result<Text, NoMemor
     path.push_str(table)?;
     path.push_str(".idt")?;
     Ok(path)
+}
+
+/// Whether a file is there.
+pub fn is_there<S: Source>(src: &mut S, path: &str) -> Result<bool, Failed>
+    ensures value { S.told → IfOk result (λ there. there ≡ is_some (get (S.files src.old) path.now)) }
+    ensures stays { S.files src.new ≡ S.files src.old }
+    ensures counts { S.faults src.old ≤ S.faults src.new }
+    ensures failed { OnErr result (Rose (S.faults src.old) (S.faults src.new)) }
+{
+    let size = src.size(path)?;
+    Ok(size.is_some())
+}
+
+/// The rows of a table in a folder, or its first fault; none where its file isn't there.
+pub fn load_table<S: Source>(
+    alloc: Global,
+    src: &mut S,
+    folder: &str,
+    layout: &Layout,
+) -> Result<Rows, LoadError>
+    ensures value { S.told → Answers (Rose (S.faults src.old) (S.faults src.new)) (table_fault (table_as layout.now) (bytes_of (S.files src.old) folder.now (table_as layout.now)))
+        (λ held. Holds held (rows_of (S.files src.old) folder.now (table_as layout.now))) result }
+    ensures counted { IsCounted (Rose (S.faults src.old) (S.faults src.new)) result }
+    ensures stays { S.files src.new ≡ S.files src.old }
+    ensures counts { S.faults src.old ≤ S.faults src.new }
+{
+    let path = path_of(alloc, folder, layout.name)?;
+    if !is_there(src, path.as_str())? {
+        return Ok(no_rows(alloc));
+    }
+    match read_file(alloc, src, path.as_str())? {
+        Some(bytes) => read_bytes(alloc, layout, bytes.as_slice()),
+        None => Err(misspelled(alloc, layout.name, IdtFault::TooLarge)),
+    }
 }
