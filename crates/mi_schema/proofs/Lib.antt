@@ -3,6 +3,8 @@ pub mod ConditionLaws
 pub mod FileLemmas
 pub mod FitLemmas
 pub mod KeyLemmas
+pub mod ListLemmas
+pub mod LoadLemmas
 pub mod NumberLaws
 pub mod RowLemmas
 pub mod TableLemmas

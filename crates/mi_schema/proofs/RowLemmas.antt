@@ -5,6 +5,7 @@ use Rattle.std.specs.List.{slice_index_or}
 use Rattle.std.proofs.Math.Seq.{drop-cons, drop-length, take-suc}
 use Rattle.std.proofs.lemmas.List.{append-nil, map-append, length-map, length-take-le}
 use Rattle.mi_text.specs.Maps.{Name}
+use Rattle.mi_schema.proofs.ListLemmas.{map_next}
 use Rattle.mi_base.specs.declared.answers.Fault.{Fault}
 use Rattle.mi_idt.specs.Cells as raw
 use Rattle.mi_schema.specs.declared.cell.Bad.{Bad}
@@ -26,11 +27,6 @@ pub record IsReading (table : Name) (number : ℕ) (keys : List Name) (before : 
   pub value : row ++ row_of (drop i cols) (drop i cells) ≡ row_of cols cells
   pub fault : cells_fault table number keys before (i + 1) row (drop i cols) (drop i cells) ≡ cells_fault table number keys before 1 [] cols cells
 
-column_next : (listed : List Listed) (i : ℕ) (d : Listed) → i < length listed → drop i (map column_as listed) ≡ column_as (slice_index_or listed i d) ∷ drop (suc i) (map column_as listed)
-column_next [] i d lt = absurd (omega arith)
-column_next (k ∷ ks) zero d lt = refl
-column_next (k ∷ ks) (suc i) d lt = column_next ks i d (omega arith)
-
 module _ (listed : List Listed) (cells : List raw.Cell) (i : ℕ) (row : Row) (d : Listed) (lt : i < length listed) (there : i < length cells) where
   abbrev cols : List Column
   cols = map column_as listed
@@ -42,7 +38,7 @@ module _ (listed : List Listed) (cells : List raw.Cell) (i : ℕ) (row : Row) (d
   x = slice_index_or cells i raw.Nothing
 
   next_column : drop i cols ≡ c ∷ drop (i + 1) cols
-  next_column = column_next listed i d lt ∙ ap (λ n. c ∷ drop n cols) (sym (add-one i))
+  next_column = map_next column_as listed i d lt
 
   next_cell : drop i cells ≡ x ∷ drop (i + 1) cells
   next_cell = drop-cons cells i raw.Nothing there ∙ ap (λ n. x ∷ drop n cells) (sym (add-one i))
@@ -136,7 +132,7 @@ pub keys_long : (cols : List Column) (rows : List (List raw.Cell)) (i : ℕ) →
 keys_long cols rows i le = length-map (map (row_of cols) (take i rows)) (λ (row : Row). text_at row 0) ∙ length-map (take i rows) (row_of cols) ∙ length-take-le i rows le
 
 -- an error is passed on
-pub passed_on : (failed : Type 0) (o p : Option Fault) → ((f : Fault) → o ≡ Some f → p ≡ Some f) → (e : LoadError) → Fails failed o e → Fails failed p e
-passed_on failed o p h NoMemory fails = tt
-passed_on failed o p h Source fails = fails
-passed_on failed o p h (TableFault f) fails = h f fails
+pub passed_on : (failed more : Type 0) → (failed → more) → (o p : Option Fault) → ((f : Fault) → o ≡ Some f → p ≡ Some f) → (e : LoadError) → Fails failed o e → Fails more p e
+passed_on failed more up o p h NoMemory fails = tt
+passed_on failed more up o p h Source fails = up fails
+passed_on failed more up o p h (TableFault f) fails = h f fails

@@ -15,10 +15,10 @@ use Rattle.mi_schema.specs.declared.column.Column.{Column as Listed}
 use Rattle.mi_schema.specs.Described.{column_as}
 use Rattle.mi_schema.specs.Tables.{Table}
 use Rattle.mi_schema.specs.Rows.{◌or_else◌, are_none, rows_in, value_fault, unsupported, spelled_value, table_fault, table_rows}
-use Rattle.mi_schema.specs.declared.row.Rows.{Rows}
+use Rattle.mi_schema.specs.declared.held.Rows.{Rows}
 use Rattle.mi_schema.specs.declared.error.LoadError.{LoadError}
 use Rattle.mi_schema.specs.Answers.{Answers}
-use Rattle.mi_schema.specs.Read.{Holds}
+use Rattle.mi_schema.specs.Read.{rows_as}
 use Rattle.mi_schema.specs.Values.{row_of}
 
 pub are_none_of : (listed : List Listed) (b : Bool) → b ≡ (length listed == 0) → b ≡ true → are_none (map column_as listed) ≡ true
@@ -53,11 +53,11 @@ pub meaning_in : (bytes : List ℕ) (t : Spelled) → IsSpelledBy bytes t → me
 unfolding meaning
 meaning_in bytes t spelled = ap value_of spelled.stands
 
-pub read_spelled : (t : Table) (bytes : List ℕ) (s : Spelled) (r : Result Rows LoadError) → IsSpelledBy bytes s → idt_fault bytes ≡ None → Answers ⊥ (value_fault t (meaning s)) (λ (held : Rows). Holds held (rows_in t (meaning s))) r
-    → Answers ⊥ (table_fault t (Some bytes)) (λ (held : Rows). Holds held (table_rows t (Some bytes))) r
+pub read_spelled : (t : Table) (bytes : List ℕ) (s : Spelled) (r : Result Rows LoadError) → IsSpelledBy bytes s → idt_fault bytes ≡ None → Answers ⊥ (value_fault t (meaning s)) (λ (held : Rows). rows_as held ≡ rows_in t (meaning s)) r
+    → Answers ⊥ (table_fault t (Some bytes)) (λ (held : Rows). rows_as held ≡ table_rows t (Some bytes)) r
 read_spelled t bytes s r spelled none answers =
-    subst (λ (f : Option IdtFault). Answers ⊥ (option_map (Idt t.name) f or_else value_fault t (spelled_value bytes)) (λ (held : Rows). Holds held (rows_in t (spelled_value bytes))) r) (sym none)
-    (subst (λ (v : raw.TableValue). Answers ⊥ (value_fault t v) (λ (held : Rows). Holds held (rows_in t v)) r) (meaning_in bytes s spelled) answers)
+    subst (λ (f : Option IdtFault). Answers ⊥ (option_map (Idt t.name) f or_else value_fault t (spelled_value bytes)) (λ (held : Rows). rows_as held ≡ rows_in t (spelled_value bytes)) r) (sym none)
+    (subst (λ (v : raw.TableValue). Answers ⊥ (value_fault t v) (λ (held : Rows). rows_as held ≡ rows_in t v) r) (meaning_in bytes s spelled) answers)
 
 pub too_long_table : (t : Table) (o : Option (List ℕ)) → 16777216 < length (bytes_or_none o) → table_fault t o ≡ Some (Idt t.name TooLarge)
 too_long_table t None long = absurd (omega arith)

@@ -3,6 +3,9 @@ pub mod Checks
 pub mod Conditions
 pub mod Described
 pub mod Files
+pub mod Held
+pub mod Keys
+pub mod Loaded
 pub mod Read
 pub mod Reads
 pub mod Rows

@@ -1,15 +1,13 @@
 -- What the program holds of a table that it has read.
-use Rattle.std.specs.Prelude.{◌≡◌, ℕ, Bool, true, false, List, [], map}
+use Rattle.std.specs.Prelude.{ℕ, Bool, true, false, List, [], map}
 use Rattle.std.specs.List.{slice_index_or}
 use Rattle.mi_idt.specs.Cells as raw
 use Rattle.mi_idt.specs.Means.{meaning}
 use Rattle.mi_idt.specs.declared.table.Table.{Table}
 use Rattle.mi_schema.specs.declared.column.Kind.{Kind}
 use Rattle.mi_schema.specs.declared.column.Kind.TheVariants as kind
-use Rattle.mi_schema.specs.declared.row.Rows.{Rows}
+use Rattle.mi_schema.specs.declared.held.Rows.{Rows}
 use Rattle.mi_schema.specs.Values.{Row}
-use Rattle.mi_schema.specs.Rows.{keys_of}
-use Rattle.mi_schema.specs.Seen.{KnowsKeys}
 
 -- the fields of a row, from 0
 abbrev pub raw_row : Table → ℕ → List raw.Cell
@@ -20,7 +18,6 @@ has_text kind.Integer = false
 has_text kind.Code = false
 has_text other = true
 
--- these rows, and the first row of each key
-pub record Holds (held : Rows) (rows : List Row) : Type 0 where
-  pub rows_are : map (λ row. row.items) held.rows.items ≡ rows
-  pub keys_are : KnowsKeys held.index (keys_of rows)
+-- the rows that are held
+abbrev pub rows_as : Rows → List Row
+rows_as held = map (λ row. row.items) held.rows.items

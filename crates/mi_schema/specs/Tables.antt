@@ -216,7 +216,7 @@ upgrade = known (codes "Upgrade") (
     ∷ needs (codes "ActionProperty") Text Free
     ∷ [])
 
-abbrev pub tables : List Table
+unfoldable pub tables : List Table
 tables =
     refused (codes "AppId")
     ∷ refused (codes "BindImage")

@@ -3,8 +3,12 @@
 
 mod cell;
 mod column;
+mod content;
 mod error;
 mod file;
+mod held;
+mod load;
+mod place;
 mod read;
 mod row;
 mod rule;

@@ -8,15 +8,17 @@ ghost use Rattle.mi_idt.specs.Cells as raw;
 ghost use Rattle.mi_idt.specs.Means.{Shows, IsSpelled, meaning, cell_at};
 ghost use Rattle.mi_schema.specs.Answers.{Answers};
 ghost use Rattle.mi_schema.specs.Described.{column_as, table_as};
-ghost use Rattle.mi_schema.specs.Seen.{IsSeen, KnowsKeys};
+ghost use Rattle.mi_schema.specs.Keys.{KnowsKeys};
+ghost use Rattle.mi_schema.specs.Seen.{IsSeen};
 ghost use Rattle.mi_schema.specs.Values.{Row, row_of, value_of, text_at};
 ghost use Rattle.mi_schema.specs.Rows.{cell_fault, cells_fault, row_fault, rows_fault, rows_in, keys_of, begins_with, fault_at};
 ghost use Rattle.mi_schema.specs.Reads.{ReadsAs, RefusesAs, FitsKind};
-ghost use Rattle.mi_schema.specs.Read.{raw_row, has_text, Holds};
+ghost use Rattle.mi_schema.specs.Read.{raw_row, has_text, rows_as};
 
 use crate::cell::{Bad, Cell, CellError, Row};
 use crate::column::{Column, Kind, Layout};
 use crate::error::LoadError;
+use crate::held::Rows;
 use crate::read::read_field;
 use crate::rule::meets;
 use crate::seen::Seen;
@@ -136,19 +138,12 @@ fn index_of(
     Ok(index)
 }
 
-/// The rows of a table, in file order, and the place of the first row of each key.
-#[derive(Drop)]
-pub struct Rows {
-    pub rows: Vec<Row>,
-    pub index: BTreeMap<String, usize>,
-}
-
 /// The rows of a table that has the columns of its layout, or the first fault among them.
 pub fn read_rows(alloc: Global, layout: &Layout, table: &Table) -> Result<Rows, LoadError>
     requires spelled { IsSpelled table.now }
     requires columns { begins_with (table_as layout.now).columns (meaning table.now).columns ≡ true }
     ensures { let rows = rows_in (table_as layout.now) (meaning table.now) in
-        Answers ⊥ (rows_fault (table_as layout.now) (keys_of rows) [] 1 (meaning table.now).rows) (λ held. Holds held rows) result }
+        Answers ⊥ (rows_fault (table_as layout.now) (keys_of rows) [] 1 (meaning table.now).rows) (λ held. rows_as held ≡ rows) result }
 {
     let index = index_of(alloc, layout, table)?;
     let mut seen = Seen::new(alloc);

@@ -7,7 +7,8 @@ ghost use Rattle.mi_text.specs.Maps.{Name};
 ghost use Rattle.mi_text.specs.PropertyNames.{is_property_name};
 ghost use Rattle.mi_text.specs.Version.{version_of};
 ghost use Rattle.mi_schema.specs.Texts.{are_languages, is_decimal, is_default_dir, is_value_of};
-ghost use Rattle.mi_schema.specs.Seen.{IsSeen, KnowsKeys};
+ghost use Rattle.mi_schema.specs.Keys.{KnowsKeys};
+ghost use Rattle.mi_schema.specs.Seen.{IsSeen};
 ghost use Rattle.mi_schema.specs.Values.{Row, cell_at, text_in, number_in, is_root_below, is_root, lacks, meets, if_text, is_key_in};
 
 use crate::cell::{Cell, number_at, number_in, some_text_at, text_at, text_in};

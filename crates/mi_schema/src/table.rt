@@ -11,12 +11,13 @@ ghost use Rattle.mi_schema.specs.Described.{column_as, table_as};
 ghost use Rattle.mi_schema.specs.Reads.{Refuses};
 ghost use Rattle.mi_schema.specs.Rows.{is_of_class, begins_with, key_places, has_columns, rows_in, value_fault, table_fault, table_rows};
 ghost use Rattle.mi_schema.specs.Checks.{table_path, bytes_of, rows_of};
-ghost use Rattle.mi_schema.specs.Read.{Holds};
+ghost use Rattle.mi_schema.specs.Read.{rows_as};
 
 use crate::column::{Column, Kind, Layout};
 use crate::error::LoadError;
 use crate::file::read_file;
-use crate::row::{Rows, read_rows};
+use crate::held::Rows;
+use crate::row::read_rows;
 use mi_base::{Fault, IdtFault, NoMemory, Text};
 use mi_idt::{Column as Spelled, IdtError, Table, read_table};
 use mi_source::{Failed, Source};
@@ -115,7 +116,7 @@ fn misspelled(alloc: Global, table: &str, why: IdtFault) -> LoadError
 
 /// A table without rows.
 fn no_rows(alloc: Global) -> Rows
-    ensures { Holds result [] }
+    ensures { rows_as result ≡ [] }
 {
     Rows {
         rows: Vec::new(alloc),
@@ -126,7 +127,7 @@ fn no_rows(alloc: Global) -> Rows
 /// The rows of a table that its bytes spell, or its first fault.
 fn read_spelled(alloc: Global, layout: &Layout, table: &Table) -> Result<Rows, LoadError>
     requires { IsSpelled table.now }
-    ensures { Answers ⊥ (value_fault (table_as layout.now) (meaning table.now)) (λ held. Holds held (rows_in (table_as layout.now) (meaning table.now))) result }
+    ensures { Answers ⊥ (value_fault (table_as layout.now) (meaning table.now)) (λ held. rows_as held ≡ rows_in (table_as layout.now) (meaning table.now)) result }
 {
     if layout.columns.is_empty() {
         if table.rows.is_empty() {
@@ -142,7 +143,7 @@ fn read_spelled(alloc: Global, layout: &Layout, table: &Table) -> Result<Rows, L
 
 /// The rows of a table in these bytes, or its first fault.
 fn read_bytes(alloc: Global, layout: &Layout, bytes: &[u8]) -> Result<Rows, LoadError>
-    ensures { Answers ⊥ (table_fault (table_as layout.now) (Some bytes.now)) (λ held. Holds held (table_rows (table_as layout.now) (Some bytes.now))) result }
+    ensures { Answers ⊥ (table_fault (table_as layout.now) (Some bytes.now)) (λ held. rows_as held ≡ table_rows (table_as layout.now) (Some bytes.now)) result }
 {
     match read_table(alloc, bytes) {
         Ok(table) => read_spelled(alloc, layout, &table),
@@ -181,7 +182,7 @@ pub fn load_table<S: Source>(
     layout: &Layout,
 ) -> Result<Rows, LoadError>
     ensures value { S.told → Answers (Rose (S.faults src.old) (S.faults src.new)) (table_fault (table_as layout.now) (bytes_of (S.files src.old) folder.now (table_as layout.now)))
-        (λ held. Holds held (rows_of (S.files src.old) folder.now (table_as layout.now))) result }
+        (λ held. rows_as held ≡ rows_of (S.files src.old) folder.now (table_as layout.now)) result }
     ensures counted { IsCounted (Rose (S.faults src.old) (S.faults src.new)) result }
     ensures stays { S.files src.new ≡ S.files src.old }
     ensures counts { S.faults src.old ≤ S.faults src.new }

@@ -274,6 +274,7 @@ const TABLES: [Layout; 45] = [
 ];
 
 /// Every table that is known or refused, in byte order of the names.
+#[tactic(auto, unfolding(crate::specs::Tables::tables))]
 pub fn tables() -> &'static [Layout]
     ensures { map table_as result.now ≡ tables }
 {

@@ -1,13 +1,14 @@
 use Rattle.std.proofs.Common.{◌≡◌, ◌<◌, List, ◌∷◌, [], ◌++◌, length, map, take, refl, sym, ap, subst, ◌∙◌, arith}
 use Rattle.std.proofs.lemmas.Result.{err_from_is_err_and}
-use Rattle.std.proofs.lemmas.List.{map-append}
+use Rattle.std.proofs.lemmas.List.{map-append, length-map}
 use Rattle.std.proofs.Math.Seq.{take-length}
 use Rattle.mi_idt.specs.Means.{meaning}
 use Rattle.mi_schema.specs.Described.{table_as}
 use Rattle.mi_schema.specs.Rows.{keys_of, rows_in}
+use Rattle.mi_schema.specs.Keys.{KnowsKeys}
 use Rattle.mi_schema.specs.Seen.{IsSeen}
 use Rattle.mi_schema.specs.Values.{Row, row_of}
-use Rattle.mi_schema.proofs.FitLemmas.{rows_long}
+use Rattle.mi_schema.proofs.FitLemmas.{rows_long, few_rows}
 use Rattle.mi_schema.proofs.RowLemmas.{before_more, rows_more, rows_fault_here, rows_all, passed_on}
 use Rattle.mi_schema.proofs.row.read_rows.Goals as goal
 
@@ -22,7 +23,7 @@ returns-in_err-row c =
     let long = rows_long c.args.table.now in
     let lt : c.loop-number.number < length (meaning c.args.table.now).rows = omega (arith, long, c.loop-number-test.true, c.len-number-end.ensures, c.args.table.now.rows.ok) in
     let p = err_from_is_err_and c.from_residual-in_err-row.result c.from_residual-in_err-row.ensures.1 in
-    rw (p.1, p.2) (passed_on ⊥ _ _ (rows_fault_here t keys rows c.loop-number.number lt c.loop-number.invariant.fault) c.in_err-row.field-0.0 (c.in_err-row.ensures keys _ c.in_ok-index.ensures c.loop-number.invariant.seen))
+    rw (p.1, p.2) (passed_on ⊥ ⊥ (λ x. x) _ _ (rows_fault_here t keys rows c.loop-number.number lt c.loop-number.invariant.fault) c.in_err-row.field-0.0 (c.in_err-row.ensures keys _ c.in_ok-index.ensures c.loop-number.invariant.seen))
 
 pub loop-number-preserved : goal.loop-number-preserved
 loop-number-preserved c =
@@ -42,6 +43,20 @@ loop-number-preserved c =
       fault = rows_more t keys rows c.loop-number.number lt c.loop-number.invariant.fault read.0;
     }
 
+pub invariant_of-result : goal.invariant_of-result
+invariant_of-result c =
+    let t = table_as c.args.layout.now in
+    let rows = (meaning c.args.table.now).rows in
+    let long = rows_long c.args.table.now in
+    let few = few_rows c.args.table.now c.requires.spelled in
+    let all : c.loop-number.number ≡ length (meaning c.args.table.now).rows = omega (arith, long, c.loop-number-test.false, c.loop-number.auto.number-end, c.len-number-end.ensures, c.args.table.now.rows.ok) in
+    let held = c.loop-number.invariant.rows ∙ ap (λ n. map (row_of t.columns) (take n rows)) all ∙ ap (map (row_of t.columns)) (take-length rows) in
+    let as_many : length c.loop-number.rows.items ≡ length (meaning c.args.table.now).rows = sym (length-map c.loop-number.rows.items (λ row. row.items)) ∙ ap length held ∙ length-map rows (row_of t.columns) in
+    record {
+      few = omega (arith, as_many, long, few, c.loop-number.rows.ok);
+      indexed = subst (λ (rs : List Row). KnowsKeys c.in_ok-index.index (keys_of rs)) (sym held) c.in_ok-index.ensures;
+    }
+
 pub returns : goal.returns
 returns c =
     let t = table_as c.args.layout.now in
@@ -50,8 +65,5 @@ returns c =
     let long = rows_long c.args.table.now in
     let all : c.loop-number.number ≡ length (meaning c.args.table.now).rows = omega (arith, long, c.loop-number-test.false, c.loop-number.auto.number-end, c.len-number-end.ensures, c.args.table.now.rows.ok) in (
       rows_all t keys rows c.loop-number.number all c.loop-number.invariant.fault,
-      record {
-        rows_are = c.loop-number.invariant.rows ∙ ap (λ n. map (row_of t.columns) (take n rows)) all ∙ ap (map (row_of t.columns)) (take-length rows);
-        keys_are = c.in_ok-index.ensures;
-      },
+      c.loop-number.invariant.rows ∙ ap (λ n. map (row_of t.columns) (take n rows)) all ∙ ap (map (row_of t.columns)) (take-length rows),
     )

@@ -1,0 +1,54 @@
+//! Loading the tables of a package.
+
+ghost use Rattle.std.specs.Prelude.{◌≡◌, ◌≤◌, IfOk, length, map, vec_len};
+ghost use Rattle.mi_source.specs.Counts.{Rose};
+ghost use Rattle.mi_schema.specs.Answers.{Answers, IsCounted};
+ghost use Rattle.mi_schema.specs.Described.{table_as};
+ghost use Rattle.mi_schema.specs.Held.{content_as};
+ghost use Rattle.mi_schema.specs.Read.{rows_as};
+ghost use Rattle.mi_schema.specs.Tables.{tables};
+ghost use Rattle.mi_schema.specs.Checks.{rows_of, content_of};
+ghost use Rattle.mi_schema.specs.Loaded.{tables_fault};
+
+use crate::column::Layout;
+use crate::content::Content;
+use crate::error::LoadError;
+use crate::held::Rows;
+use crate::table::load_table;
+use crate::tables::tables;
+use mi_source::Source;
+use std::alloc::Global;
+
+/// The rows of these tables in a folder, or the first fault of one.
+fn load_each<S: Source>(
+    alloc: Global,
+    src: &mut S,
+    folder: &str,
+    layouts: &[Layout],
+) -> Result<Vec<Rows>, LoadError>
+    ensures value { S.told → Answers (Rose (S.faults src.old) (S.faults src.new)) (tables_fault (S.files src.old) folder.now (map table_as layouts.now))
+        (λ held. map rows_as held.items ≡ map (rows_of (S.files src.old) folder.now) (map table_as layouts.now)) result }
+    ensures as_many { IfOk result (λ held. vec_len held ≡ length layouts.now) }
+    ensures counted { IsCounted (Rose (S.faults src.old) (S.faults src.new)) result }
+    ensures stays { S.files src.new ≡ S.files src.old }
+    ensures counts { S.faults src.old ≤ S.faults src.new }
+{
+    let mut held = Vec::new(alloc);
+    for layout in layouts {
+        let rows = load_table(alloc, src, folder, layout)?;
+        held.push(rows)?;
+    }
+    Ok(held)
+}
+
+/// The rows of all tables in a folder, or the first fault of a table.
+fn load_tables<S: Source>(alloc: Global, src: &mut S, folder: &str) -> Result<Content, LoadError>
+    ensures value { S.told → Answers (Rose (S.faults src.old) (S.faults src.new)) (tables_fault (S.files src.old) folder.now tables)
+        (λ content. content_as content ≡ content_of (S.files src.old) folder.now) result }
+    ensures counted { IsCounted (Rose (S.faults src.old) (S.faults src.new)) result }
+    ensures stays { S.files src.new ≡ S.files src.old }
+    ensures counts { S.faults src.old ≤ S.faults src.new }
+{
+    let held = load_each(alloc, src, folder, tables())?;
+    Ok(Content { held })
+}
