@@ -5,6 +5,6 @@ mod TargetLemmas
 mod SourceLemmas
 mod OwnLemmas
 mod DirLemmas
-mod FaultLemmas
+pub mod FaultLemmas
 mod KeptLemmas
 mod ResolveLemmas

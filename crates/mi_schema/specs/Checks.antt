@@ -143,10 +143,14 @@ abbrev pub ends_at : List (Option ℕ) → ℕ → Bool
 ends_at parents row = ends_in (parent_in parents) (suc (length parents)) row
 
 -- the first row whose chain of parents doesn't end
+abbrev pub endless_row : List (Option ℕ) → Option ℕ
+endless_row parents = find (λ row. not (ends_at parents row)) (numbers parents)
+
+abbrev pub chain_fault : Target → List Row → Option Fault
+chain_fault target rows = option_map (λ row. Cycle (target_table target).name (row + 1)) (endless_row (parents_of target rows))
+
 abbrev pub cycle_fault : Content → Target → Option Fault
-cycle_fault content target =
-    let rows = rows_at content (target_table target) in
-    option_map (λ row. Cycle (target_table target).name (row + 1)) (find (λ row. not (ends_at (parents_of target rows) row)) (numbers rows))
+cycle_fault content target = chain_fault target (rows_at content (target_table target))
 
 -- ---- the form of the source files (Word Count Summary property; File table, Attributes)
 
@@ -158,23 +162,26 @@ number_or_zero None = 0
 number_or_zero (Some row) = number_on 0 (text_at row 1)
 
 -- property 15, and 0 where it isn't there
-abbrev pub word_count : Content → ℕ
-word_count content = number_or_zero (find is_word_count (rows_at content summary_information))
+abbrev pub word_count : List Row → ℕ
+word_count rows = number_or_zero (find is_word_count rows)
 
 -- bit 0
 abbrev pub has_short_names : Content → Bool
-has_short_names content = word_count content % 2 == 1
+has_short_names content = word_count (rows_at content summary_information) % 2 == 1
 
 -- bit 1
 abbrev pub is_source_compressed : Content → Bool
-is_source_compressed content = (word_count content / 2) % 2 == 1
+is_source_compressed content = (word_count (rows_at content summary_information) / 2) % 2 == 1
 
 -- a file is compressed by its attribute 16384, or where the source is and attribute 8192 doesn't say otherwise
 abbrev pub is_compressed : Bool → Row → Bool
 is_compressed source row = not (lacks 16384 (number_in (cell_at row 6))) || (source && lacks 8192 (number_in (cell_at row 6)))
 
+abbrev pub file_fault : Bool → List Row → Option Fault
+file_fault source rows = option_map (λ row. Compressed (text_at row 0)) (find (is_compressed source) rows)
+
 abbrev pub compressed_fault : Content → Option Fault
-compressed_fault content = option_map (λ row. Compressed (text_at row 0)) (find (is_compressed (is_source_compressed content)) (rows_at content file))
+compressed_fault content = file_fault (is_source_compressed content) (rows_at content file)
 
 -- ---- the checks in their order
 

@@ -2,14 +2,18 @@
 #![tactic(auto)]
 
 mod cell;
+mod chain;
 mod column;
 mod content;
 mod error;
 mod file;
+mod form;
 mod held;
 mod load;
 mod place;
+mod property;
 mod read;
+mod reference;
 mod row;
 mod rule;
 mod seen;

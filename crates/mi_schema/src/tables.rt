@@ -1,6 +1,7 @@
 //! The tables that are known or refused (Database Tables).
 
-ghost use Rattle.std.specs.Prelude.{◌≡◌, map};
+ghost use Rattle.std.specs.Prelude.{◌≡◌, true, length, map, nat_le};
+ghost use Rattle.std.specs.List.{list_all};
 ghost use Rattle.mi_schema.specs.Described.{table_as};
 ghost use Rattle.mi_schema.specs.Tables.{tables};
 
@@ -276,7 +277,8 @@ const TABLES: [Layout; 45] = [
 /// Every table that is known or refused, in byte order of the names.
 #[tactic(auto, unfolding(crate::specs::Tables::tables))]
 pub fn tables() -> &'static [Layout]
-    ensures { map table_as result.now ≡ tables }
+    ensures tables { map table_as result.now ≡ tables }
+    ensures small { list_all (λ t. nat_le (length t.columns.now) 32) result.now ≡ true }
 {
     &TABLES
 }
