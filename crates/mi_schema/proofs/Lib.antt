@@ -1,3 +1,4 @@
+pub mod CheckLemmas
 pub mod ColumnLemmas
 pub mod ConditionLaws
 pub mod FileLemmas
@@ -6,5 +7,6 @@ pub mod KeyLemmas
 pub mod ListLemmas
 pub mod LoadLemmas
 pub mod NumberLaws
+pub mod PlaceLemmas
 pub mod RowLemmas
 pub mod TableLemmas

@@ -9,9 +9,9 @@ use Rattle.mi_schema.specs.declared.column.Layout.{Layout}
 use Rattle.mi_schema.specs.declared.error.LoadError.{LoadError}
 use Rattle.mi_schema.specs.declared.held.Rows.{Rows}
 use Rattle.mi_schema.specs.Answers.{Fails}
-use Rattle.mi_schema.specs.Checks.{bytes_of, rows_of}
+use Rattle.mi_schema.specs.Checks.{bytes_of, rows_of, tables_fault}
 use Rattle.mi_schema.specs.Described.{table_as}
-use Rattle.mi_schema.specs.Loaded.{LoadedSoFar, tables_fault}
+use Rattle.mi_schema.specs.Loaded.{LoadedSoFar}
 use Rattle.mi_schema.specs.Read.{rows_as}
 use Rattle.mi_schema.specs.Rows.{◌or_else◌, table_fault}
 use Rattle.mi_schema.specs.Tables.{Table, tables}

@@ -136,3 +136,10 @@ pub passed_on : (failed more : Type 0) → (failed → more) → (o p : Option F
 passed_on failed more up o p h NoMemory fails = tt
 passed_on failed more up o p h Source fails = up fails
 passed_on failed more up o p h (TableFault f) fails = h f fails
+
+-- an error of the first of two checks, and of the second
+pub fails_first : (failed : Type 0) (a b : Option Fault) (e : LoadError) → Fails failed a e → Fails failed (a or_else b) e
+fails_first failed a b e fails = passed_on failed failed (λ x. x) a (a or_else b) (λ f some. ap (λ (o : Option Fault). o or_else b) some) e fails
+
+pub fails_then : (failed : Type 0) (a b : Option Fault) (e : LoadError) → a ≡ None → Fails failed b e → Fails failed (a or_else b) e
+fails_then failed a b e none fails = passed_on failed failed (λ x. x) b (a or_else b) (λ f some. ap (λ (o : Option Fault). o or_else b) none ∙ some) e fails

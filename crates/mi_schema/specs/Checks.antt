@@ -185,16 +185,22 @@ compressed_fault content = file_fault (is_source_compressed content) (rows_at co
 
 -- ---- the checks in their order
 
--- what the rows of all tables have to meet together
-abbrev pub content_fault : Content → Option Fault
-content_fault content =
-    first_fault (missing_property (rows_at content property)) required_properties
-    or_else references_fault content tables content
-    or_else first_fault (cycle_fault content) (of.Directory ∷ of.Feature ∷ of.File ∷ [])
-    or_else compressed_fault content
+abbrev pub required_fault : Content → Option Fault
+required_fault content = first_fault (missing_property (rows_at content property)) required_properties
 
+abbrev pub cycles_fault : Content → Option Fault
+cycles_fault content = first_fault (cycle_fault content) (of.Directory ∷ of.Feature ∷ of.File ∷ [])
+
+-- what the rows of all tables have to meet together
+unfoldable pub content_fault : Content → Option Fault
+content_fault content = required_fault content or_else references_fault content tables content or_else cycles_fault content or_else compressed_fault content
+
+abbrev pub missing_fault : Files → Name → Option Fault
+missing_fault files folder = first_fault (missing_table files folder) (property ∷ install_execute_sequence ∷ [])
+
+abbrev pub tables_fault : Files → Name → List Table → Option Fault
+tables_fault files folder ts = first_fault (λ (t : Table). table_fault t (bytes_of files folder t)) ts
+
+-- the first fault of the package in a folder
 unfoldable pub load_fault : Files → Name → Option Fault
-load_fault files folder =
-    first_fault (missing_table files folder) (property ∷ install_execute_sequence ∷ [])
-    or_else first_fault (λ (t : Table). table_fault t (bytes_of files folder t)) tables
-    or_else content_fault (content_of files folder)
+load_fault files folder = missing_fault files folder or_else tables_fault files folder tables or_else content_fault (content_of files folder)

@@ -4,14 +4,8 @@ use Rattle.mi_text.specs.Maps.{Name}
 use Rattle.mi_source.specs.Paths.{Files}
 use Rattle.mi_schema.specs.declared.held.Rows.{Rows}
 use Rattle.mi_schema.specs.Tables.{Table}
-use Rattle.mi_schema.specs.Rows.{table_fault}
-use Rattle.mi_schema.specs.Checks.{first_fault, bytes_of, rows_of}
+use Rattle.mi_schema.specs.Checks.{tables_fault, rows_of}
 use Rattle.mi_schema.specs.Read.{rows_as}
-use Rattle.mi_base.specs.declared.answers.Fault.{Fault}
-use Rattle.std.specs.Prelude.{Option}
-
-abbrev pub tables_fault : Files → Name → List Table → Option Fault
-tables_fault files folder ts = first_fault (λ (t : Table). table_fault t (bytes_of files folder t)) ts
 
 -- so many of these tables
 pub record LoadedSoFar (told : Type 0) (old new : Files) (before now : ℕ) (folder : Name) (ts : List Table) (i : ℕ) (held : List Rows) : Type 0 where

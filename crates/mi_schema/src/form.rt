@@ -29,12 +29,19 @@ fn low_bits(digits: &str) -> u32
     bits
 }
 
+/// Whether a row states the word count (Word Count Summary property).
+fn is_word_count(row: &[Option<Cell>]) -> bool
+    ensures { result ≡ is_word_count row.now }
+{
+    number_at(row, 0) == 15
+}
+
 /// The two low bits of the word count (Word Count Summary property).
 fn word_count(summary: &Rows) -> u32
     ensures { result ≡ word_count (rows_as summary.now) % 4 }
 {
     for row in summary.rows.iter() {
-        if number_at(row.as_slice(), 0) == 15 {
+        if is_word_count(row.as_slice()) {
             return low_bits(text_at(row.as_slice(), 1));
         }
     }

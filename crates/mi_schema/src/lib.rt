@@ -3,6 +3,7 @@
 
 mod cell;
 mod chain;
+mod check;
 mod column;
 mod content;
 mod error;

@@ -7,8 +7,7 @@ ghost use Rattle.mi_schema.specs.Described.{table_as};
 ghost use Rattle.mi_schema.specs.Held.{content_as};
 ghost use Rattle.mi_schema.specs.Read.{rows_as};
 ghost use Rattle.mi_schema.specs.Tables.{tables};
-ghost use Rattle.mi_schema.specs.Checks.{rows_of, content_of};
-ghost use Rattle.mi_schema.specs.Loaded.{tables_fault};
+ghost use Rattle.mi_schema.specs.Checks.{rows_of, content_of, tables_fault};
 
 use crate::column::Layout;
 use crate::content::Content;

@@ -5,6 +5,9 @@ ghost use Rattle.mi_schema.specs.Checks.{place_of_table, target_table};
 
 use crate::column::Target;
 
+/// The place of File.
+pub const FILE: usize = 14;
+
 /// The place of Property.
 pub const PROPERTY: usize = 31;
 

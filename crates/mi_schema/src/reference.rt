@@ -114,10 +114,10 @@ fn check_row(
     ensures { Answers ⊥ (cells_reference (content_as content.now) layout.now.name.now number row.now 1 (map column_as layout.now.columns.now) row.now) (λ _. Unit {0}) result }
 {
     for (i, column) in layout.columns.iter().enumerate() {
-        let Some(cell) = row.get(i) else {
+        if i >= row.len() {
             return Ok(());
-        };
-        if !refers(content, column, row, cell) {
+        }
+        if !refers(content, column, row, &row[i]) {
             return Err(dangling(alloc, layout.name, number, i as u32 + 1));
         }
     }
