@@ -10,3 +10,4 @@ pub mod NumberLaws
 pub mod PlaceLemmas
 pub mod RowLemmas
 pub mod TableLemmas
+pub mod TopLemmas

@@ -60,8 +60,8 @@ first_fault f (x ∷ xs) = f x or_else first_fault f xs
 
 -- ---- tables and properties that each package has
 
-abbrev pub missing_table : Files → Name → Table → Option Fault
-missing_table files folder t = if is_none (bytes_of files folder t) then Some (MissingTable t.name) else None
+abbrev pub missing_table : Files → Name → Name → Option Fault
+missing_table files folder table = if is_none (get files (table_path folder table)) then Some (MissingTable table) else None
 
 abbrev pub missing_property : List Row → Name → Option Fault
 missing_property rows name = if is_key_in (keys_of rows) name then None else Some (MissingProperty name)
@@ -196,7 +196,7 @@ unfoldable pub content_fault : Content → Option Fault
 content_fault content = required_fault content or_else references_fault content tables content or_else cycles_fault content or_else compressed_fault content
 
 abbrev pub missing_fault : Files → Name → Option Fault
-missing_fault files folder = first_fault (missing_table files folder) (property ∷ install_execute_sequence ∷ [])
+missing_fault files folder = missing_table files folder property.name or_else missing_table files folder install_execute_sequence.name
 
 abbrev pub tables_fault : Files → Name → List Table → Option Fault
 tables_fault files folder ts = first_fault (λ (t : Table). table_fault t (bytes_of files folder t)) ts
