@@ -1,35 +1,19 @@
 -- What consists of bytes: numbers, texts in UTF-8, and what is joined of such.
-use Rattle.std.proofs.Common.{◌≡◌, ℕ, zero, suc, ◌+◌, ◌<◌, ◌≤◌, ◌/◌, Bool, true, false, ltb, ◌&&◌, List, [], ◌∷◌, ◌++◌, get_or, refl, sym, ap, ◌∙◌, arith, inl, inr, ◌⊎◌}
+use Rattle.std.proofs.Common.{◌≡◌, ℕ, zero, suc, ◌+◌, ◌<◌, ◌≤◌, ◌/◌, true, ltb, List, [], ◌∷◌, ◌++◌, refl, sym, ap, ◌∙◌, arith, inl, inr, ◌⊎◌}
 use Rattle.std.specs.List.{flat_map, AllByRecursion}
 use Rattle.std.specs.Int.{Width, byte_len, byte_at, bytes_high_first, to_be_bytes}
 use Rattle.std.specs.Str.{IsUtf8}
-use Rattle.std.proofs.lemmas.Bool.{cases_lt, ltb-true, lt-ltb, le-ltb}
+use Rattle.std.proofs.lemmas.Bool.{cases_lt, lt-ltb, le-ltb}
 use Rattle.std.proofs.lemmas.List.Folds.{list_all-append}
 use Rattle.std.proofs.Math.Utf8.{encode, encodes, scalar, scalars, scalar_cases, next}
-use Rattle.mi_base.specs.Limits.{are_bytes}
-
-pub both : (a b : Bool) → (a && b) ≡ true → (a ≡ true) × (b ≡ true)
-both true b e = (refl, e)
-both false b e = absurd cc
-
-pub and_true : (a b : Bool) → a ≡ true → b ≡ true → (a && b) ≡ true
-and_true a b p q = rw (p, q) refl
+pub use Rattle.mi_text.proofs.ByteLemmas.{both, and_true, by_index, from_index}
+use Rattle.mi_text.specs.Bytes.{are_bytes}
 
 pub bytes-append : (xs ys : List ℕ) → are_bytes xs ≡ true → are_bytes ys ≡ true → are_bytes (xs ++ ys) ≡ true
 bytes-append xs ys p q = list_all-append (λ b. ltb b 256) xs ys ∙ and_true _ _ p q
 
 pub bytes_front : (xs ys : List ℕ) → are_bytes (xs ++ ys) ≡ true → (are_bytes xs ≡ true) × (are_bytes ys ≡ true)
 bytes_front xs ys e = both _ _ (sym (list_all-append (λ b. ltb b 256) xs ys) ∙ e)
-
--- each byte by its index
-pub by_index : (xs : List ℕ) → are_bytes xs ≡ true → (i : ℕ) → get_or xs i 0 < 256
-by_index [] e i = omega arith
-by_index (x ∷ xs) e zero = ltb-true x 256 (both _ _ e).0
-by_index (x ∷ xs) e (suc i) = by_index xs (both _ _ e).1 i
-
-pub from_index : (xs : List ℕ) → ((i : ℕ) → get_or xs i 0 < 256) → are_bytes xs ≡ true
-from_index [] h = refl
-from_index (x ∷ xs) h = and_true _ _ (lt-ltb x 256 (h 0)) (from_index xs (λ i. h (suc i)))
 
 byte_below : (k n : ℕ) → byte_at k n < 256
 byte_below zero n = omega arith

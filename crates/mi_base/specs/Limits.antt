@@ -1,10 +1,11 @@
 -- Which entries have a record: limits and rules.
-use Rattle.std.specs.Prelude.{◌≡◌, ℕ, ◌^◌, ◌<◌, nat_lt, nat_le, ◌==◌, ◌&&◌, not, Bool, true, List, [], ◌∷◌, length, Option, Some, None, FitsSigned}
+use Rattle.std.specs.Prelude.{ℕ, ◌^◌, ◌<◌, nat_lt, nat_le, ◌==◌, ◌&&◌, not, Bool, true, List, [], ◌∷◌, length, Option, Some, None, FitsSigned}
 use Rattle.std.specs.List.{slice_split, list_all, AllByRecursion}
 use Rattle.std.specs.Str.{IsUtf8, bytes_eq}
 use Rattle.std.specs.Int.{w16}
 use Rattle.std.specs.Ordering.{is_lt, nat_cmp}
 use Rattle.std.specs.Cmp.Lexicographic.{slice_cmp}
+pub use Rattle.mi_text.specs.Bytes.{are_bytes, AreBytes}
 use Rattle.mi_text.specs.Fold.{folded}
 use Rattle.mi_text.specs.PropertyNames.{is_property_name}
 use Rattle.mi_text.specs.Path.{is_file_path, is_folder_path}
@@ -81,12 +82,6 @@ fits (Product p) = is_short p.name && are_few p.features && list_all is_short p.
 fits (System property text) = is_system_name property && is_short text
 
 -- ---- what each value of the program's types has
-
-abbrev pub are_bytes : List ℕ → Bool
-are_bytes bytes = list_all (λ b. nat_lt b 256) bytes
-
-abbrev pub AreBytes : List ℕ → Type 0
-AreBytes bytes = are_bytes bytes ≡ true
 
 pub record IsVersion (v : Version) : Type 0 where
   pub major : v.major < 2 ^ 16

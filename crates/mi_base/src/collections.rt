@@ -1,9 +1,18 @@
 //! Lists in public records, which contracts see as lists.
 
-ghost use Rattle.std.specs.Prelude.{◌≡◌, ◌==◌, [], ◌∷◌, ◌++◌, OnOk, OnErr, length};
+ghost use Rattle.std.specs.Prelude.{◌≡◌, ◌==◌, [], ◌∷◌, ◌++◌, OnOk, OnErr, length, nat_eq};
+ghost use Rattle.std.proofs.Common.{rules};
+ghost use Rattle.std.specs.Hash as fed;
+ghost use Rattle.std.specs.Hash.{items_Alike};
+ghost use Rattle.std.specs.Cmp.{partial_order_from_own_ties};
+ghost use Rattle.std.specs.Cmp.Lexicographic.{pointwise, slice_cmp, lists_ties, texts_ties};
+ghost use Rattle.std.specs.Cmp.Rules.{comparing, hashing};
+ghost use Rattle.std.specs.Ordering.{nat_cmp, as_partial_cmp};
 
 use mi_text::{NoMemory, Text};
 use std::alloc::Global;
+use std::cmp::Ordering;
+use std::hash::{Hash, Hasher};
 use std::marker::Model;
 
 /// Texts in order.
@@ -75,6 +84,54 @@ impl Texts {
     }
 }
 
+impl PartialEq for Texts {
+    ghost eq = { pointwise (pointwise nat_eq) };
+
+    ghost laws = { Prim.search (comparing, rules) };
+
+    fn eq(&self, other: &Texts) -> bool {
+        self.as_slice() == other.as_slice()
+    }
+}
+
+impl Eq for Texts {
+    ghost laws = { Prim.search (comparing, rules) };
+}
+
+impl PartialOrd for Texts {
+    ghost partial_cmp = { as_partial_cmp (slice_cmp (slice_cmp nat_cmp)) };
+
+    ghost laws = { partial_order_from_own_ties (Prim.search (comparing, rules)) (lists_ties (slice_cmp nat_cmp) texts_ties) };
+
+    fn partial_cmp(&self, other: &Texts) -> Option<Ordering> {
+        Some(self.cmp(other))
+    }
+}
+
+impl Ord for Texts {
+    ghost cmp = { slice_cmp (slice_cmp nat_cmp) };
+
+    ghost total = { Prim.search (comparing, rules) };
+
+    ghost matches_partial_cmp = { Prim.search (comparing, rules) };
+
+    ghost matches_eq = { lists_ties (slice_cmp nat_cmp) texts_ties };
+
+    fn cmp(&self, other: &Texts) -> Ordering {
+        self.as_slice().cmp(other.as_slice())
+    }
+}
+
+impl Hash for Texts {
+    ghost hash_input = { fed.slice (fed.slice fed.u8) };
+
+    ghost respects_eq = { (items_Alike {E = pointwise nat_eq} {F = fed.slice fed.u8} (record { fed = Prim.search (hashing, rules) })).fed };
+
+    fn hash<H: Hasher>(&self, state: &mut H) {
+        self.as_slice().hash(state);
+    }
+}
+
 /// Languages in order (File table, column Language).
 #[derive(Debug, Drop)]
 pub struct Languages {
@@ -141,5 +198,53 @@ impl Languages {
     {
         self.items.push(language)?;
         Ok(())
+    }
+}
+
+impl PartialEq for Languages {
+    ghost eq = { pointwise nat_eq };
+
+    ghost laws = { Prim.search (comparing, rules) };
+
+    fn eq(&self, other: &Languages) -> bool {
+        self.as_slice() == other.as_slice()
+    }
+}
+
+impl Eq for Languages {
+    ghost laws = { Prim.search (comparing, rules) };
+}
+
+impl PartialOrd for Languages {
+    ghost partial_cmp = { as_partial_cmp (slice_cmp nat_cmp) };
+
+    ghost laws = { partial_order_from_own_ties (Prim.search (comparing, rules)) (Prim.search (comparing, rules)) };
+
+    fn partial_cmp(&self, other: &Languages) -> Option<Ordering> {
+        Some(self.cmp(other))
+    }
+}
+
+impl Ord for Languages {
+    ghost cmp = { slice_cmp nat_cmp };
+
+    ghost total = { Prim.search (comparing, rules) };
+
+    ghost matches_partial_cmp = { Prim.search (comparing, rules) };
+
+    ghost matches_eq = { Prim.search (comparing, rules) };
+
+    fn cmp(&self, other: &Languages) -> Ordering {
+        self.as_slice().cmp(other.as_slice())
+    }
+}
+
+impl Hash for Languages {
+    ghost hash_input = { fed.slice fed.u16 };
+
+    ghost respects_eq = { Prim.search (hashing, rules) };
+
+    fn hash<H: Hasher>(&self, state: &mut H) {
+        self.as_slice().hash(state);
     }
 }

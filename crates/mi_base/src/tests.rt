@@ -120,7 +120,7 @@ fn names_that_are_not_spelled_are_refused(rt: HostRuntime) {
 
 #[test]
 fn the_first_field_that_cannot_be_read_decides(rt: HostRuntime) {
-    let table: [(&str, &[u8], RecFault); 22] = [
+    let table: [(&str, &[u8], RecFault); 24] = [
         ("k/2a", b"", RecFault::Short),
         ("k/2a", b"\xff\xff\xff\xffa", RecFault::Short),
         ("k/2a", b"\0\0\0\x01b", RecFault::Field),
@@ -130,6 +130,8 @@ fn the_first_field_that_cannot_be_read_decides(rt: HostRuntime) {
         ("d/c:\\a\\", b"\0\0\0\x05c:\\A\\", RecFault::Field),
         ("s/c:\\a", b"\0\0\0\x04c:\\a", RecFault::Field),
         ("s/c:\\a", b"\0\0\0\x04C:\\a", RecFault::Short),
+        ("n/1a", b"\0\0\0\x01B\0\0\0\0", RecFault::Field),
+        ("n/1a", b"\0\0\0\x01A", RecFault::Short),
         ("v/20001a", b"\0\0\0\0", RecFault::Short),
         ("v/20001a", b"\0\0\0\0\0", RecFault::Field),
         ("v/20001a", b"\0\0\0\0\x06", RecFault::Field),

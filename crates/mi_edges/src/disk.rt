@@ -21,6 +21,9 @@ pub struct Disk<R: Runtime> {
     path: String,
 }
 
+/// A file beside the names, which isn't one: it stands there while something that was written may not be synced.
+const UNSYNCED: &str = "unsynced";
+
 // The folder in which this one stands.
 fn parent_of(folder: &str) -> &str {
     match folder.trim_end_matches('/').rsplit_once('/') {
@@ -30,8 +33,17 @@ fn parent_of(folder: &str) -> &str {
     }
 }
 
+// Whether two names stand in one folder after so many bytes.
+fn is_shared(name: &[u8], last: Option<&[u8]>, bytes: usize) -> bool {
+    match last {
+        None => false,
+        Some(last) => bytes < last.len() && name.get(..bytes) == last.get(..bytes),
+    }
+}
+
 impl<R: Runtime> Disk<R> {
-    /// Makes the folder where it isn't there, and syncs the entry that names it.
+    /// Makes the folder where it isn't there, and syncs the entry that names it. Where an earlier process has ended
+    /// without a sync, every file and folder is synced.
     pub fn at(rt: R, alloc: Global, folder: &str) -> io::Result<Disk<R>> {
         fs::create_dir_all(&rt, folder)?;
         let folder = String::from_str(alloc, folder)?;
@@ -39,15 +51,47 @@ impl<R: Runtime> Disk<R> {
         path.reserve(folder.len())?;
         path.push_str(folder.as_str())?;
         path.reserve(LONGEST_PATH + 1)?;
-        let disk = Disk { rt, folder, path };
+        let mut disk = Disk { rt, folder, path };
         sync_path(&disk.rt, parent_of(disk.folder.as_str()))?;
+        disk.sync_leftovers()?;
         Ok(disk)
+    }
+
+    fn sync_leftovers(&mut self) -> io::Result<()> {
+        self.set_unsynced()?;
+        if fs::exists(&self.rt, self.path.as_str())? {
+            sync_tree(&self.rt, self.folder.as_str())?;
+            self.forget_unsynced()?;
+        }
+        Ok(())
     }
 
     fn set_folder(&mut self) -> io::Result<()> {
         self.path.clear();
         self.path.push_str(self.folder.as_str())?;
         self.path.push('/')?;
+        Ok(())
+    }
+
+    fn set_unsynced(&mut self) -> io::Result<()> {
+        self.set_folder()?;
+        self.path.push_str(UNSYNCED)?;
+        Ok(())
+    }
+
+    /// Takes down, where a later process finds it, that something may not be synced.
+    pub fn note_unsynced(&mut self) -> io::Result<()> {
+        self.set_unsynced()?;
+        let mut how = OpenOptions::new();
+        how.write(true).create(true);
+        let _file = how.open(&self.rt, self.path.as_str())?;
+        Ok(())
+    }
+
+    /// Takes down that all is synced.
+    pub fn forget_unsynced(&mut self) -> io::Result<()> {
+        self.set_unsynced()?;
+        self.remove_path()?;
         Ok(())
     }
 
@@ -131,30 +175,38 @@ impl<R: Runtime> Disk<R> {
         self.open(name, &how)?.write_all(bytes)
     }
 
-    /// Writes the first byte of a name's file, and syncs it.
+    /// Writes the first byte of a name's file.
     pub fn mark(&mut self, name: &[u8], byte: u8) -> io::Result<()> {
         let mut how = OpenOptions::new();
         how.write(true);
-        let mut file = self.open(name, &how)?;
-        file.write_all(&[byte])?;
-        file.sync_all()
+        self.open(name, &how)?.write_all(&[byte])
     }
 
-    /// Takes a name's file away, if it is there. The folder of a long name is synced at once.
-    pub fn remove(&mut self, name: &[u8]) -> io::Result<()> {
+    /// Takes a name's file away, and says whether it was there.
+    pub fn remove(&mut self, name: &[u8]) -> io::Result<bool> {
         self.set_path(name)?;
+        self.remove_path()
+    }
+
+    fn remove_path(&self) -> io::Result<bool> {
         match fs::remove_file(&self.rt, self.path.as_str()) {
-            Ok(()) => self.sync_parts(name),
-            Err(error) if is_absent(&error) => Ok(()),
+            Ok(()) => Ok(true),
+            Err(error) if is_absent(&error) => Ok(false),
             Err(error) => Err(error),
         }
     }
 
-    // Syncs the folders in which a long name stands.
-    fn sync_parts(&mut self, name: &[u8]) -> io::Result<()> {
+    /// Syncs a name's file, if it is there.
+    pub fn sync_file(&mut self, name: &[u8]) -> io::Result<()> {
+        self.set_path(name)?;
+        sync_path(&self.rt, self.path.as_str())
+    }
+
+    /// Syncs the folders in which a long name stands, without those in which the last one stands too.
+    pub fn sync_parts(&mut self, name: &[u8], last: Option<&[u8]>) -> io::Result<()> {
         for part in 1..11usize {
             let bytes = part * PART_BYTES;
-            if bytes < name.len() {
+            if bytes < name.len() && !is_shared(name, last, bytes) {
                 self.set_part(name, bytes)?;
                 sync_path(&self.rt, self.path.as_str())?;
             }
@@ -162,21 +214,9 @@ impl<R: Runtime> Disk<R> {
         Ok(())
     }
 
-    /// Syncs a name's file, and the folders in which a long name stands.
-    pub fn sync_name(&mut self, name: &[u8]) -> io::Result<()> {
-        self.set_path(name)?;
-        sync_path(&self.rt, self.path.as_str())?;
-        self.sync_parts(name)
-    }
-
     /// Syncs the folder itself.
     pub fn sync_folder(&mut self) -> io::Result<()> {
         sync_path(&self.rt, self.folder.as_str())
-    }
-
-    /// Syncs every file and folder, whoever wrote it.
-    pub fn sync_all(&mut self) -> io::Result<()> {
-        sync_tree(&self.rt, self.folder.as_str())
     }
 
     /// The names of all files whose path is that of a name.

@@ -1,6 +1,6 @@
 //! A folder as a volume.
 
-ghost use Rattle.std.specs.Prelude.{◌≡◌, ◌-◌, ◌^◌, ◌<◌, ◌≤◌, IfOk, IfSome, IsTrue};
+ghost use Rattle.std.specs.Prelude.{◌≡◌, ◌-◌, ◌^◌, ◌<◌, ◌≤◌, IfOk, IfSome, IsTrue, OnErr};
 ghost use Rattle.std.specs.Option.{option_copied};
 ghost use Rattle.mi_volume.specs.Maps.{IsAbove};
 ghost use Rattle.mi_edges.specs.Count.{Counts};
@@ -20,8 +20,8 @@ use thiserror::Error;
 /// Why a folder can't be a volume.
 #[derive(Clone, Copy, Debug, PartialEq, Eq, Error)]
 pub enum EdgeFault {
-    /// The folder can't be made.
-    #[error("the folder can't be made")]
+    /// The folder can't be made, or what an earlier process wrote can't be synced.
+    #[error("the folder can't be made or synced")]
     Folder,
     #[error("memory ran out")]
     NoMemory,
@@ -30,7 +30,7 @@ pub enum EdgeFault {
 /// A folder as a volume (this project's own). It tells no content and no capacity.
 ///
 /// A sync reaches each file that was written since the last good one, and each folder in which a file was made
-/// or taken away. The first sync reaches every file, since an earlier process may have ended without one.
+/// or taken away. Opening it syncs every file where an earlier process has ended without a sync.
 #[derive(Drop)]
 pub struct FolderVolume<R: Runtime> {
     disk: Disk<R>,
@@ -38,10 +38,12 @@ pub struct FolderVolume<R: Runtime> {
     held: Option<BTreeSet<String>>,
     // The names that were written since the last good sync.
     written: BTreeSet<String>,
-    // Whether a file of the folder was made or taken away since the last good sync.
-    folder_changed: bool,
-    // Whether a good sync has reached what earlier processes wrote.
-    all_synced: bool,
+    // The listed names that were taken away since then, with room for all that are held.
+    removed: Vec<String>,
+    // Whether something has changed since then, and a later process would find that.
+    unsynced: bool,
+    // Whether the system has failed at a sync. It may have dropped what it was given, so no later sync is good.
+    lost: bool,
     faults: u64,
 }
 
@@ -92,8 +94,9 @@ impl<R: Runtime> FolderVolume<R> {
                 disk,
                 held: None,
                 written: BTreeSet::new(alloc),
-                folder_changed: false,
-                all_synced: false,
+                removed: Vec::new(alloc),
+                unsynced: false,
+                lost: false,
                 faults: 0,
             }),
             Err(error) if wants_memory(&error) => Err(EdgeFault::NoMemory),
@@ -108,11 +111,18 @@ impl<R: Runtime> FolderVolume<R> {
         self.faults = self.faults.saturating_add(1);
     }
 
-    fn failed(&mut self) -> Failed
-        ensures { Counts self.old.faults self.new.faults }
+    // The answer of the system, whose failures are counted.
+    fn answer<T>(&mut self, answer: io::Result<T>) -> Result<T, Failed>
+        ensures failed { OnErr result (Counts self.old.faults self.new.faults) }
+        ensures later { self.old.faults ≤ self.new.faults }
     {
-        self.count();
-        Failed
+        match answer {
+            Ok(value) => Ok(value),
+            Err(_) => {
+                self.count();
+                Err(Failed)
+            }
+        }
     }
 
     fn read_failed(&mut self, error: &io::Error) -> VolFault
@@ -126,24 +136,25 @@ impl<R: Runtime> FolderVolume<R> {
         VolFault::Failed
     }
 
-    fn put_failed(&mut self, error: &io::Error) -> PutFault
-        ensures failed { result ≡ PutFault.Failed → Counts self.old.faults self.new.faults }
-        ensures full { result ≡ PutFault.Full → ⊥ }
-        ensures later { self.old.faults ≤ self.new.faults }
-    {
-        if wants_memory(error) {
-            return PutFault::NoMemory;
-        }
-        self.count();
-        PutFault::Failed
-    }
-
-    // Lists the names that are held, once.
+    // Lists the names that are held, once, with room for those that are taken away.
     fn list_held(&mut self, alloc: Global) -> io::Result<()>
         ensures { self.new.faults ≡ self.old.faults }
     {
         if self.held.is_none() {
-            self.held = Some(self.disk.list(alloc)?);
+            let held = self.disk.list(alloc)?;
+            self.removed.reserve(held.len())?;
+            self.held = Some(held);
+        }
+        Ok(())
+    }
+
+    // Takes down, before the first change since a good sync, that something may not be synced.
+    fn begin_change(&mut self) -> io::Result<()>
+        ensures { self.new.faults ≡ self.old.faults }
+    {
+        if !self.unsynced {
+            self.disk.note_unsynced()?;
+            self.unsynced = true;
         }
         Ok(())
     }
@@ -152,16 +163,29 @@ impl<R: Runtime> FolderVolume<R> {
     fn note_written(&mut self, alloc: Global, name: &Name) -> Result<(), NoMemory>
         ensures { self.new.faults ≡ self.old.faults }
     {
-        self.folder_changed = true;
         self.written
             .insert(String::from_str(alloc, name.as_str())?)?;
         if let Some(held) = &mut self.held {
             held.insert(String::from_str(alloc, name.as_str())?)?;
+            self.removed.reserve(held.len())?;
         }
         Ok(())
     }
 
-    // Forgets a name that a failed write or a removal has left without a file.
+    // Takes a name out of the list, and keeps it for the next sync where there is room; false where it isn't kept.
+    fn note_removed(&mut self, name: &Name) -> bool
+        ensures { self.new.faults ≡ self.old.faults }
+    {
+        let Some(held) = &mut self.held else {
+            return false;
+        };
+        let Some(text) = held.take(name.as_str()) else {
+            return false;
+        };
+        self.removed.len() < self.removed.capacity() && self.removed.push(text).is_ok()
+    }
+
+    // Forgets a name that a failed write has left without a file.
     fn forget_absent(&mut self, name: &Name)
         ensures { self.new.faults ≡ self.old.faults }
     {
@@ -173,23 +197,113 @@ impl<R: Runtime> FolderVolume<R> {
         }
     }
 
-    // Syncs what was written, or, at first, every file.
+    // The failure of a write, which may have changed the name.
+    fn write_failed(&mut self, name: &Name) -> PutFault
+        ensures fault { result ≡ PutFault.Failed }
+        ensures counts { Counts self.old.faults self.new.faults }
+    {
+        self.forget_absent(name);
+        self.count();
+        PutFault::Failed
+    }
+
+    fn put_file(&mut self, name: &Name, bytes: &[u8]) -> io::Result<()>
+        ensures { self.new.faults ≡ self.old.faults }
+    {
+        self.begin_change()?;
+        self.disk.put(name.as_bytes(), bytes)
+    }
+
+    fn append_file(&mut self, name: &Name, bytes: &[u8]) -> io::Result<()>
+        ensures { self.new.faults ≡ self.old.faults }
+    {
+        self.begin_change()?;
+        self.disk.append(name.as_bytes(), bytes)
+    }
+
+    // Marks a name's file. Where no sync would reach it, it is synced at once.
+    fn mark_file(&mut self, name: &Name, byte: u8) -> io::Result<()>
+        ensures { self.new.faults ≡ self.old.faults }
+    {
+        self.begin_change()?;
+        self.disk.mark(name.as_bytes(), byte)?;
+        if self.written.contains(name.as_str()) {
+            return Ok(());
+        }
+        let synced = self.disk.sync_file(name.as_bytes());
+        self.lost = self.lost || synced.is_err();
+        synced
+    }
+
+    // Takes a name's file away. Where no sync would reach its folders, they are synced at once.
+    fn remove_file(&mut self, name: &Name) -> io::Result<()>
+        ensures { self.new.faults ≡ self.old.faults }
+    {
+        self.begin_change()?;
+        let was_there = self.disk.remove(name.as_bytes())?;
+        if self.note_removed(name) || !was_there {
+            return Ok(());
+        }
+        let synced = self.disk.sync_parts(name.as_bytes(), None);
+        self.lost = self.lost || synced.is_err();
+        synced
+    }
+
+    // Syncs the folders of the names that were taken away.
+    fn sync_removed(&mut self) -> io::Result<()>
+        ensures { self.new.faults ≡ self.old.faults }
+    {
+        self.removed.sort_unstable();
+        let mut last = None;
+        for name in self.removed.iter() {
+            self.disk.sync_parts(name.as_bytes(), last)?;
+            last = Some(name.as_bytes());
+        }
+        Ok(())
+    }
+
+    // Syncs the files that were written, and their folders.
     fn sync_written(&mut self) -> io::Result<()>
         ensures { self.new.faults ≡ self.old.faults }
     {
-        if !self.all_synced {
-            self.disk.sync_all()?;
-            self.all_synced = true;
-        }
+        let mut last = None;
         for name in self.written.iter() {
-            self.disk.sync_name(name.as_bytes())?;
+            self.disk.sync_file(name.as_bytes())?;
+            self.disk.sync_parts(name.as_bytes(), last)?;
+            last = Some(name.as_bytes());
         }
-        if self.folder_changed {
-            self.disk.sync_folder()?;
-        }
-        self.written.clear();
-        self.folder_changed = false;
         Ok(())
+    }
+
+    // Syncs what was written, and each folder in which a file was made or taken away.
+    fn sync_changes(&mut self) -> io::Result<()>
+        ensures { self.new.faults ≡ self.old.faults }
+    {
+        self.sync_removed()?;
+        self.sync_written()?;
+        self.disk.sync_folder()
+    }
+
+    // Syncs all changes since the last good sync. Where the system has failed at that once, no other is good.
+    fn sync_all(&mut self) -> Result<(), Failed>
+        ensures failed { OnErr result (Counts self.old.faults self.new.faults) }
+        ensures later { self.old.faults ≤ self.new.faults }
+    {
+        if self.lost {
+            self.count();
+            return Err(Failed);
+        }
+        if !self.unsynced {
+            return Ok(());
+        }
+        let synced = self.sync_changes();
+        self.lost = synced.is_err();
+        self.answer(synced)?;
+        self.written.clear();
+        self.removed.clear();
+        let forgotten = self.disk.forget_unsynced();
+        self.unsynced = forgotten.is_err();
+        self.answer(forgotten)
     }
 }
 
@@ -216,10 +330,8 @@ impl<R: Runtime> Volume for FolderVolume<R> {
     }
 
     fn size(&mut self, name: &Name) -> Result<Option<u64>, Failed> {
-        match self.disk.size(name.as_bytes()) {
-            Ok(size) => Ok(size),
-            Err(_) => Err(self.failed()),
-        }
+        let size = self.disk.size(name.as_bytes());
+        self.answer(size)
     }
 
     fn read(
@@ -239,12 +351,9 @@ impl<R: Runtime> Volume for FolderVolume<R> {
         if self.note_written(alloc, name).is_err() {
             return Err(PutFault::NoMemory);
         }
-        match self.disk.put(name.as_bytes(), bytes) {
+        match self.put_file(name, bytes) {
             Ok(()) => Ok(()),
-            Err(error) => {
-                self.forget_absent(name);
-                Err(self.put_failed(&error))
-            }
+            Err(_) => Err(self.write_failed(name)),
         }
     }
 
@@ -252,37 +361,24 @@ impl<R: Runtime> Volume for FolderVolume<R> {
         if self.note_written(alloc, name).is_err() {
             return Err(PutFault::NoMemory);
         }
-        match self.disk.append(name.as_bytes(), bytes) {
+        match self.append_file(name, bytes) {
             Ok(()) => Ok(()),
-            Err(error) => {
-                self.forget_absent(name);
-                Err(self.put_failed(&error))
-            }
+            Err(_) => Err(self.write_failed(name)),
         }
     }
 
     fn mark(&mut self, name: &Name, byte: u8) -> Result<(), Failed> {
-        match self.disk.mark(name.as_bytes(), byte) {
-            Ok(()) => Ok(()),
-            Err(_) => Err(self.failed()),
-        }
+        let marked = self.mark_file(name, byte);
+        self.answer(marked)
     }
 
     fn remove(&mut self, name: &Name) -> Result<(), Failed> {
-        self.folder_changed = true;
-        let answer = self.disk.remove(name.as_bytes());
-        self.forget_absent(name);
-        match answer {
-            Ok(()) => Ok(()),
-            Err(_) => Err(self.failed()),
-        }
+        let removed = self.remove_file(name);
+        self.answer(removed)
     }
 
     fn sync(&mut self) -> Result<(), Failed> {
-        match self.sync_written() {
-            Ok(()) => Ok(()),
-            Err(_) => Err(self.failed()),
-        }
+        self.sync_all()
     }
 
     fn free(&mut self) -> Result<Option<u64>, Failed> {

@@ -99,6 +99,98 @@ fn names_come_in_byte_order_and_other_files_are_passed_over(rt: HostRuntime) {
     assert!(rt; fs::remove_dir_all(&rt, folder.as_str()).is_ok());
 }
 
+// The name of a number, of 6 to 1,005 bytes; its last four are the number.
+fn numbered<H: AllocGlobal + Abort>(rt: &H, number: usize) -> Name {
+    let letters = "a".repeat(rt.alloc(), number % 1_000).expect(rt, "memory");
+    let text = format!(in rt.alloc(); "n/{letters}{number:04}").expect(rt, "memory");
+    name(rt, text.as_str())
+}
+
+// The last four bytes of a name.
+fn number_of(name: &Name) -> &[u8] {
+    let bytes = name.as_bytes();
+    &bytes[bytes.len().saturating_sub(4)..]
+}
+
+// Puts the half of a name's number, and appends the other.
+fn write_number<H: AllocGlobal, R: Runtime>(
+    rt: &H,
+    volume: &mut FolderVolume<R>,
+    name: &Name,
+) -> bool {
+    let [first, second, third, fourth] = number_of(name) else {
+        return false;
+    };
+    volume.put(rt.alloc(), name, &[*first, *second]).is_ok()
+        && volume.append(rt.alloc(), name, &[*third, *fourth]).is_ok()
+}
+
+fn holds_number<H: AllocGlobal, R: Runtime>(
+    rt: &H,
+    volume: &mut FolderVolume<R>,
+    name: &Name,
+) -> bool {
+    match volume.read(rt.alloc(), name, 0, 100) {
+        Ok(bytes) => bytes.as_slice() == number_of(name),
+        Err(_) => false,
+    }
+}
+
+// How many names are held. Each holds its number.
+fn count_held<H: AllocGlobal + Abort, R: Runtime>(rt: &H, volume: &mut FolderVolume<R>) -> usize {
+    let mut count = 0usize;
+    let mut last: Option<Name> = None;
+    for _ in 0..4_000 {
+        let next = volume.next(rt.alloc(), last.as_ref());
+        let Some(name) = next.expect(rt, "an answer") else {
+            break;
+        };
+        assert!(rt; holds_number(rt, volume, &name));
+        count = count.saturating_add(1);
+        last = Some(name);
+    }
+    count
+}
+
+#[test]
+fn names_of_many_lengths_are_listed_removed_and_found_again(rt: HostRuntime) {
+    let folder = scratch(&rt, "lengths");
+    let mut volume = FolderVolume::at(rt, rt.alloc(), folder.as_str()).expect(&rt, "a folder");
+    for number in 0..3_000usize {
+        assert!(rt; write_number(&rt, &mut volume, &numbered(&rt, number)));
+    }
+    assert_eq!(rt; count_held(&rt, &mut volume), 3_000);
+    for number in 0..3_000usize {
+        if number % 10 != 0 {
+            assert_eq!(rt; volume.remove(&numbered(&rt, number)), Ok(()));
+        }
+    }
+    assert_eq!(rt; count_held(&rt, &mut volume), 300);
+    assert_eq!(rt; volume.sync(), Ok(()));
+    let mut again = FolderVolume::at(rt, rt.alloc(), folder.as_str()).expect(&rt, "a folder");
+    assert_eq!(rt; count_held(&rt, &mut again), 300);
+    assert_eq!(rt; again.size(&numbered(&rt, 2_990)), Ok(Some(4)));
+    assert_eq!(rt; again.size(&numbered(&rt, 2_991)), Ok(None));
+    assert!(rt; fs::remove_dir_all(&rt, folder.as_str()).is_ok());
+}
+
+#[test]
+fn what_an_earlier_process_left_unsynced_is_synced_by_the_next(rt: HostRuntime) {
+    let folder = scratch(&rt, "leftovers");
+    let unsynced = format!(in rt.alloc(); "{folder}/unsynced").expect(&rt, "memory");
+    let mut volume = FolderVolume::at(rt, rt.alloc(), folder.as_str()).expect(&rt, "a folder");
+    assert_eq!(rt; fs::exists(&rt, unsynced.as_str()).ok(), Some(false));
+    put(&rt, &mut volume, "v/1", "a");
+    assert_eq!(rt; fs::exists(&rt, unsynced.as_str()).ok(), Some(true));
+    let mut next = FolderVolume::at(rt, rt.alloc(), folder.as_str()).expect(&rt, "a folder");
+    assert_eq!(rt; fs::exists(&rt, unsynced.as_str()).ok(), Some(false));
+    assert_holds(&rt, &mut next, "v/1", "a");
+    assert_eq!(rt; next.remove(&name(&rt, "v/1")), Ok(()));
+    assert_eq!(rt; next.sync(), Ok(()));
+    assert_eq!(rt; fs::exists(&rt, unsynced.as_str()).ok(), Some(false));
+    assert!(rt; fs::remove_dir_all(&rt, folder.as_str()).is_ok());
+}
+
 #[test]
 fn a_source_has_the_files_of_a_folder(rt: HostRuntime) {
     let folder = scratch(&rt, "source");

@@ -1,8 +1,8 @@
 -- Planning rows.
-use Rattle.std.proofs.Common.{◌≡◌, ℕ, ◌+◌, ◌-◌, ◌<◌, ◌≤◌, Bool, true, false, cond, not, ◌&&◌, List, [], ◌∷◌, ◌++◌, length, map, take, drop, Option, Some, None, refl, sym, ap, ◌∙◌, subst, arith, add-one, append_assoc, suc, Result, Ok, Err, OnOk}
-use Rattle.std.specs.Prelude.{reverse, filter, is_none, is_some, option_map, nat_lt, nat_le, ◌==◌}
-use Rattle.std.specs.List.{flat_map, slice_split, onto_first, list_all, slice_index_or, slice_range}
-use Rattle.std.specs.FinMap.{get, insert, entries, from_entries, find, get-from_entries, get-entries, get-empty, empty}
+use Rattle.std.proofs.Common.{◌≡◌, ℕ, ◌+◌, ◌-◌, ◌<◌, Bool, true, false, cond, not, ◌&&◌, List, [], ◌∷◌, ◌++◌, length, map, take, drop, Option, Some, None, refl, sym, ap, ◌∙◌, subst, arith, add-one, append_assoc, suc, Result, Ok, Err, OnOk}
+use Rattle.std.specs.Prelude.{reverse, filter, is_none, is_some, option_map, nat_le, ◌==◌}
+use Rattle.std.specs.List.{slice_split, onto_first, list_all, slice_index_or, slice_range}
+use Rattle.std.specs.FinMap.{get, insert, entries, get-from_entries, get-entries, get-empty, empty}
 use Rattle.std.proofs.lemmas.List.{map-append, reverse-append, append-nil, take-append-drop}
 use Rattle.std.proofs.lemmas.List.Folds.{list_all-append}
 use Rattle.std.proofs.lemmas.List.Splits.{length-slice_split}
@@ -13,14 +13,17 @@ use Rattle.std.proofs.lemmas.Grind.{flat_map-append}
 use Rattle.std.proofs.Math.Seq.{drop-cons, drop-length, take-length}
 use Rattle.mi_base.specs.Limits.{is_key, has_no_zero}
 use Rattle.mi_text.specs.Maps.{Name, Map, name_cmp, same_name}
-use Rattle.mi_text.proofs.MapLemmas.{names_total, same, get-set_to, same_itself, from_same}
+use Rattle.mi_text.proofs.MapLemmas.{names_total, same, get-set_to, from_same}
 use Rattle.mi_volume.specs.State.{State, Passes}
-use Rattle.mi_volume.proofs.Moments.{then_passes, rose_before, rose_after}
+use Rattle.mi_volume.proofs.Moments.{rose_before, rose_after}
 use Rattle.std.specs.Prelude.{IsNone}
-use Rattle.mi_engine.specs.Answers.{Unchanged}
+use Rattle.mi_engine.specs.Changes.{NothingInside}
+use Rattle.mi_engine.specs.Looks.{Looks}
+use Rattle.mi_undo.specs.Names.{is_inside}
+use Rattle.mi_base.specs.Names.{key_name, value_name}
 use Rattle.mi_engine.specs.Built.{Row}
 use Rattle.mi_engine.specs.After.{is_new, key_entry, value_entry, path_of, keys_of, values_of, planned, after, ends_from}
-use Rattle.mi_engine.specs.Calls.{map_of, or_else, first_under, Adds, Overlays, Fails, IsVolumeStop}
+use Rattle.mi_engine.specs.Calls.{or_else, first_under, Adds, Overlays, Fails, IsVolumeStop}
 use Rattle.mi_engine.specs.declared.stop.Stop.{Stop}
 use Rattle.mi_engine.specs.declared.stop.Stop.TheVariants.{NoMemory, Refuse}
 use Rattle.mi_base.specs.declared.answers.Cause.TheVariants.{BadWords, VolumeFault, BadRollback, BadImage, SourceFault, Table}
@@ -277,17 +280,9 @@ unplanned (Some x) is = cc
 -- while a path is planned
 pub record PlansPath (told : Type 0) (old new : State) (key : List ℕ) (place : ℕ) (before now : Map (List ℕ)) : Type 0 where
   pub along : told → Along key place old.held before now
-  pub unchanged : told → Unchanged old new
+  pub outside : NothingInside before → NothingInside now
+  pub looks : told → Looks old new
   pub passes : Passes old new
-
-pub unchanged_then : (old mid new : State) → Unchanged old mid → Unchanged mid new → Unchanged old new
-unchanged_then old mid new first second = record {
-  stays = record { held = second.stays.held ∙ first.stays.held; dirty = λ q d. first.stays.dirty q (second.stays.dirty q d) };
-  still = λ q d. second.still q (first.still q d);
-}
-
-pub unchanged_none : (s : State) → Unchanged s s
-unchanged_none s = record { stays = record { held = refl; dirty = λ q d. d }; still = λ q d. d }
 
 -- a count that rose in a later step, and a step that stopped for it
 pub fails_later : (old mid new : State) → Passes old mid → Fails mid new → Fails old new
@@ -299,12 +294,12 @@ pub fails_earlier : (old mid new : State) → Passes mid new → Fails old mid �
 fails_earlier old mid new then fails none = rose_after old mid new (fails none) then
 
 -- what a call plans, over the volume as it was at the beginning and with the key's own text
-pub adds_at : (old mid : State) (text key : List ℕ) (p q : Map (List ℕ)) → Unchanged old mid → text ≡ key → Adds (filter (is_new mid.held) (key_entry text ∷ [])) p q → Adds (filter (is_new old.held) (key_entry key ∷ [])) p q
+pub adds_at : (old mid : State) (text key : List ℕ) (p q : Map (List ℕ)) → Looks old mid → text ≡ key → Adds (filter (is_new mid.held) (key_entry text ∷ [])) p q → Adds (filter (is_new old.held) (key_entry key ∷ [])) p q
 adds_at old mid text key p q same_volume is adds =
     subst (λ (k : List ℕ). Adds (filter (is_new old.held) (key_entry k ∷ [])) p q) is
     (subst (λ (h : Map (List ℕ)). Adds (filter (is_new h) (key_entry text ∷ [])) p q) same_volume.stays.held adds)
 
-pub path_planned : {T E : Type 0} (r : Result T E) (old mid : State) (key : List ℕ) (place : ℕ) (p q then : Map (List ℕ)) → place ≡ length key → Unchanged old mid → Along key place old.held p q
+pub path_planned : {T E : Type 0} (r : Result T E) (old mid : State) (key : List ℕ) (place : ℕ) (p q then : Map (List ℕ)) → place ≡ length key → Looks old mid → Along key place old.held p q
     → OnOk r (Adds (filter (is_new mid.held) (key_entry key ∷ [])) q then) → OnOk r (Adds (filter (is_new old.held) (map key_entry (path_of key))) p then)
 path_planned (Ok x) old mid key place p q then at same_volume along adds = along_all key place old.held p q then at along (adds_at old mid key key q then same_volume refl adds)
 path_planned (Err e) old mid key place p q then at same_volume along adds = tt
@@ -312,7 +307,8 @@ path_planned (Err e) old mid key place p q then at same_volume along adds = tt
 -- while rows are planned
 pub record PlansRows (told : Type 0) (old new : State) (rows : List Row) (plan : Map (List ℕ)) : Type 0 where
   pub plans : told → plan ≡ planned rows old.held
-  pub unchanged : told → Unchanged old new
+  pub outside : NothingInside plan
+  pub looks : told → Looks old new
   pub passes : Passes old new
 
 no_less : (n : ℕ) → n - 0 ≡ n
@@ -336,3 +332,24 @@ volume_stop a b (Refuse (Table fault)) then is = absurd is
 volume_stop a b (Refuse (BadWords place)) then is = absurd is
 volume_stop a b (Refuse (BadRollback name)) then is = absurd is
 volume_stop a b (Refuse (BadImage name)) then is = absurd is
+
+-- ---- planned names are outside the rollback area
+
+pub key_outside : (key : List ℕ) → is_inside (key_entry key).0 ≡ false
+unfolding key_name
+key_outside key = refl
+
+pub value_outside : (r : Row) → is_inside (value_entry r).0 ≡ false
+unfolding value_name
+value_outside r = refl
+
+pub nothing_planned : NothingInside empty
+nothing_planned q inside = get-empty name_cmp q
+
+pub insert_outside : (m new : Map (List ℕ)) (name bytes : List ℕ) (e : Name × List ℕ) → new ≡ insert m name bytes → (name, bytes) ≡ e → is_inside e.0 ≡ false → NothingInside m → NothingInside new
+insert_outside m new name bytes e is same_entry out none q inside =
+    ap (λ (x : Map (List ℕ)). get x q) is ∙ get-set_to m name (Some bytes) q
+    ∙ elim (same_name q name) as (λ t. same_name q name ≡ t → cond t (Some bytes) (get m q) ≡ None) [
+      | true ↦ λ t. let clash : true ≡ false = sym inside ∙ ap is_inside (from_same q name t) ∙ ap (λ (x : Name × List ℕ). is_inside x.0) same_entry ∙ out in cc
+      | false ↦ λ t. none q inside
+    ] refl

@@ -1,24 +1,30 @@
--- What a run answers and leaves.
-use Rattle.std.proofs.Common.{◌≡◌, ℕ, ◌⊎◌, inl, inr, ◌<◌, ◌-◌, ◌^◌, List, ◌++◌, length, take, Option, None, Some, Result, Ok, Err, refl, sym, ap, subst, ◌∙◌, arith}
-use Rattle.std.specs.Prelude.{OnOk, OnErr, IsNone}
+-- What is written to a log.
+use Rattle.std.proofs.Common.{◌≡◌, ℕ, zero, suc, List, [], ◌∷◌, ◌++◌, length, take, Result, Ok, Err, refl, sym, ap, ◌∙◌, append_assoc}
+use Rattle.std.specs.Prelude.{OnOk, OnErr}
 use Rattle.std.proofs.Math.Seq.{take-length}
-use Rattle.std.specs.FinMap.{get}
-use Rattle.mi_text.specs.Maps.{Name, Map}
-use Rattle.mi_volume.specs.State.{State, Stays, NothingDirty}
-use Rattle.mi_engine.specs.Built.{Row}
-use Rattle.mi_engine.specs.After.{planned, after}
-use Rattle.mi_engine.specs.Calls.{Overlays}
-use Rattle.mi_engine.specs.Answers.{WritesFront, IsWritten, Unchanged}
-use Rattle.mi_engine.proofs.PlanLemmas.{after_overlay}
+use Rattle.mi_engine.specs.Answers.{WritesFront}
 
 pub front_written : {T E : Type 0} (r : Result T E) (old new bytes : List ℕ) → OnOk r (new ≡ old ++ bytes) → OnErr r ((n : ℕ) × (new ≡ old ++ take n bytes)) → WritesFront bytes old new
 front_written (Ok x) old new bytes whole front = (length bytes, whole ∙ ap (λ (l : List ℕ). old ++ l) (sym (take-length bytes)))
 front_written (Err e) old new bytes whole front = front
 
-pub rows_written : {T E : Type 0} (r : Result T E) (rows : List Row) (plan : Map (List ℕ)) (old s1 s2 s3 : State) → plan ≡ planned rows old.held → Unchanged old s1 → Overlays plan s1.held s2.held → Stays s2 s3 → OnOk r (NothingDirty s3) → OnOk r (IsWritten rows old s3)
-rows_written (Ok x) rows plan old s1 s2 s3 is same_volume over stays clean = record {
-  held = stays.held ∙ after_overlay rows old.held s2.held
-      (subst (λ (p : Map (List ℕ)). Overlays p old.held s2.held) is (subst (λ (h : Map (List ℕ)). Overlays plan h s2.held) same_volume.stays.held over));
-  clean = clean;
-}
-rows_written (Err e) rows plan old s1 s2 s3 is same_volume over stays clean = tt
+take_first : (a b : List ℕ) (n : ℕ) → (m : ℕ) × (take n a ≡ take m (a ++ b))
+take_first a b zero = (zero, refl)
+take_first [] b (suc n) = (zero, refl)
+take_first (x ∷ a) b (suc n) = let more = take_first a b n in (suc more.0, ap (λ (l : List ℕ). x ∷ l) more.1)
+
+take_both : (a b : List ℕ) (n : ℕ) → (m : ℕ) × (a ++ take n b ≡ take m (a ++ b))
+take_both [] b n = (n, refl)
+take_both (x ∷ a) b n = let more = take_both a b n in (suc more.0, ap (λ (l : List ℕ). x ∷ l) more.1)
+
+-- the first of two pieces failed
+pub first_written : (first a b old new : List ℕ) → first ≡ a → WritesFront first old new → WritesFront (a ++ b) old new
+first_written first a b old new is front =
+    let at = take_first a b front.0 in
+    (at.0, front.1 ∙ ap (λ (l : List ℕ). old ++ take front.0 l) is ∙ ap (λ (l : List ℕ). old ++ l) at.1)
+
+-- the second of two pieces may have failed
+pub both_written : (first a b old mid new : List ℕ) → first ≡ a → mid ≡ old ++ first → WritesFront b mid new → WritesFront (a ++ b) old new
+both_written first a b old mid new is whole front =
+    let at = take_both a b front.0 in
+    (at.0, front.1 ∙ ap (λ (l : List ℕ). l ++ take front.0 b) (whole ∙ ap (λ (l : List ℕ). old ++ l) is) ∙ append_assoc old a (take front.0 b) ∙ ap (λ (l : List ℕ). old ++ l) at.1)

@@ -70,3 +70,7 @@ collected-push es e = sym (ap from_entries (reverse-append es (e ∷ [])))
 
 pub collected_set : {X : Type 0} (m new : BTreeMap Name X) (es : List (Name × X)) (n : Name) (x : X) → map_of m.entries ≡ collected es → tree.UpdatesBy name_cmp (name_cmp n) m new (Some x) → map_of new.entries ≡ collected (es ++ (n, x) ∷ [])
 collected_set m new es n x so_far u = stored m new n (Some x) u ∙ ap (λ (k : Map _). insert k n x) so_far ∙ collected-push es (n, x)
+
+-- what the tree holds at a name
+pub tree_at : (m : BTreeMap Name (List ℕ)) (name bytes : List ℕ) → tree.get name_cmp m name ≡ Some bytes → get (map_of m.entries) name ≡ Some bytes
+tree_at m name bytes is = get-map_of m.entries name ∙ is

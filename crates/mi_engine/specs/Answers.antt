@@ -1,52 +1,80 @@
--- What licenses each answer of a run, and what it leaves.
-use Rattle.std.specs.Prelude.{◌≡◌, ◌⊎◌, ℕ, ◌-◌, ◌^◌, ◌<◌, Bool, false, true, List, [], ◌∷◌, ◌++◌, take, Option, None, Result, Ok, Err}
+-- What licenses each answer of a run, and what it leaves. (Rollback Installation; the answers are this project's own.)
+use Rattle.std.specs.Prelude.{◌≡◌, ◌⊎◌, ℕ, ◌-◌, ◌^◌, ◌<◌, Bool, false, true, List, [], ◌++◌, take, None, Result, Ok, Err, IsNone}
 use Rattle.std.specs.FinMap.{get}
-use Rattle.mi_text.specs.Maps.{Name}
+use Rattle.mi_text.specs.declared.answers.Settled.{Settled}
 use Rattle.mi_text.specs.declared.answers.Settled.TheVariants.{Clean}
 use Rattle.mi_volume.specs.Maps.{Map}
-use Rattle.mi_volume.specs.State.{State, Stays, StaysDirty, NothingDirty}
+use Rattle.mi_volume.specs.State.{State, Stays, StaysDirty}
+use Rattle.mi_undo.specs.Names.{is_inside}
+use Rattle.mi_undo.specs.Notes.{Note, note_of}
+use Rattle.mi_undo.specs.Stands.{StandsFor, noted, outside}
+use Rattle.mi_undo.specs.Keeps.{IsFree}
+use Rattle.mi_undo.specs.Answers.{IsFreeUnlessRose}
 use Rattle.mi_base.specs.declared.answers.Cause.{Cause}
 use Rattle.mi_base.specs.declared.answers.Cause.TheVariants.{BadWords, VolumeFault, BadRollback, BadImage, SourceFault, Table}
+use Rattle.mi_base.specs.declared.answers.Pause.{Pause}
 use Rattle.mi_base.specs.declared.answers.Kind.{Kind}
 use Rattle.mi_base.specs.declared.answers.Kind.TheVariants.{Done, Listed, Recovered, Refused, Suspended, NoMemory}
 use Rattle.mi_report.specs.Report.{report_of}
-use Rattle.mi_engine.specs.Built.{Row}
-use Rattle.mi_engine.specs.declared.answer.Answer.{Answer}
+use Rattle.mi_engine.specs.Words.{Command, Install, Products, Recover}
 use Rattle.mi_engine.specs.Outcome.{Outcome, kind_of}
-use Rattle.mi_engine.specs.After.{after, planned}
+use Rattle.mi_engine.specs.Outcome as outcome
+use Rattle.mi_engine.specs.Ends.{MayCommit, Paused}
 
--- ---- causes; `volume` and `source` say that the count of that device rose
+-- ---- which answers the words allow, whatever the devices tell
 
-abbrev pub CausedRefusal : Outcome → Type 0 → Type 0 → Cause → Type 0
-CausedRefusal o volume source VolumeFault = volume
-CausedRefusal o volume source SourceFault = source
-CausedRefusal o volume source cause = o ≡ Err cause
+abbrev pub IsNotWords : Cause → Type 0
+IsNotWords (BadWords place) = ⊥
+IsNotWords other = Unit {0}
 
--- each answer comes only for its cause
-abbrev pub Caused : Outcome → Type 0 → Type 0 → Kind → Type 0
-Caused o volume source Done = (rows : List Row) × (o ≡ Ok rows)
-Caused o volume source (Refused cause) = CausedRefusal o volume source cause
-Caused o volume source NoMemory = Unit {0}
-Caused o volume source other = ⊥
+-- a refusal that comes before the command is carried out
+abbrev pub IsBefore : Cause → Type 0
+IsBefore VolumeFault = Unit {0}
+IsBefore (BadRollback name) = Unit {0}
+IsBefore (BadImage name) = Unit {0}
+IsBefore other = ⊥
 
-abbrev pub CountedRefusal : Type 0 → Type 0 → Cause → Type 0
-CountedRefusal volume source VolumeFault = volume
-CountedRefusal volume source SourceFault = source
-CountedRefusal volume source (BadRollback name) = ⊥
-CountedRefusal volume source (BadImage name) = ⊥
-CountedRefusal volume source other = Unit {0}
+abbrev pub AnswersCommand : Command → Kind → Type 0
+AnswersCommand command NoMemory = Unit {0}
+AnswersCommand (Install folder) Done = Unit {0}
+AnswersCommand (Install folder) (Suspended pause) = Unit {0}
+AnswersCommand (Install folder) (Refused cause) = IsNotWords cause
+AnswersCommand Products Listed = Unit {0}
+AnswersCommand Products (Refused cause) = IsBefore cause
+AnswersCommand Recover (Recovered settled) = Unit {0}
+AnswersCommand Recover (Refused cause) = IsBefore cause
+AnswersCommand command other = ⊥
 
--- the same of a source that doesn't tell its content
-abbrev pub Counted : Type 0 → Type 0 → Kind → Type 0
-Counted volume source Done = Unit {0}
-Counted volume source (Refused cause) = CountedRefusal volume source cause
-Counted volume source NoMemory = Unit {0}
-Counted volume source other = ⊥
-
--- the answer to words, which are right or have a first that is refused
-abbrev pub AnswersWords : Result Name ℕ → Kind → Type 0
+-- words have a command, or a first word that is refused
+abbrev pub AnswersWords : Result Command ℕ → Kind → Type 0
+AnswersWords (Ok command) kind = AnswersCommand command kind
 AnswersWords (Err place) kind = (kind ≡ Refused (BadWords place)) ⊎ (kind ≡ NoMemory)
-AnswersWords (Ok folder) kind = (place : ℕ) → kind ≡ Refused (BadWords place) → ⊥
+
+-- ---- causes. `volume` and `source` say that this device tells what it holds, `volume_fails` and `source_fails` that
+-- its count rose, and `may_pause` which counts a suspended run tells.
+
+-- the run makes a map
+abbrev pub IsDone : Outcome → Type 0
+IsDone o = (A : Map) × (o ≡ outcome.Done A)
+
+abbrev pub CausedRefusal : Type 0 → Type 0 → Outcome → Type 0 → Type 0 → Cause → Type 0
+CausedRefusal volume source o volume_fails source_fails VolumeFault = volume_fails
+CausedRefusal volume source o volume_fails source_fails SourceFault = source_fails
+CausedRefusal volume source o volume_fails source_fails (Table fault) = volume → source → o ≡ outcome.Refused (Table fault)
+CausedRefusal volume source o volume_fails source_fails cause = volume → o ≡ outcome.Refused cause
+
+-- Each answer comes only for its cause. What needs the package is claimed where the source tells it, too.
+abbrev pub Caused : Type 0 → Type 0 → Outcome → Type 0 → Type 0 → (Pause → Type 0) → Kind → Type 0
+Caused volume source o volume_fails source_fails may_pause Done = volume → source → IsDone o
+Caused volume source o volume_fails source_fails may_pause Listed = volume → (text : List ℕ) × (o ≡ outcome.Listed text)
+Caused volume source o volume_fails source_fails may_pause (Recovered settled) = volume → o ≡ outcome.Recovered settled
+Caused volume source o volume_fails source_fails may_pause (Refused cause) = CausedRefusal volume source o volume_fails source_fails cause
+Caused volume source o volume_fails source_fails may_pause (Suspended pause) = may_pause pause × (volume → source → IsDone o)
+Caused volume source o volume_fails source_fails may_pause NoMemory = Unit {0}
+
+-- the counts that a suspended run tells, where no capacity is told
+abbrev pub MayPause : State → State → Pause → Type 0
+MayPause old new pause = IsNone old.capacity → Paused old.faults new.faults pause.place pause.begun pause.again pause.why
 
 -- the outcome's own answer, or want of memory
 abbrev pub Completes : Outcome → Kind → Type 0
@@ -56,53 +84,84 @@ Completes o kind = (kind ≡ kind_of o) ⊎ (kind ≡ NoMemory)
 abbrev pub SameCount : ℕ → ℕ → Type 0
 SameCount old new = (new ≡ old) × (old < 2 ^ 64 - 1)
 
--- ---- the machine
+-- ---- the machine, where what is handed in stands for the former map F
 
--- a volume that is left as it was
-pub record Unchanged (old new : State) : Type 0 where
-  pub stays : Stays old new
-  pub still : StaysDirty old new
+-- What an image since the run began stands for: the former map; or the map after, where the outcome has one, and the
+-- answer allows it. `rose` says that the count rose in the call.
+abbrev pub MayStand : Map → Outcome → Type 0 → Kind → Map → Type 0
+MayStand F o rose kind d = StandsFor F d ⊎ ((A : Map) × ((o ≡ outcome.Done A) × MayCommit rose kind × StandsFor A d))
 
--- names that aren't among these are left as they were
-pub record OnlyWrites (names : Map) (old new : State) : Type 0 where
-  pub others : (q : List ℕ) → get names q ≡ None → get new.held q ≡ get old.held q
-  pub dirty : (q : List ℕ) → get names q ≡ None → new.dirty q → old.dirty q
+-- each name that is neither inside the rollback area nor noted in d0 is as in F
+abbrev pub UnnotedStay : Map → Map → Map → Type 0
+UnnotedStay d0 F h = (ns : List Note) → noted d0 ≡ Ok ns → (q : List ℕ) → is_inside q ≡ false → note_of ns q ≡ None → get h q ≡ get F q
 
--- only the names that the run writes may differ and be dirty
-abbrev pub MayWrite : Outcome → State → State → Type 0
-MayWrite (Ok rows) old new = OnlyWrites (planned rows old.held) old new
-MayWrite (Err cause) old new = Unchanged old new
+-- What reads give after a refusal. Settling may have stopped with noted names away; of refused words and of an area
+-- that is not read other clauses say that the volume is as it was handed in.
+abbrev pub RefusedReads : Map → Map → Cause → Map → Type 0
+RefusedReads d0 F (BadWords place) h = Unit {0}
+RefusedReads d0 F (BadRollback name) h = Unit {0}
+RefusedReads d0 F VolumeFault h = UnnotedStay d0 F h
+RefusedReads d0 F other h = outside h ≡ F
 
--- the map after the rows, with nothing dirty
-pub record IsWritten (rows : List Row) (old new : State) : Type 0 where
-  pub held : new.held ≡ after rows old.held
-  pub clean : NothingDirty new
+-- what reads give after a run over d0, which stands for F, where A is the map after
+abbrev pub ReadsAfter : Map → Map → Map → Kind → Map → Type 0
+ReadsAfter d0 F A Done h = outside h ≡ A
+ReadsAfter d0 F A Listed h = outside h ≡ F
+ReadsAfter d0 F A (Recovered settled) h = outside h ≡ F
+ReadsAfter d0 F A (Refused cause) h = RefusedReads d0 F cause h
+ReadsAfter d0 F A (Suspended pause) h = Unit {0}
+ReadsAfter d0 F A NoMemory h = Unit {0}
 
-abbrev pub MadeBy : Outcome → State → State → Type 0
-MadeBy (Ok rows) old new = IsWritten rows old new
-MadeBy (Err cause) old new = ⊥
+abbrev pub RefusalCleans : State → State → Cause → Type 0
+RefusalCleans old new (BadWords place) = Unit {0}
+RefusalCleans old new (BadRollback name) = Unit {0}
+RefusalCleans old new VolumeFault = Unit {0}
+RefusalCleans old new other = IsFreeUnlessRose old new
 
--- What a refusal leaves; `told` says that the source tells its content.
-abbrev pub LeftByRefusal : Type 0 → Outcome → State → State → Cause → Type 0
-LeftByRefusal told o old new VolumeFault = told → MayWrite o old new
-LeftByRefusal told o old new other = Unchanged old new
-
--- what each answer leaves
-abbrev pub Leaves : Type 0 → Outcome → State → State → Kind → Type 0
-Leaves told o old new Done = told → MadeBy o old new
-Leaves told o old new (Refused cause) = LeftByRefusal told o old new cause
-Leaves told o old new other = told → MayWrite o old new
+-- behind which answers no name inside the rollback area is held and nothing is dirty
+abbrev pub Cleans : State → State → Kind → Type 0
+Cleans old new Done = IsFreeUnlessRose old new
+Cleans old new Listed = IsFree new
+Cleans old new (Recovered settled) = IsFree new
+Cleans old new (Refused cause) = RefusalCleans old new cause
+Cleans old new (Suspended pause) = Unit {0}
+Cleans old new NoMemory = Unit {0}
 
 -- ---- the log
 
--- the log of a run that settled nothing and began no action
-abbrev pub log_of : Kind → List ℕ
-log_of kind = report_of (record { kind = kind; settled = Clean; walks = true; begun = [] }) 0
+-- a command that carries out a package says what settling found
+abbrev pub walks : Result Command ℕ → Bool
+walks (Ok (Install folder)) = true
+walks (Ok Products) = false
+walks (Ok Recover) = false
+walks (Err place) = false
+
+-- the log of an answer, without begun actions
+abbrev pub log_of : Bool → Settled → Kind → List ℕ
+log_of says settled kind = report_of (record { kind = kind; settled = settled; walks = says; begun = [] }) 0
+
+abbrev pub RefusalTells : (Settled → Type 0) → Cause → Settled → Type 0
+RefusalTells found (BadWords place) settled = settled ≡ Clean
+RefusalTells found (BadRollback name) settled = settled ≡ Clean
+RefusalTells found VolumeFault settled = found settled ⊎ (settled ≡ Clean)
+RefusalTells found other settled = found settled
+
+-- What a log says that settling found: a run that was refused by its words or while settling says nothing, and one
+-- that met a fault of the volume or want of memory may.
+abbrev pub Tells : (Settled → Type 0) → Kind → Settled → Type 0
+Tells found (Refused cause) settled = RefusalTells found cause settled
+Tells found NoMemory settled = found settled ⊎ (settled ≡ Clean)
+Tells found other settled = found settled
+
+-- The whole log of an answer. `volume` says that the volume tells what it holds, `found` what settling found.
+abbrev pub IsLog : Type 0 → (Settled → Type 0) → Bool → Outcome → Kind → List ℕ → Type 0
+IsLog volume found says o Listed log = volume → o ≡ outcome.Listed log
+IsLog volume found says o kind log = (settled : Settled) × (Tells found kind settled × (log ≡ log_of says settled kind))
 
 -- a front of the log is written
 abbrev pub WritesFront : List ℕ → List ℕ → List ℕ → Type 0
 WritesFront log old new = (n : ℕ) × (new ≡ old ++ take n log)
 
 -- the log is written, or a front of it where the sink has failed
-abbrev pub Logs : Answer → List ℕ → List ℕ → Type 0
-Logs a old new = (a.log_lost ≡ false → new ≡ old ++ log_of a.kind) × WritesFront (log_of a.kind) old new
+abbrev pub Logs : (List ℕ → Type 0) → Bool → List ℕ → List ℕ → Type 0
+Logs is_log log_lost old new = (log : List ℕ) × (is_log log × (log_lost ≡ false → new ≡ old ++ log) × WritesFront log old new)

@@ -1,20 +1,15 @@
 -- What the steps of a run answer.
-use Rattle.std.specs.Prelude.{◌≡◌, ℕ, Bool, true, false, List, Option, None, Some, IsNone, Result, Ok, Err, OnOk, Vec}
+use Rattle.std.specs.Prelude.{◌≡◌, ℕ, Bool, true, false, List, Option, None, Some, IsNone, Result, Ok, Err, Vec}
 use Rattle.std.specs.declared.alloc.Global.{Global}
-use Rattle.std.specs.FinMap.{get, insert, from_entries, find}
+use Rattle.std.specs.FinMap.{get, from_entries, find}
 use Rattle.mi_text.specs.Maps.{Name, Map, name_cmp}
-use Rattle.mi_volume.specs.Maps.{OthersStay}
-use Rattle.mi_volume.specs.State.{State, Rose, OnlyDirties}
-use Rattle.mi_volume.specs.declared.volume.PutFault.{PutFault}
-use Rattle.mi_volume.specs.declared.volume.PutFault.TheVariants.{NoMemory as put_memory, Failed as put_failed, Full as put_full}
+use Rattle.mi_volume.specs.State.{State, Rose}
 use Rattle.mi_source.specs.declared.fault.SrcFault.{SrcFault}
 use Rattle.mi_source.specs.declared.fault.SrcFault.TheVariants.{NoMemory as source_memory, Failed as source_failed}
 use Rattle.mi_base.specs.declared.answers.Fault.{Fault}
 use Rattle.mi_base.specs.declared.answers.Fault.TheVariants.{MissingTable}
 use Rattle.mi_base.specs.declared.answers.Cause.{Cause}
 use Rattle.mi_base.specs.declared.answers.Cause.TheVariants.{VolumeFault, SourceFault, Table}
-use Rattle.mi_base.specs.declared.answers.Kind.{Kind}
-use Rattle.mi_base.specs.declared.answers.Kind.TheVariants.{Done, Refused, NoMemory as out_of_memory}
 use Rattle.mi_engine.specs.Built.{Row}
 use Rattle.mi_engine.specs.declared.stop.Stop.{Stop}
 use Rattle.mi_engine.specs.declared.stop.Stop.TheVariants.{NoMemory, Refuse}
@@ -22,12 +17,6 @@ use Rattle.mi_engine.specs.declared.stop.Stop.TheVariants.{NoMemory, Refuse}
 -- the map that the program's tree of names means
 abbrev pub map_of : {X : Type 0} → List (Name × X) → Map X
 map_of es = from_entries es
-
--- the kind of a run that ended so
-abbrev pub ended : {T : Type 0} → Result T Stop → Kind
-ended (Ok x) = Done
-ended (Err NoMemory) = out_of_memory
-ended (Err (Refuse cause)) = Refused cause
 
 -- the count of the volume rose, where no capacity is told
 abbrev pub Fails : State → State → Type 0
@@ -92,15 +81,3 @@ first_under q es = find name_cmp q es
 -- these entries stand behind those that are there
 abbrev pub Adds : List (Name × List ℕ) → Map (List ℕ) → Map (List ℕ) → Type 0
 Adds es old new = (q : Name) → get new q ≡ or_else (get old q) (first_under q es)
-
--- a stop of a write
-abbrev pub stop_of_put : PutFault → Stop
-stop_of_put put_memory = NoMemory
-stop_of_put put_failed = Refuse VolumeFault
-stop_of_put put_full = Refuse VolumeFault
-
--- gives one name these bytes, where it answers Ok, and changes no other
-pub record WritesOne {T E : Type 0} (name bytes : Name) (old new : State) (result : Result T E) : Type 0 where
-  pub ok : OnOk result (new.held ≡ insert old.held name bytes)
-  pub others : OthersStay name old.held new.held
-  pub dirty : OnlyDirties name old new

@@ -2,22 +2,35 @@
 #![tactic(auto)]
 
 mod answer;
+mod carry;
+mod changes;
 mod code;
 mod columns;
 mod ending;
+mod fall;
 mod file;
+mod forward;
 mod load;
+mod obey;
+mod piece;
 mod plan;
 mod registry;
+mod reply;
 mod rows;
+mod serve;
 mod stop;
 mod top;
 mod words;
-mod write;
 
 pub use answer::Answer;
 pub use code::answer_code;
 pub use top::run;
 
+#[cfg(test)]
+mod command_tests;
+#[cfg(test)]
+mod forward_tests;
+#[cfg(test)]
+mod stop_tests;
 #[cfg(test)]
 mod tests;

@@ -6,8 +6,9 @@ ghost use Rattle.mi_base.specs.Limits.{is_key};
 ghost use Rattle.mi_volume.specs.State.{Passes};
 ghost use Rattle.mi_engine.specs.After.{is_new, key_entry, value_entry, path_of, planned};
 ghost use Rattle.mi_engine.specs.Built.{Row};
-ghost use Rattle.mi_engine.specs.Answers.{Unchanged};
 ghost use Rattle.mi_engine.specs.Calls.{map_of, Fails, IsVolumeStop, Adds};
+ghost use Rattle.mi_engine.specs.Changes.{NothingInside};
+ghost use Rattle.mi_engine.specs.Looks.{Looks};
 
 use crate::rows::RegistryRow;
 use crate::stop::Stop;
@@ -60,7 +61,8 @@ fn value_record(alloc: Global, row: &RegistryRow) -> Result<(Name, Bytes), Stop>
 fn plan_key<V: Volume>(alloc: Global, vol: &mut V, plan: &mut Plan, key: &str) -> Result<(), Stop>
     requires { is_key key.now ≡ true }
     ensures adds { V.told → OnOk result (Adds (filter (is_new (V.state vol.old).held) (key_entry key.now ∷ [])) (map_of plan.old.entries) (map_of plan.new.entries)) }
-    ensures unchanged { V.told → Unchanged (V.state vol.old) (V.state vol.new) }
+    ensures outside { NothingInside (map_of plan.old.entries) → OnOk result (NothingInside (map_of plan.new.entries)) }
+    ensures looks { V.told → Looks (V.state vol.old) (V.state vol.new) }
     ensures passes { Passes (V.state vol.old) (V.state vol.new) }
     ensures stopped { IfErr result (IsVolumeStop (Fails (V.state vol.old) (V.state vol.new))) }
 {
@@ -82,7 +84,8 @@ fn plan_key<V: Volume>(alloc: Global, vol: &mut V, plan: &mut Plan, key: &str) -
 fn plan_path<V: Volume>(alloc: Global, vol: &mut V, plan: &mut Plan, key: &str) -> Result<(), Stop>
     requires { is_key key.now ≡ true }
     ensures adds { V.told → OnOk result (Adds (filter (is_new (V.state vol.old).held) (map key_entry (path_of key.now))) (map_of plan.old.entries) (map_of plan.new.entries)) }
-    ensures unchanged { V.told → Unchanged (V.state vol.old) (V.state vol.new) }
+    ensures outside { NothingInside (map_of plan.old.entries) → OnOk result (NothingInside (map_of plan.new.entries)) }
+    ensures looks { V.told → Looks (V.state vol.old) (V.state vol.new) }
     ensures passes { Passes (V.state vol.old) (V.state vol.new) }
     ensures stopped { IfErr result (IsVolumeStop (Fails (V.state vol.old) (V.state vol.new))) }
 {
@@ -102,7 +105,8 @@ fn plan_row<V: Volume>(
     row: &RegistryRow,
 ) -> Result<(), Stop>
     ensures plans { V.told → OnOk result ((rows : List Row) → map_of plan.old.entries ≡ planned rows (V.state vol.old).held → map_of plan.new.entries ≡ planned (rows ++ row.now ∷ []) (V.state vol.old).held) }
-    ensures unchanged { V.told → Unchanged (V.state vol.old) (V.state vol.new) }
+    ensures outside { NothingInside (map_of plan.old.entries) → OnOk result (NothingInside (map_of plan.new.entries)) }
+    ensures looks { V.told → Looks (V.state vol.old) (V.state vol.new) }
     ensures passes { Passes (V.state vol.old) (V.state vol.new) }
     ensures stopped { IfErr result (IsVolumeStop (Fails (V.state vol.old) (V.state vol.new))) }
 {
@@ -115,7 +119,8 @@ fn plan_row<V: Volume>(
 /// Plans what all rows write, in this order.
 pub fn plan_rows<V: Volume>(alloc: Global, vol: &mut V, rows: &[RegistryRow]) -> Result<Plan, Stop>
     ensures plans { V.told → IfOk result (λ plan. map_of plan.entries ≡ planned rows.now (V.state vol.old).held) }
-    ensures unchanged { V.told → Unchanged (V.state vol.old) (V.state vol.new) }
+    ensures outside { IfOk result (λ plan. NothingInside (map_of plan.entries)) }
+    ensures looks { V.told → Looks (V.state vol.old) (V.state vol.new) }
     ensures passes { Passes (V.state vol.old) (V.state vol.new) }
     ensures stopped { IfErr result (IsVolumeStop (Fails (V.state vol.old) (V.state vol.new))) }
 {

@@ -1,121 +1,31 @@
 //! The top call.
 
-ghost use Rattle.std.specs.Prelude.{◌≡◌, ◌≤◌, ◌++◌, OnOk, IfOk, IfErr, IsNone, Ok, false};
+ghost use Rattle.std.specs.Prelude.{◌≡◌, ◌≤◌, ◌++◌, ℕ, List, Ok, Err, IsNone, false};
 ghost use Rattle.std.specs.Bool.{OnTrue};
-ghost use Rattle.mi_volume.specs.State.{Passes, Stays, NothingDirty};
+ghost use Rattle.mi_volume.specs.Maps.{Map};
+ghost use Rattle.mi_volume.specs.State.{NothingDirty, GoesOn, Passes};
 ghost use Rattle.mi_source.specs.Counts.{Rose};
-ghost use Rattle.mi_engine.specs.Words.{texts_of, folder_asked};
-ghost use Rattle.mi_engine.specs.Package.{package_of};
-ghost use Rattle.mi_engine.specs.After.{planned};
-ghost use Rattle.mi_engine.specs.Outcome.{outcome, of_package};
-ghost use Rattle.mi_engine.specs.Answers.{Caused, Counted, AnswersWords, Completes, IsWritten, OnlyWrites, WritesFront, Leaves, Logs, log_of, SameCount};
-ghost use Rattle.mi_engine.specs.Calls.{Fails, IsVolumeStop, ended};
+ghost use Rattle.mi_undo.specs.Stands.{stands, settled};
+ghost use Rattle.mi_undo.specs.Keeps.{Each};
+ghost use Rattle.mi_engine.specs.Words.{texts_of, command_of, Installs};
+ghost use Rattle.mi_engine.specs.Outcome.{outcome, map_after};
+ghost use Rattle.mi_engine.specs.Calls.{Fails};
+ghost use Rattle.mi_engine.specs.Ends.{BelowCount, AtExit};
+ghost use Rattle.mi_engine.specs.Answers.{AnswersWords, Caused, MayPause, Completes, SameCount, MayStand, ReadsAfter, Cleans, walks, IsLog, WritesFront, Logs};
+ghost use Rattle.mi_engine.specs.Replies.{Runs, log_in};
 
 use crate::answer::Answer;
-use crate::ending::kind_of;
-use crate::load::load;
-use crate::plan::plan_rows;
-use crate::rows::RegistryRow;
-use crate::stop::Stop;
+use crate::reply::{Reply, logged};
+use crate::serve::serve;
 use crate::words::read_words;
-use crate::write::write_plan;
-use mi_base::{Bytes, Cause, Kind, NoMemory, Settled, Texts};
-use mi_report::{Outcome, report};
+use mi_base::{Cause, Kind, Settled};
 use mi_source::{Sink, Source};
 use mi_volume::Volume;
 use std::alloc::Global;
 
-/// Makes the volume sure.
-fn sync<V: Volume>(vol: &mut V) -> Result<(), Stop>
-    ensures clean { V.told → OnOk result (NothingDirty (V.state vol.new)) }
-    ensures unchanged { V.told → Stays (V.state vol.old) (V.state vol.new) }
-    ensures passes { Passes (V.state vol.old) (V.state vol.new) }
-    ensures stopped { IfErr result (IsVolumeStop (Fails (V.state vol.old) (V.state vol.new))) }
-{
-    match vol.sync() {
-        Ok(()) => Ok(()),
-        Err(_) => Err(Stop::Refuse(Cause::VolumeFault)),
-    }
-}
-
-/// Writes the rows to the volume.
-fn write_rows<V: Volume>(alloc: Global, vol: &mut V, rows: &[RegistryRow]) -> Result<(), Stop>
-    ensures written { V.told → OnOk result (IsWritten rows.now (V.state vol.old) (V.state vol.new)) }
-    ensures others { V.told → OnlyWrites (planned rows.now (V.state vol.old).held) (V.state vol.old) (V.state vol.new) }
-    ensures passes { Passes (V.state vol.old) (V.state vol.new) }
-    ensures stopped { IfErr result (IsVolumeStop (Fails (V.state vol.old) (V.state vol.new))) }
-{
-    let plan = plan_rows(alloc, vol, rows)?;
-    write_plan(alloc, vol, &plan)?;
-    sync(vol)
-}
-
-/// Installs the package of a folder.
-fn install<S: Source, V: Volume>(
-    alloc: Global,
-    folder: &str,
-    src: &mut S,
-    vol: &mut V,
-) -> Result<(), Stop>
-    ensures caused { S.told → Caused (of_package (package_of (S.files src.old) folder.now)) (Fails (V.state vol.old) (V.state vol.new)) (Rose (S.faults src.old) (S.faults src.new)) (ended result) }
-    ensures counted { Counted (Fails (V.state vol.old) (V.state vol.new)) (Rose (S.faults src.old) (S.faults src.new)) (ended result) }
-    ensures leaves { V.told → Leaves S.told (of_package (package_of (S.files src.old) folder.now)) (V.state vol.old) (V.state vol.new) (ended result) }
-    ensures words { AnswersWords (Ok folder.now) (ended result) }
-    ensures passes { Passes (V.state vol.old) (V.state vol.new) }
-    ensures counts { S.faults src.old ≤ S.faults src.new }
-{
-    let rows = load(alloc, src, folder)?;
-    write_rows(alloc, vol, rows.as_slice())
-}
-
-/// Does what the words ask for.
-fn work<S: Source, V: Volume>(
-    alloc: Global,
-    words: &[String],
-    src: &mut S,
-    vol: &mut V,
-) -> Result<(), Stop>
-    ensures caused { S.told → Caused (outcome (texts_of words.now) (S.files src.old)) (Fails (V.state vol.old) (V.state vol.new)) (Rose (S.faults src.old) (S.faults src.new)) (ended result) }
-    ensures counted { Counted (Fails (V.state vol.old) (V.state vol.new)) (Rose (S.faults src.old) (S.faults src.new)) (ended result) }
-    ensures leaves { V.told → Leaves S.told (outcome (texts_of words.now) (S.files src.old)) (V.state vol.old) (V.state vol.new) (ended result) }
-    ensures words { AnswersWords (folder_asked (texts_of words.now)) (ended result) }
-    ensures passes { Passes (V.state vol.old) (V.state vol.new) }
-    ensures counts { S.faults src.old ≤ S.faults src.new }
-{
-    match read_words(words) {
-        Ok(folder) => install(alloc, folder, src, vol),
-        Err(place) => Err(Stop::Refuse(Cause::BadWords(place))),
-    }
-}
-
-/// The log of a run that settled nothing and began no action.
-fn log(alloc: Global, kind: Kind) -> Result<(Kind, Bytes), NoMemory>
-    ensures kind { IfOk result (λ x. x.0 ≡ kind) }
-    ensures log { IfOk result (λ x. x.1 ≡ log_of kind) }
-{
-    let outcome = Outcome {
-        kind,
-        settled: Settled::Clean,
-        walks: true,
-        begun: Texts::new(alloc),
-    };
-    let bytes = report(alloc, &outcome, 0)?;
-    Ok((outcome.kind, bytes))
-}
-
-/// Writes the log, and says whether the sink failed.
-fn tell<K: Sink>(out: &mut K, bytes: &[u8]) -> bool
-    ensures written { K.told → result ≡ false → K.written out.new ≡ K.written out.old ++ bytes.now }
-    ensures front { K.told → WritesFront bytes.now (K.written out.old) (K.written out.new) }
-    ensures counts { K.faults out.old ≤ K.faults out.new }
-    ensures failed { OnTrue result (Rose (K.faults out.old) (K.faults out.new)) }
-{
-    out.write(bytes).is_err()
-}
-
-/// Installs the package of a folder on a volume, and writes the log to a sink. The words are those of the
-/// command line; `_now` is the moment in seconds that new files carry. What is told by the source, the
-/// volume and the sink is claimed where they tell it.
+/// Carries out the words of a command line on a volume, and writes the log to a sink: settles the volume, reads its
+/// machine, and then installs a package, lists the products, or is done (this project's own). `_now` is the moment in
+/// seconds that new files carry. What is told by the source, the volume and the sink is claimed where they tell it.
 pub fn run<S: Source, V: Volume, K: Sink>(
     alloc: Global,
     words: &[String],
@@ -124,46 +34,48 @@ pub fn run<S: Source, V: Volume, K: Sink>(
     out: &mut K,
     _now: u64,
 ) -> Answer
-    // An answer comes only for its cause, over a source that tells its content and over any.
-    ensures caused { S.told → Caused (outcome (texts_of words.now) (S.files src.old)) (Fails (V.state vol.old) (V.state vol.new)) (Rose (S.faults src.old) (S.faults src.new)) result.kind }
-    ensures counted { Counted (Fails (V.state vol.old) (V.state vol.new)) (Rose (S.faults src.old) (S.faults src.new)) result.kind }
-    ensures words { AnswersWords (folder_asked (texts_of words.now)) result.kind }
+    // Which answers the words allow. Refused words leave both devices alone, and a command without a package the
+    // source.
+    ensures words { AnswersWords (command_of (texts_of words.now)) result.kind }
+    ensures untouched { (place : ℕ) → command_of (texts_of words.now) ≡ Err place → vol.new ≡ vol.old }
+    ensures no_package { (Installs (command_of (texts_of words.now)) → ⊥) → src.new ≡ src.old }
 
-    // Where no count rises, the answer is that of the words and the package, or want of memory.
-    ensures complete { S.told → IsNone (V.state vol.old).capacity → SameCount (S.faults src.old) (S.faults src.new) → SameCount (V.state vol.old).faults (V.state vol.new).faults
-        → Completes (outcome (texts_of words.now) (S.files src.old)) result.kind }
+    // An answer comes only for its cause.
+    ensures caused { Caused V.told S.told (outcome (texts_of words.now) (S.files src.old) (V.state vol.old).held) (Fails (V.state vol.old) (V.state vol.new)) (Rose (S.faults src.old) (S.faults src.new)) (MayPause (V.state vol.old) (V.state vol.new)) result.kind }
 
-    // What each answer leaves of the volume.
-    ensures leaves { V.told → Leaves S.told (outcome (texts_of words.now) (S.files src.old)) (V.state vol.old) (V.state vol.new) result.kind }
+    // Where no count rises, the answer is the outcome's own, or want of memory.
+    ensures complete { V.told → S.told → IsNone (V.state vol.old).capacity → SameCount (S.faults src.old) (S.faults src.new) → SameCount (V.state vol.old).faults (V.state vol.new).faults
+        → Completes (outcome (texts_of words.now) (S.files src.old) (V.state vol.old).held) result.kind }
+    ensures complete_alone { V.told → (Installs (command_of (texts_of words.now)) → ⊥) → IsNone (V.state vol.old).capacity → SameCount (V.state vol.old).faults (V.state vol.new).faults
+        → Completes (outcome (texts_of words.now) (S.files src.old) (V.state vol.old).held) result.kind }
+
+    // What a crash leaves, at every moment of the call and at its end: the former map F, or the map after.
+    ensures stops { V.told → S.told → NothingDirty (V.state vol.old) → (F : Map) → stands (V.state vol.old).held ≡ Ok F
+        → GoesOn (V.state vol.old) (V.state vol.new) (MayStand F (outcome (texts_of words.now) (S.files src.old) (V.state vol.old).held) (BelowCount (V.state vol.old).faults (V.state vol.new).faults) result.kind) }
+    ensures leaves { V.told → S.told → NothingDirty (V.state vol.old) → (F : Map) → stands (V.state vol.old).held ≡ Ok F
+        → Each (V.state vol.new) (AtExit F (map_after F (outcome (texts_of words.now) (S.files src.old) (V.state vol.old).held)) result.kind) }
+    ensures unread { V.told → NothingDirty (V.state vol.old) → (bad : List ℕ) → stands (V.state vol.old).held ≡ Err bad → GoesOn (V.state vol.old) (V.state vol.new) (λ d. d ≡ (V.state vol.old).held) }
+
+    // What reads give after the call.
+    ensures reads { V.told → S.told → (F : Map) → stands (V.state vol.old).held ≡ Ok F
+        → ReadsAfter (V.state vol.old).held F (map_after F (outcome (texts_of words.now) (S.files src.old) (V.state vol.old).held)) result.kind (V.state vol.new).held }
+    ensures unread_stays { V.told → (bad : List ℕ) → stands (V.state vol.old).held ≡ Err bad → (V.state vol.new).held ≡ (V.state vol.old).held }
+    ensures clean { V.told → Cleans (V.state vol.old) (V.state vol.new) result.kind }
+    ensures passes { Passes (V.state vol.old) (V.state vol.new) }
+    ensures counts { S.faults src.old ≤ S.faults src.new }
     ensures reached { result.reached ≡ 0 }
 
     // The log.
-    ensures log { K.told → Logs result (K.written out.old) (K.written out.new) }
+    ensures log { K.told → Logs (IsLog V.told (λ s. V.told → s ≡ settled (V.state vol.old).held) (walks (command_of (texts_of words.now))) (outcome (texts_of words.now) (S.files src.old) (V.state vol.old).held) result.kind) result.log_lost (K.written out.old) (K.written out.new) }
     ensures log_lost { OnTrue result.log_lost (Rose (K.faults out.old) (K.faults out.new)) }
 {
-    // What Done writes to the log is made before the first write to the volume.
-    let Ok((_, done)) = log(alloc, Kind::Done) else {
-        return unlogged(out);
-    };
-    match kind_of(work(alloc, words, src, vol)) {
-        Kind::Done => logged(out, Kind::Done, done.as_slice()),
-        Kind::NoMemory => unlogged(out),
-        kind => match log(alloc, kind) {
-            Ok((kind, bytes)) => logged(out, kind, bytes.as_slice()),
-            Err(_) => unlogged(out),
-        },
-    }
-}
-
-/// The answer of a run whose log is written here.
-fn logged<K: Sink>(out: &mut K, kind: Kind, bytes: &[u8]) -> Answer
-    requires { bytes.now ≡ log_of kind }
-    ensures kind { result.kind ≡ kind }
-    ensures reached { result.reached ≡ 0 }
-    ensures log { K.told → Logs result (K.written out.old) (K.written out.new) }
-    ensures log_lost { OnTrue result.log_lost (Rose (K.faults out.old) (K.faults out.new)) }
-{
-    let log_lost = tell(out, bytes);
+    let reply = work(alloc, words, src, vol);
+    let log_lost = tell(out, &reply);
+    let Reply {
+        kind,
+        front: _,
+        line: _,
+    } = reply;
     Answer {
         kind,
         reached: 0,
@@ -171,12 +83,47 @@ fn logged<K: Sink>(out: &mut K, kind: Kind, bytes: &[u8]) -> Answer
     }
 }
 
-/// The answer of a run that met want of memory.
-fn unlogged<K: Sink>(out: &mut K) -> Answer
-    ensures kind { result.kind ≡ Kind.NoMemory }
-    ensures reached { result.reached ≡ 0 }
-    ensures log { K.told → Logs result (K.written out.old) (K.written out.new) }
-    ensures log_lost { OnTrue result.log_lost (Rose (K.faults out.old) (K.faults out.new)) }
+/// Does what the words ask for.
+fn work<S: Source, V: Volume>(alloc: Global, words: &[String], src: &mut S, vol: &mut V) -> Reply
+    ensures runs { Runs V.told S.told (V.state vol.old) (V.state vol.new) (outcome (texts_of words.now) (S.files src.old) (V.state vol.old).held) (command_of (texts_of words.now)) (Rose (S.faults src.old) (S.faults src.new)) result.kind (log_in result) }
+    ensures untouched { (place : ℕ) → command_of (texts_of words.now) ≡ Err place → vol.new ≡ vol.old }
+    ensures no_package { (Installs (command_of (texts_of words.now)) → ⊥) → src.new ≡ src.old }
+    ensures passes { Passes (V.state vol.old) (V.state vol.new) }
+    ensures counts { S.faults src.old ≤ S.faults src.new }
 {
-    logged(out, Kind::NoMemory, b"Result: NoMemory\n")
+    match read_words(words) {
+        Ok(command) => serve(alloc, command, src, vol),
+        Err(place) => logged(
+            alloc,
+            Kind::Refused(Cause::BadWords(place)),
+            Settled::Clean,
+            false,
+        ),
+    }
+}
+
+/// Writes the log, up to the first piece that fails, and says whether one did.
+fn tell<K: Sink>(out: &mut K, reply: &Reply) -> bool
+    ensures written { K.told → result ≡ false → K.written out.new ≡ K.written out.old ++ log_in reply.now }
+    ensures front { K.told → WritesFront (log_in reply.now) (K.written out.old) (K.written out.new) }
+    ensures counts { K.faults out.old ≤ K.faults out.new }
+    ensures failed { OnTrue result (Rose (K.faults out.old) (K.faults out.new)) }
+{
+    if write_piece(out, reply.front.as_slice()) {
+        return true;
+    }
+    write_piece(out, reply.line)
+}
+
+/// Writes a piece of the log, unless it is empty, and says whether the sink failed.
+fn write_piece<K: Sink>(out: &mut K, piece: &[u8]) -> bool
+    ensures written { K.told → result ≡ false → K.written out.new ≡ K.written out.old ++ piece.now }
+    ensures front { K.told → WritesFront piece.now (K.written out.old) (K.written out.new) }
+    ensures counts { K.faults out.old ≤ K.faults out.new }
+    ensures failed { OnTrue result (Rose (K.faults out.old) (K.faults out.new)) }
+{
+    if piece.is_empty() {
+        return false;
+    }
+    out.write(piece).is_err()
 }

@@ -1,6 +1,6 @@
 //! Expanding formatted text in one scan.
 
-ghost use Rattle.std.specs.Prelude.{◌≡◌, true, false, IfOk, OnOk, IsErrOf};
+ghost use Rattle.std.specs.Prelude.{◌≡◌, ℕ, List, true, false, IfOk, OnOk, IsErrOf};
 ghost use Rattle.mi_format.specs.declared.expansion.FormatError.TheVariants.{NoMemory as no_memory};
 ghost use Rattle.mi_format.specs.Expansion.{IsExpansion, expand_of, is_too_deep};
 
@@ -52,6 +52,7 @@ impl<T: Drop> From<AllocFailed<T>> for FormatError {
 /// Refused with `TooDeep` where more than 64 marks are open at once.
 pub fn expand<E: Env>(alloc: Global, text: &str, env: &E) -> Result<Text, FormatError>
     ensures groups { IfOk result (λ t. IsExpansion (E.lookups env.now) text.now t) }
+    ensures only { IfOk result (λ t. (x : List ℕ) → IsExpansion (E.lookups env.now) text.now x → x ≡ t) }
     ensures value { IfOk result (λ t. t ≡ expand_of (E.lookups env.now) text.now) }
     ensures shallow { OnOk result (is_too_deep text.now ≡ false) }
     ensures deep { IsErrOf result FormatError.TooDeep → is_too_deep text.now ≡ true }

@@ -13,7 +13,7 @@ fn answer(alloc: Global, bytes: &[u8]) -> Result<String, AllocError> {
     }
 }
 
-const FAULTS: [(&[u8], &str); 36] = [
+const FAULTS: [(&[u8], &str); 45] = [
     (b"", "TooFewLines"),
     (b"K\ns72\n", "TooFewLines"),
     (b"K\xff\ns72\nT\tK\n", "NotUtf8(1)"),
@@ -53,6 +53,18 @@ const FAULTS: [(&[u8], &str); 36] = [
     (b"K\tN\ns72\ti2\nT\tK\na\x18\t1\na\x0c\t2\n", "TwoKeys(2)"),
     (b"K\tN\nS72\ti2\nT\tK\n\t1\n\t2\n", "TwoKeys(2)"),
     // Of two faults the first in order.
+    (b"\xff\ns72\n", "TooFewLines"),
+    (b"\xff\ns\xff\nT\tK\n", "NotUtf8(1)"),
+    (b"K\t\ns72\ti2\n\xff\n", "NotUtf8(3)"),
+    (
+        b"K\tN\ns72\ti2\nT\tNope\n\xff\n",
+        "KeyColumn(Text { string: \"Nope\" })",
+    ),
+    (b"K\tN\ns72\ti2\nT\tK\n\xff\n", "NotUtf8(4)"),
+    (b"K\tN\ns72\ti2\nT\tK\n\t\t1\n", "ColumnCount(4)"),
+    (b"K\tN\ns72\ti2\nT\tK\n\tx\n", "Null(1, 1)"),
+    (b"N\tK\ni2\ts72\nT\tK\nx\t\n", "Integer(1, 1)"),
+    (b"K\tN\ns72\ti2\nT\tK\na\t1\nb\na\t2\n", "ColumnCount(5)"),
     (b"K\t\nx\xff\nT\tK\n", "NotUtf8(2)"),
     (b"K\tK\ni3\n1251\tT\n", "ColumnName(2)"),
     (b"K\tN\ni3\n1251\tT\n", "ColumnCount(2)"),
@@ -72,7 +84,7 @@ fn faults_come_in_order(rt: HostRuntime) -> Result<(), Fail> {
     Ok(())
 }
 
-const TABLES: [&[u8]; 7] = [
+const TABLES: [&[u8]; 8] = [
     b"K\ns72\nT\tK\n",
     b"K\ns72\nT\tK",
     b"K\r\ns72\r\nT\tK\r\na\r\n",
@@ -80,6 +92,7 @@ const TABLES: [&[u8]; 7] = [
     b"K\tN\ns072\tI2\n01252\tT\tK\na\t-32767\nb\t32767\nc\t\n",
     b"K\tN\tD\nl0\ti4\tv0\n65001\tT\tK\tN\na\t-2147483647\tx\na\t0\tx\n",
     b"K\ns72\nT\tK\na\rb\n",
+    b"K\tN\nS72\ti2\nT\tK\n\t1\na\t2\n",
 ];
 
 #[test]

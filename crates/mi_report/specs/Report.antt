@@ -1,9 +1,7 @@
 -- The log of a command (this project's own).
-use Rattle.std.specs.Prelude.{ℕ, Bool, true, false, List, [], ◌∷◌, ◌++◌, take, codes}
+use Rattle.std.specs.Prelude.{ℕ, Bool, true, false, List, [], ◌++◌, take}
 use Rattle.std.specs.List.{flat_map}
-use Rattle.std.specs.Fmt.{decimal}
 use Rattle.mi_text.specs.declared.answers.Settled.{Settled}
-use Rattle.mi_text.specs.declared.answers.Settled.TheVariants.{Clean, Undone}
 use Rattle.mi_base.specs.declared.answers.Kind.{Kind}
 use Rattle.mi_base.specs.declared.answers.Kind.TheVariants.{Done, Listed, Recovered, Refused, Suspended, NoMemory}
 use Rattle.mi_report.specs.Lines.{recovered_line, action_line, result_line}

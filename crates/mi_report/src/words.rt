@@ -35,16 +35,16 @@ fn push_word(out: &mut Vec<u8>, name: &str) -> Result<(), NoMemory>
     Ok(())
 }
 
-// A blank and a text.
-fn push_text(out: &mut Vec<u8>, text: &str) -> Result<(), NoMemory>
+/// Adds a blank and a text.
+pub fn push_text(out: &mut Vec<u8>, text: &str) -> Result<(), NoMemory>
     ensures { OnOk result (out.new.items ≡ out.old.items ++ spaced (shown text.now ∷ [])) }
 {
     out.push(b' ')?;
     push_shown(out, text)
 }
 
-// A blank and a number.
-fn push_field(alloc: Global, out: &mut Vec<u8>, number: u64) -> Result<(), NoMemory>
+/// Adds a blank and a number.
+pub fn push_field(alloc: Global, out: &mut Vec<u8>, number: u64) -> Result<(), NoMemory>
     ensures { OnOk result (out.new.items ≡ out.old.items ++ spaced (decimal number ∷ [])) }
 {
     out.push(b' ')?;

@@ -66,6 +66,7 @@ row_ends content table number row cols i le = nothing (drop i cols) (drop i row)
     past [] (suc i) le = refl
     past (x ∷ xs) zero le = absurd (omega arith)
     past (x ∷ xs) (suc i) le = past xs i (omega arith)
+
     nothing : (cs : List Column) (xs : Row) → xs ≡ [] → cells_reference content table number row (i + 1) cs xs ≡ None
     nothing [] xs e = refl
     nothing (c ∷ cs) [] e = refl

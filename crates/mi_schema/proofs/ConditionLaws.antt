@@ -30,15 +30,20 @@ reads (b ∷ bs) text i p is le taken = next (λ q t. reads bs text (i + 1) q ot
   where
     lt : i < length text
     lt = let some : length (b ∷ bs) ≡ length (drop i text) = ap length is in omega (arith, some, length-drop i text)
+
     parts : b ∷ bs ≡ get_or text i 0 ∷ drop (i + 1) text
     parts = is ∙ drop-cons text i 0 lt ∙ ap (λ n. get_or text i 0 ∷ drop n text) (sym (add-one i))
+
     first : b ≡ get_or text i 0
     first = let e = parts in cc
+
     others : bs ≡ drop (i + 1) text
     others = let e = parts in cc
+
     deep : (More : (q : Place) → Taken text (i + 1) q → IsCondition (read_from (i + 1) bs q) text) (q : Place) → byte p b ≡ Some q → (d : Bool) → nat_lt 64 (depth_at q.state) ≡ d → IsCondition (cond d (Err i) (read_from (i + 1) bs q)) text
     deep more q e true d = (deep_byte text i p q b lt first taken e (grind (arith, nat_tests))).0
     deep more q e false d = more q (taken_more text i p q b lt first taken e (grind (arith, nat_tests)))
+
     next : (More : (q : Place) → Taken text (i + 1) q → IsCondition (read_from (i + 1) bs q) text) (o : Option Place) → byte p b ≡ o → IsCondition (goes_on i o (read_from (i + 1) bs)) text
     next more None e = (wrong_byte text i p b lt first taken e).0
     next more (Some q) e = deep more q e (nat_lt 64 (depth_at q.state)) refl

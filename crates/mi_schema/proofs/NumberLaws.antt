@@ -30,12 +30,12 @@ minus (Err e) ds h digits long fits = absurd (h (digits, long, fits))
 pub integer_read : {E : Type 0} (r : Result ℤ E) (bs : List ℕ) (z : ℤ) → ParsesSigned w32 10 bs r → SpellsInteger 2147483647 bs z → r ≡ Ok z
 integer_read {E} r bs z h spells = ⊎_elim
     (λ s.
-        let fits : number_on 0 bs < 2147483648 = omega (arith, s.1.2, s.2) in
-        plain r bs (parse_signed_digits own w32 bs r h s.1.1) (some bs s.1.0) fits ∙ ap Ok (sym (s.3 ∙ ap pos s.1.2)))
+    let fits : number_on 0 bs < 2147483648 = omega (arith, s.1.2, s.2) in
+    plain r bs (parse_signed_digits own w32 bs r h s.1.1) (some bs s.1.0) fits ∙ ap Ok (sym (s.3 ∙ ap pos s.1.2)))
     (λ s.
-        let read = subst (λ (l : List ℕ). ParsesSigned w32 10 l r) s.2 h in
-        let fits : number_on 0 s.0 ≤ 2147483648 = omega (arith, s.3.2, s.4) in
-        minus r s.0 (parse_signed_minus own w32 (45 ∷ s.0) r read refl) s.3.1 (some s.0 s.3.0) fits ∙ ap Ok (sym (s.5 ∙ ap (λ n. neg_ℤ (pos n)) s.3.2)))
+    let read = subst (λ (l : List ℕ). ParsesSigned w32 10 l r) s.2 h in
+    let fits : number_on 0 s.0 ≤ 2147483648 = omega (arith, s.3.2, s.4) in
+    minus r s.0 (parse_signed_minus own w32 (45 ∷ s.0) r read refl) s.3.1 (some s.0 s.3.0) fits ∙ ap Ok (sym (s.5 ∙ ap (λ n. neg_ℤ (pos n)) s.3.2)))
     spells
 
 spelled_fits : (bs : List ℕ) (z : ℤ) → SpellsInteger 2147483647 bs z → SFits w32 z

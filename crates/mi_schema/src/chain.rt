@@ -48,11 +48,7 @@ fn parent_key(target: Target, row: &[Option<Cell>]) -> Option<&str>
 }
 
 /// The row of a row's parent.
-fn parent_of(
-    target: Target,
-    index: &BTreeMap<String, usize>,
-    row: &[Option<Cell>],
-) -> Option<usize>
+fn parent_of(target: Target, index: &BTreeMap<String, usize>, row: &[Option<Cell>]) -> Option<usize>
     ensures { (keys : List Name) → KnowsKeys index.now keys → result ≡ option_and_then (row_with keys) (parent_key target row.now) }
 {
     match parent_key(target, row) {
@@ -65,11 +61,7 @@ fn parent_of(
 }
 
 /// The rows of the parents of all rows.
-fn parents_of(
-    alloc: Global,
-    target: Target,
-    rows: &Rows,
-) -> Result<Vec<Option<usize>>, NoMemory>
+fn parents_of(alloc: Global, target: Target, rows: &Rows) -> Result<Vec<Option<usize>>, NoMemory>
     ensures { IfOk result (λ parents. parents.items ≡ parents_of target (rows_as rows.now)) }
 {
     let mut parents = Vec::new(alloc);

@@ -17,8 +17,16 @@ use std::alloc::Global;
 fn check_cycles(alloc: Global, content: &Content) -> Result<(), LoadError>
     ensures { Answers ⊥ (cycles_fault (content_as content.now)) (λ _. Unit {0}) result }
 {
-    check_chains(alloc, Target::Directory, content.at(place_of(Target::Directory)))?;
-    check_chains(alloc, Target::Feature, content.at(place_of(Target::Feature)))?;
+    check_chains(
+        alloc,
+        Target::Directory,
+        content.at(place_of(Target::Directory)),
+    )?;
+    check_chains(
+        alloc,
+        Target::Feature,
+        content.at(place_of(Target::Feature)),
+    )?;
     check_chains(alloc, Target::File, content.at(place_of(Target::File)))
 }
 

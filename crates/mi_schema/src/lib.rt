@@ -1,4 +1,4 @@
-//! Packages.
+//! The tables of a package, loaded from a folder and checked (Database Tables).
 #![tactic(auto)]
 
 mod cell;
@@ -21,3 +21,12 @@ mod seen;
 mod table;
 mod tables;
 mod text;
+
+pub use cell::{Cell, Row};
+pub use content::Content;
+pub use error::LoadError;
+pub use held::Rows;
+pub use load::load_content;
+
+#[cfg(test)]
+mod tests;

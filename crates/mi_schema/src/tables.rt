@@ -100,7 +100,11 @@ const CUSTOM_ACTION: [Column; 4] = [
 
 const DIRECTORY: [Column; 3] = [
     key!("Directory", Kind::Text),
-    allows!("Directory_Parent", Kind::KeyOf(Target::Directory), Rule::OneRoot),
+    allows!(
+        "Directory_Parent",
+        Kind::KeyOf(Target::Directory),
+        Rule::OneRoot
+    ),
     needs!("DefaultDir", Kind::Text, Rule::DefaultDir),
 ];
 

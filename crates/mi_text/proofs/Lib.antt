@@ -1,4 +1,6 @@
+pub mod ByteLemmas
 pub mod GuidLemmas
 pub mod MapLemmas
 pub mod NextLemmas
 pub mod PathLemmas
+pub mod PieceLemmas

@@ -78,9 +78,8 @@ pub next-none : {X : Type 0} → (m : Map X) (after : Option Name) (q : Name) (x
 next-none m after q x next at = none_of_all (is_behind after) (entries m) q x next (sym (get-entries m q) ∙ at)
 
 -- nothing is read at first
-pub none_read : {X : Type 0} → (says : Name → Option X) → says [] ≡ None → UpTo says None empty
-none_read says none [] = get-empty name_cmp [] ∙ sym none
-none_read says none (x ∷ q) = get-empty name_cmp (x ∷ q)
+pub none_read : {X : Type 0} → (says : Name → Option X) → UpTo says None empty
+none_read says q = get-empty name_cmp q
 
 greater : (o : Ordering) → is_gt o ≡ true → o ≡ Greater
 greater Less e = cc
@@ -96,8 +95,7 @@ lower q a k Equal at not_behind behind = ap is_gt (names_total.congr q a k at �
 lower q a k Greater at not_behind behind = cc
 
 before : (after : Option Name) (k q : Name) → is_behind after k ≡ true → is_behind after q ≡ false → is_gt (name_cmp q k) ≡ false
-before None k [] behind not_behind = elim k as (λ (k : Name). is_gt (name_cmp [] k) ≡ false) [ [] ↦ refl | (x ∷ k) ↦ refl ]
-before None k (x ∷ q) behind not_behind = cc
+before None k q behind not_behind = cc
 before (Some a) k q behind not_behind = lower q a k (name_cmp q a) refl not_behind behind
 
 nothing : {X : Type 0} → (b : Bool) (o : Option X) → o ≡ None → None ≡ cond b None o

@@ -1,3 +1,4 @@
+pub mod Bytes
 pub mod Fold
 pub mod Guid
 pub mod Lookups

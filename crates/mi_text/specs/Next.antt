@@ -1,12 +1,12 @@
 -- The names of a map one after the other, and what a scan has read so far.
-use Rattle.std.specs.Prelude.{◌≡◌, Bool, [], find, Option, Some, None, if◌then◌else◌}
+use Rattle.std.specs.Prelude.{◌≡◌, Bool, true, find, Option, Some, None, if◌then◌else◌}
 use Rattle.std.specs.Ordering.{is_gt}
 use Rattle.std.specs.FinMap.{get, keys}
 use Rattle.mi_text.specs.Maps.{Name, Map, name_cmp}
 
--- whether the name comes behind the last one that was read
+-- whether the name comes behind the last one that was read; at first each name does
 abbrev pub is_behind : Option Name → Name → Bool
-is_behind None q = is_gt (name_cmp q [])
+is_behind None q = true
 is_behind (Some after) q = is_gt (name_cmp q after)
 
 -- the least held name behind it

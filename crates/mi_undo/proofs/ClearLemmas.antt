@@ -26,6 +26,9 @@ shut_stands s A shut d agrees at_marker = stands_unmarked d A (ap is_one at_mark
 pub shut_image : (s : State) (A : Map) → IsShut s A → (d : Map) → Images s d → StandsFor A d
 shut_image s A shut d image = shut_stands s A shut d (λ q solid out. image.agrees q solid) (image.agrees marker shut.solid)
 
+pub shut_held : (s : State) (A : Map) → IsShut s A → StandsFor A s.held
+shut_held s A shut = shut_stands s A shut s.held (λ q solid out. refl) refl
+
 pub shut_image_of : (s : State) (A : Map) (x : List ℕ) → IsShut s A → is_inside x ≡ true → x ≢ marker → (d : Map) → ImagesOf x s d → StandsFor A d
 shut_image_of s A x shut inside ne d image =
     shut_stands s A shut d (λ q solid out. image.agrees q (⊎_elim solid (λ is. not_both (is_inside q) (ap is_inside is ∙ inside) out))) (image.agrees marker (⊎_elim shut.solid (λ is. ne (sym is))))
@@ -138,7 +141,7 @@ module _ (s t u v : State) (A : Map) (name : List ℕ) (is : name ≡ marker) (s
   first_goes = weaker s t (Images s) (StandsFor A) (shut_image s A shut) first
 
   pub unsynced : {T E : Type 0} (r : Result T E) → IsErr r → Clears s t A r
-  unsynced r fails = record { goes = first_goes; leaves = shut_image t A synced; outside = shut_outside t A synced; ok = at_err _ r fails }
+  unsynced r fails = record { goes = first_goes; leaves = shut_image t A synced; stands = shut_held t A synced; outside = shut_outside t A synced; ok = at_err _ r fails }
 
   module _ (clean : NothingDirty t) (removing : GoesOn t u (ImagesOf name t)) (w : Result (Unit {0}) Failed) (removes : Removes name t u w) where
     empty : (q : List ℕ) → is_inside q ≡ true → q ≢ marker → get t.held q ≡ None
@@ -153,11 +156,14 @@ module _ (s t u v : State) (A : Map) (name : List ℕ) (is : name ≡ marker) (s
     second_goes : GoesOn s u (StandsFor A)
     second_goes = joined s t u (StandsFor A) first_goes (weaker t u (ImagesOf marker t) (StandsFor A) (last_image t A synced clean empty) (subst (λ (n : List ℕ). GoesOn t u (ImagesOf n t)) is removing))
 
+    stands_now : StandsFor A u.held
+    stands_now = empty_stands t A synced empty u.held others
+
     outside_now : outside u.held ≡ A
     outside_now = marker_step t.held u.held marker refl others ∙ shut_outside t A synced
 
     pub unremoved : {T E : Type 0} (r : Result T E) → IsErr r → Clears s u A r
-    unremoved r fails = record { goes = second_goes; leaves = after_image t u A synced clean empty others dirty; outside = outside_now; ok = at_err _ r fails }
+    unremoved r fails = record { goes = second_goes; leaves = after_image t u A synced clean empty others dirty; stands = stands_now; outside = outside_now; ok = at_err _ r fails }
 
     module _ (last : GoesOn u v (Images u)) (stays : Stays u v) where
       third_goes : GoesOn s v (StandsFor A)
@@ -166,14 +172,17 @@ module _ (s t u v : State) (A : Map) (name : List ℕ) (is : name ≡ marker) (s
       leaves_now : (d : Map) → Images v d → StandsFor A d
       leaves_now d image = after_image t u A synced clean empty others dirty d (image_stays u v last stays d image)
 
+      stands_then : StandsFor A v.held
+      stands_then = empty_stands t A synced empty v.held (λ q ne. ap (λ (m : Map). get m q) stays.held ∙ others q ne)
+
       pub unfinished : {T E : Type 0} (r : Result T E) → IsErr r → Clears s v A r
-      unfinished r fails = record { goes = third_goes; leaves = leaves_now; outside = ap outside stays.held ∙ outside_now; ok = at_err _ r fails }
+      unfinished r fails = record { goes = third_goes; leaves = leaves_now; stands = stands_then; outside = ap outside stays.held ∙ outside_now; ok = at_err _ r fails }
 
       pub all_cleared : u.held ≡ remove t.held name → NothingDirty v → Clears {T = Unit {0}} {E = Failed} s v A (Ok tt)
       all_cleared removed clean_now =
           let held = stays.held ∙ emptied t u A synced empty (removed ∙ ap (λ (n : List ℕ). remove t.held n) is) in
-          record { goes = third_goes; leaves = leaves_now; outside = ap outside stays.held ∙ outside_now; ok = (is_free v A held shut.nothing_inside clean_now, held) }
+          record { goes = third_goes; leaves = leaves_now; stands = stands_then; outside = ap outside stays.held ∙ outside_now; ok = (is_free v A held shut.nothing_inside clean_now, held) }
 
 -- after the names the marker
 pub then_cleared : {T E : Type 0} (s t u : State) (A : Map) (r : Result T E) → GoesOn s t (StandsFor A) → Clears t u A r → Clears s u A r
-then_cleared s t u A r first then = record { goes = joined s t u (StandsFor A) first then.goes; leaves = then.leaves; outside = then.outside; ok = then.ok }
+then_cleared s t u A r first then = record { goes = joined s t u (StandsFor A) first then.goes; leaves = then.leaves; stands = then.stands; outside = then.outside; ok = then.ok }

@@ -27,3 +27,13 @@ pub mod BackLemmas
 mod ReturnLemmas
 pub mod PutLemmas
 pub mod BeginLemmas
+mod DecodeLemmas
+mod HalfLemmas
+pub mod ReadLemmas
+pub mod SettleLemmas
+pub mod SpareLemmas
+mod InsideLemmas
+mod SweepLemmas
+pub mod SettleSteps
+mod LawLemmas
+mod TestLemmas

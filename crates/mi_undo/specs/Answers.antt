@@ -1,5 +1,5 @@
 -- What the calls of an area leave, by their answers.
-use Rattle.std.specs.Prelude.{◌≡◌, ◌⊎◌, ℕ, ◌-◌, ◌^◌, ◌≤◌, ◌<◌, Result, Ok, Err, OnOk, IsErrOf}
+use Rattle.std.specs.Prelude.{◌≡◌, ◌⊎◌, ℕ, ◌-◌, ◌^◌, ◌≤◌, ◌<◌, List, Result, Ok, Err, OnOk, IsErrOf}
 use Rattle.mi_volume.specs.Maps.{Map}
 use Rattle.mi_volume.specs.State.{State, GoesOn, Rose}
 use Rattle.mi_undo.specs.Stands.{StandsFor, outside}
@@ -8,6 +8,8 @@ use Rattle.mi_undo.specs.Area.{Works, CanGoBack}
 use Rattle.mi_undo.specs.declared.kept.Kept.{Kept}
 use Rattle.mi_undo.specs.declared.fault.CommitFault.{CommitFault}
 use Rattle.mi_undo.specs.declared.fault.CommitFault.TheVariants.{Before, Undoable, Unknown}
+use Rattle.mi_undo.specs.declared.fault.UndoError.{UndoError}
+use Rattle.mi_undo.specs.declared.fault.UndoError.TheVariants.{NoMemory, Fault, BadRollback, Full}
 
 -- no name inside the area is held and nothing is dirty, or the volume has failed in between
 abbrev pub IsFreeUnlessRose : State → State → Type 0
@@ -76,3 +78,17 @@ pub record GoesBack {T E : Type 0} (old new : State) (F : Map) (result : Result 
   pub leaves : Each new (StandsFor F)
   pub outside : OnOk result (outside new.held ≡ F)
   pub free : OnOk result (IsFreeUnlessRose old new)
+
+abbrev pub IfBad : {A : Type 0} → Result A UndoError → (List ℕ → Type 0) → Type 0
+IfBad (Ok x) P = Unit {0}
+IfBad (Err NoMemory) P = Unit {0}
+IfBad (Err Fault) P = Unit {0}
+IfBad (Err (BadRollback name)) P = P name
+IfBad (Err (Full name)) P = Unit {0}
+
+abbrev pub IfFull : {A : Type 0} → Result A UndoError → (List ℕ → Type 0) → Type 0
+IfFull (Ok x) P = Unit {0}
+IfFull (Err NoMemory) P = Unit {0}
+IfFull (Err Fault) P = Unit {0}
+IfFull (Err (BadRollback name)) P = Unit {0}
+IfFull (Err (Full name)) P = P name

@@ -46,5 +46,6 @@ pub record Cleared {T E : Type 0} (old new : State) (A : Map) (names : List (Lis
 pub record Clears {T E : Type 0} (old new : State) (A : Map) (result : Result T E) : Type 0 where
   pub goes : GoesOn old new (StandsFor A)
   pub leaves : Each new (StandsFor A)
+  pub stands : StandsFor A new.held
   pub outside : outside new.held ≡ A
   pub ok : OnOk result (IsFree new × (new.held ≡ A))

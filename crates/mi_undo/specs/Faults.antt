@@ -7,6 +7,8 @@ use Rattle.mi_undo.specs.declared.fault.OpFault.{OpFault}
 use Rattle.mi_undo.specs.declared.fault.OpFault.TheVariants as op
 use Rattle.mi_undo.specs.declared.fault.BackFault.{BackFault}
 use Rattle.mi_undo.specs.declared.fault.BackFault.TheVariants as back
+use Rattle.mi_undo.specs.declared.fault.UndoError.{UndoError}
+use Rattle.mi_undo.specs.declared.fault.UndoError.TheVariants as undo
 
 abbrev pub put_fault_of : PutFault → OpFault
 put_fault_of put.NoMemory = op.NoMemory
@@ -21,3 +23,7 @@ abbrev pub back_fault_of : OpFault → BackFault
 back_fault_of op.NoMemory = back.NoMemory
 back_fault_of op.Fault = back.Fault
 back_fault_of op.Full = back.Full
+
+abbrev pub undo_error_of : VolFault → UndoError
+undo_error_of vol.NoMemory = undo.NoMemory
+undo_error_of vol.Failed = undo.Fault

@@ -11,3 +11,6 @@ pub mod Clear
 pub mod Commit
 pub mod Begins
 pub mod Back
+pub mod Reading
+pub mod Sweep
+pub mod Settle

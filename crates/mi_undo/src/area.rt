@@ -290,3 +290,6 @@ impl<'a, V: Volume> Open<'a, V> {
         } = self;
     }
 }
+
+#[cfg(test)]
+mod tests;

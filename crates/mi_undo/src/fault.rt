@@ -2,9 +2,10 @@
 
 ghost use Rattle.std.specs.Prelude.{◌≡◌};
 ghost use Rattle.mi_undo.specs.declared.fault.OpFault.TheVariants as op;
-ghost use Rattle.mi_undo.specs.Faults.{put_fault_of, vol_fault_of, back_fault_of};
+ghost use Rattle.mi_undo.specs.declared.fault.UndoError.TheVariants as undo;
+ghost use Rattle.mi_undo.specs.Faults.{put_fault_of, vol_fault_of, back_fault_of, undo_error_of};
 
-use mi_text::NoMemory;
+use mi_text::{Name, NoMemory};
 use mi_volume::{Failed, PutFault, VolFault};
 use std::alloc::{AllocError, AllocFailed};
 
@@ -38,6 +39,18 @@ pub enum CommitFault {
     /// That failed too, so which of the two stands isn't known: the volume's counts of faults before
     /// the commit write and before the marker was opened again.
     Unknown(u64, u64),
+}
+
+/// Why a volume wasn't settled.
+#[derive(Debug, Drop)]
+pub enum UndoError {
+    NoMemory,
+    /// The volume has failed.
+    Fault,
+    /// This entry is read, and is absent or not spelled.
+    BadRollback(Name),
+    /// There is no room for the old bytes of this name.
+    Full(Name),
 }
 
 impl From<NoMemory> for OpFault {
@@ -103,6 +116,33 @@ impl From<OpFault> for BackFault {
             OpFault::NoMemory => BackFault::NoMemory,
             OpFault::Fault => BackFault::Fault,
             OpFault::Full => BackFault::Full,
+        }
+    }
+}
+
+impl From<NoMemory> for UndoError {
+    ghost from_gives = { λ _ e. e ≡ undo.NoMemory };
+
+    fn from(_e: NoMemory) -> UndoError {
+        UndoError::NoMemory
+    }
+}
+
+impl From<Failed> for UndoError {
+    ghost from_gives = { λ _ e. e ≡ undo.Fault };
+
+    fn from(_e: Failed) -> UndoError {
+        UndoError::Fault
+    }
+}
+
+impl From<VolFault> for UndoError {
+    ghost from_gives = { λ fault e. e ≡ undo_error_of fault };
+
+    fn from(fault: VolFault) -> UndoError {
+        match fault {
+            VolFault::NoMemory => UndoError::NoMemory,
+            VolFault::Failed => UndoError::Fault,
         }
     }
 }

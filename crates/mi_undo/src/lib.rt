@@ -6,13 +6,28 @@ mod area;
 mod back;
 mod clear;
 mod close;
+mod decode;
 mod entry;
 mod fault;
 mod kept;
+mod laws;
 mod names;
 mod note;
+mod read;
+mod settling;
 mod steps;
+mod sweep;
+mod unread;
 
 pub use area::{Open, Refused, begin};
-pub use fault::{BackFault, CommitFault, OpFault};
+pub use fault::{BackFault, CommitFault, OpFault, UndoError};
 pub use kept::{Kept, Place, Progress, Span};
+pub use laws::{
+    a_shut_area_changes_nothing, an_unread_entry_changes_nothing,
+    entries_behind_open_gates_are_read, noted_names_are_restored, spelled_notes_are_read,
+    the_first_old_bytes_stay,
+};
+pub use settling::settle;
+
+#[cfg(test)]
+mod tests;

@@ -1,11 +1,14 @@
 //! The names of the area.
 
-ghost use Rattle.std.specs.Prelude.{◌≡◌, ◌∷◌, [], IfOk};
-ghost use Rattle.mi_undo.specs.Names.{marker, digits, gate_name, entry_name};
+ghost use Rattle.std.specs.Prelude.{◌≡◌, ◌<◌, ◌∷◌, [], IfOk, IfSome, IsTrue};
+ghost use Rattle.mi_undo.specs.Names.{marker, digits, gate_name, entry_name, is_inside, most_entries};
 
 use mi_text::{Name, NoMemory};
 use std::alloc::Global;
 use std::str;
+
+/// How many entries there are at most.
+pub(crate) const MOST_ENTRIES: u32 = 100_000_000;
 
 /// The name of these bytes, which are ASCII.
 fn name_of(alloc: Global, bytes: &[u8]) -> Result<Name, NoMemory>
@@ -25,6 +28,18 @@ pub(crate) fn marker_of(alloc: Global) -> Result<Name, NoMemory>
     ensures { IfOk result (λ n. n ≡ marker) }
 {
     name_of(alloc, b"j/m")
+}
+
+/// The name of which all others inside the area are longer.
+pub(crate) fn top_of(alloc: Global) -> Result<Name, NoMemory>
+    ensures { IfOk result (λ n. n ≡ 106 ∷ 47 ∷ []) }
+{
+    name_of(alloc, b"j/")
+}
+
+/// The name that stands before all names of entries.
+pub(crate) fn entries_of(alloc: Global) -> Result<Name, NoMemory> {
+    name_of(alloc, b"j/e/")
 }
 
 /// The name that has this letter and the number as eight decimal digits.
@@ -66,4 +81,44 @@ pub(crate) fn gate_of(alloc: Global, number: u32) -> Result<Name, NoMemory>
     ensures { IfOk result (λ n. n ≡ gate_name number) }
 {
     name_of(alloc, &numbered(b'g', number))
+}
+
+/// Whether a name begins with `j/`.
+pub(crate) fn is_within(name: &Name) -> bool
+    ensures { result ≡ is_inside name.now }
+{
+    matches!(name.as_bytes(), [b'j', b'/', ..])
+}
+
+/// The number that these digits spell, below 100,000,000.
+fn number_of(digits: &[u8]) -> Option<u32>
+    ensures { IfSome result (λ k. k < 100000000) }
+{
+    let mut number: u32 = 0;
+    for digit in digits {
+        if !digit.is_ascii_digit() {
+            return None;
+        }
+        number = number
+            .checked_mul(10)?
+            .checked_add(u32::from(*digit - b'0'))?;
+    }
+    if number < MOST_ENTRIES {
+        Some(number)
+    } else {
+        None
+    }
+}
+
+/// The number of the entry of this name, if it is one's.
+pub(crate) fn entry_number(name: &Name) -> Option<u32>
+    ensures { IfSome result (λ k. (k < most_entries) × (name.now ≡ entry_name k)) }
+{
+    let bytes = name.as_bytes();
+    let number = number_of(bytes.strip_prefix(b"j/e/")?)?;
+    if bytes == numbered(b'e', number).as_slice() {
+        Some(number)
+    } else {
+        None
+    }
 }

@@ -134,19 +134,14 @@ pub if_absent : (k : Kept) (name : Name) (now : Option (List ℕ)) → get k.hel
 if_absent k name now none = ap (λ o. cond (is_some o) (changed k name now) k) none
 
 pub cleaned_view : (h : List (Name × List ℕ)) (es new : List (Name × Before)) → Cleans h es new → kept_of h new ≡ cleaned (kept_of h es)
-cleaned_view h es new cleans = same_kept _ _ refl (same _ _ (λ q. get-before_of (map_of h) new q ∙ ap (shown (map_of h) q) (cleans q) ∙ none (is_some (at_name h q)) (at_name es q) q ∙ sym (get-empty _ q)))
+cleaned_view h es new cleans = same_kept _ _ refl (same _ _ (λ q. get-before_of (map_of h) new q ∙ none q (at_name new q) (cleans.clean q) ∙ sym (get-empty _ q)))
   where
-    none : (b : Bool) (o : Option Before) (q : Name) → shown (map_of h) q (cond b (option_map (λ _. Clean) o) None) ≡ None
-    none true None q = refl
-    none true (Some x) q = refl
-    none false o q = refl
+    none : (q : Name) (o : Option Before) → ((b : Before) → o ≡ Some b → b ≡ Clean) → shown (map_of h) q o ≡ None
+    none q None clean = refl
+    none q (Some b) clean = ap (λ x. was x (get (map_of h) q)) (clean b refl)
 
 pub cleaned_slots : (h : List (Name × List ℕ)) (es new : List (Name × Before)) → HaveSlots h es → Cleans h es new → HaveSlots h new
-cleaned_slots h es new have cleans q held = ap is_some (cleans q ∙ ap (λ b. cond b (option_map (λ _. Clean) (at_name es q)) None) held) ∙ mapped (at_name es q) (have q held)
-  where
-    mapped : (o : Option Before) → is_some o ≡ true → is_some (option_map (λ _. Clean) o) ≡ true
-    mapped None none = none
-    mapped (Some b) some = some
+cleaned_slots h es new have cleans q held = cleans.kept q held (have q held)
 
 pub always_err : {T E P : Type 0} → (r : Result T E) → P → OnErr r P
 always_err (Ok x) p = tt

@@ -1,5 +1,5 @@
 -- The order of the names that `next` answers.
-use Rattle.std.proofs.Common.{◌≡◌, ◌≤◌, ◌⊎◌, inl, inr, ⊎_elim, Bool, true, false, cond, List, [], ◌∷◌, length, Option, Some, None, refl, sym, ap, ◌∙◌, arith}
+use Rattle.std.proofs.Common.{◌≡◌, ◌≤◌, ◌⊎◌, inl, inr, ⊎_elim, Bool, true, false, cond, List, [], ◌∷◌, length, Option, Some, None, refl, sym, ap, ◌∙◌}
 use Rattle.std.specs.Prelude.{find, is_some}
 use Rattle.std.specs.Ordering.{is_gt, ordering_reverse}
 use Rattle.std.specs.declared.cmp.Ordering.{Ordering}
@@ -32,10 +32,9 @@ above_behind : (after : Option Name) (k : Name) → is_behind after k ≡ true �
 above_behind None k behind = tt
 above_behind (Some after) k behind = above_greater after k behind
 
-behind_above : (after : Option Name) (k : Name) → 1 ≤ length k → IsAbove after k → is_behind after k ≡ true
-behind_above None [] long above = absurd (omega arith)
-behind_above None (x ∷ k) long above = refl
-behind_above (Some after) k long above = ap is_gt (names_total.antisymm k after ∙ ap ordering_reverse above)
+behind_above : (after : Option Name) (k : Name) → IsAbove after k → is_behind after k ≡ true
+behind_above None k above = refl
+behind_above (Some after) k above = ap is_gt (names_total.antisymm k after ∙ ap ordering_reverse above)
 
 -- the next name stands above the last one
 pub next-above : {X : Type 0} → (m : names.Map X) (after : Option Name) (k : Name) → next_name m after ≡ Some k → IsAbove after k
@@ -48,7 +47,7 @@ next-is_held m after k next = next-held m after k next
 -- a held name above the last one is the next one or stands above it
 pub next-least : {X : Type 0} → (m : names.Map X) (after : Option Name) (k q : Name) (x : X) → next_name m after ≡ Some k → get m q ≡ Some x → 1 ≤ length q → IsAbove after q → (q ≡ k) ⊎ IsAbove (Some k) q
 next-least m after k q x next at long above =
-    ⊎_elim (λ same. inl (from_same q k same)) (λ greater. inr (above_greater k q greater)) (next-first m after k q x next at (behind_above after q long above))
+    ⊎_elim (λ same. inl (from_same q k same)) (λ greater. inr (above_greater k q greater)) (next-first m after k q x next at (behind_above after q above))
 
 -- where there is no next name, none is held above the last one
 pub next-last : {X : Type 0} → (m : names.Map X) (after : Option Name) (q : Name) → next_name m after ≡ None → 1 ≤ length q → IsAbove after q → get m q ≡ None
@@ -56,4 +55,4 @@ next-last {X} m after q next long above = by_held (get m q) refl
   where
     by_held : (o : Option X) → get m q ≡ o → o ≡ None
     by_held None at = refl
-    by_held (Some x) at = let clash : false ≡ true = sym (next-none m after q x next at) ∙ behind_above after q long above in cc
+    by_held (Some x) at = let clash : false ≡ true = sym (next-none m after q x next at) ∙ behind_above after q above in cc

@@ -1,5 +1,5 @@
 -- The order of the names in a tree and in its map.
-use Rattle.std.proofs.Common.{◌≡◌, ℕ, ◌≤◌, Bool, true, false, cond, ◌&&◌, T, List, [], ◌∷◌, map, length, Option, Some, None, refl, sym, ap, subst, ◌∙◌, arith}
+use Rattle.std.proofs.Common.{◌≡◌, ℕ, Bool, true, false, cond, ◌&&◌, T, List, [], ◌∷◌, map, Option, Some, None, refl, sym, ap, subst, ◌∙◌}
 use Rattle.std.specs.Prelude.{filter, find}
 use Rattle.std.specs.List.{AllByRecursion}
 use Rattle.std.specs.List.Sorted.{IsStrictlySortedBy}
@@ -62,9 +62,8 @@ pub next_in_range : {X : Type 0} → (es range : List (Name × X)) (after : Name
 next_in_range es range after sorted is =
     ap (find (is_behind (Some after))) (keys-map_of es sorted) ∙ find-filter (is_behind (Some after)) (λ n. is_lt (name_cmp after n) && true) (behind after) es ∙ ap first_key (sym is)
 
-pub next_first : {X : Type 0} → (es : List (Name × X)) (k : Name) (ks : List Name) → IsStrictlySortedBy name_cmp (keys_of es) → keys_of es ≡ k ∷ ks → 1 ≤ length k → next_name (map_of es) None ≡ Some k
-next_first es [] ks sorted is long = absurd (omega arith)
-next_first es (x ∷ k) ks sorted is long = ap (find (is_behind None)) (keys-map_of es sorted ∙ is)
+pub next_first : {X : Type 0} → (es : List (Name × X)) (k : Name) (ks : List Name) → IsStrictlySortedBy name_cmp (keys_of es) → keys_of es ≡ k ∷ ks → next_name (map_of es) None ≡ Some k
+next_first es k ks sorted is = ap (find (is_behind None)) (keys-map_of es sorted ∙ is)
 
 pub next_nothing : {X : Type 0} → (es : List (Name × X)) → IsStrictlySortedBy name_cmp (keys_of es) → keys_of es ≡ [] → next_name (map_of es) None ≡ None
 next_nothing es sorted is = ap (find (is_behind None)) (keys-map_of es sorted ∙ is)

@@ -1,5 +1,5 @@
 -- How slots show what a volume in memory keeps.
-use Rattle.std.specs.Prelude.{◌≡◌, ℕ, Bool, true, false, List, [], ◌∷◌, Option, None, Some, is_some, option_map, if◌then◌else◌}
+use Rattle.std.specs.Prelude.{◌≡◌, ℕ, ◌≤◌, ◌==◌, Bool, true, false, List, [], ◌∷◌, Option, None, Some, is_some, if◌then◌else◌}
 use Rattle.std.specs.Option.{option_map_or}
 use Rattle.std.specs.FinMap.{get, empty, from_entries}
 use Rattle.std.specs.Map.{lookup}
@@ -10,6 +10,7 @@ use Rattle.mi_volume.specs.Maps.{Map}
 use Rattle.mi_volume.specs.Kept.{Kept, chosen}
 use Rattle.mi_volume.specs.declared.choice.Choice.{Choice}
 use Rattle.mi_volume.specs.declared.before.Before.{Before}
+use Rattle.mi_volume.specs.declared.before.Slot.{Slot}
 use Rattle.mi_volume.specs.declared.before.Before.TheVariants.{Clean, Same, Absent, OneByte, Held}
 
 -- what a name held at the last good sync, if it is dirty
@@ -32,6 +33,23 @@ at_name es name = lookup (is_at (name_cmp name)) es
 abbrev pub before_of : Map → List (Name × Before) → names.Map (Option (List ℕ))
 before_of held [] = empty
 before_of held (e ∷ es) = set_to (before_of held es) e.0 (was e.1 (get held e.0))
+
+-- what a slot notes once so many good syncs were made: nothing, where it was written before the last one
+abbrev pub now_of : ℕ → Slot → Before
+now_of syncs slot = if slot.syncs == syncs then slot.note else Clean
+
+-- a slot that notes nothing
+abbrev pub clean_slot : Slot
+clean_slot = record { note = Clean; syncs = 0 }
+
+-- the slots with what they note then
+abbrev pub notes_at : ℕ → List (Name × Slot) → List (Name × Before)
+notes_at syncs [] = []
+notes_at syncs (s ∷ ss) = (s.0, now_of syncs s.1) ∷ notes_at syncs ss
+
+-- no slot was written later
+abbrev pub AreWritten : ℕ → List (Name × Slot) → Type 0
+AreWritten syncs slots = (q : Name) (s : Slot) → at_name slots q ≡ Some s → s.syncs ≤ syncs
 
 -- what the two trees show
 abbrev pub kept_of : List (Name × List ℕ) → List (Name × Before) → Kept
@@ -66,9 +84,10 @@ abbrev pub saved_as : Option (List ℕ) → Before
 saved_as None = Absent
 saved_as (Some bytes) = Held bytes
 
--- after a good sync the slots are those of the held names, and clean
-abbrev pub Cleans : List (Name × List ℕ) → List (Name × Before) → List (Name × Before) → Type 0
-Cleans held old new = (q : Name) → at_name new q ≡ (if is_some (at_name held q) then option_map (λ _. Clean) (at_name old q) else None)
+-- after a good sync the slots are clean, and held names keep theirs
+pub record Cleans (held : List (Name × List ℕ)) (old new : List (Name × Before)) : Type 0 where
+  pub clean : (q : Name) (b : Before) → at_name new q ≡ Some b → b ≡ Clean
+  pub kept : (q : Name) → is_some (at_name held q) ≡ true → is_some (at_name old q) ≡ true → is_some (at_name new q) ≡ true
 
 -- what a crash leaves at a name, by its slot
 abbrev pub left_by : Choice → Option (List ℕ) → Before → Option (List ℕ)

@@ -40,10 +40,7 @@ fn first_name(held: &BTreeMap<Name, Bytes>) -> Option<&Name>
     ensures { option_copied result ≡ next_name (map_of held.now.entries) None }
 {
     match held.keys().next() {
-        Some(name) => {
-            let _bytes = name.as_bytes();
-            Some(name)
-        }
+        Some(name) => Some(name),
         None => None,
     }
 }

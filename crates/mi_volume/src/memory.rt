@@ -11,6 +11,7 @@ ghost use Rattle.mi_volume.specs.Memory.{state_of, opened, reopened, fails_now, 
 
 use crate::call::{Call, CallKind};
 use crate::choice::{Choice, first_half};
+use crate::failing::Failing;
 use crate::fails::Fails;
 use crate::room::{length_after, room_for, slot_size};
 use crate::slots::Slots;
@@ -25,7 +26,7 @@ pub struct MemVolume {
     slots: Slots,
     capacity: Option<u64>,
     used: u64,
-    fails: Fails,
+    fails: Failing,
     number: u64,
     faults: u64,
     calls: Vec<Call>,
@@ -40,7 +41,7 @@ impl Model for MemVolume {
 
     ghost coded = { Prim.hlevel (codes, kept_code) };
 
-    ghost view = { λ m. record { kept = m.slots; capacity = m.capacity; listed = m.fails.list.items; from = m.fails.from; number = m.number; faults = m.faults; calls = m.calls.items } };
+    ghost view = { λ m. record { kept = m.slots; capacity = m.capacity; listed = m.fails.fails.list.items; from = m.fails.fails.from; number = m.number; faults = m.faults; calls = m.calls.items } };
 
     ghost invariant = { λ m. HasRoom m.slots m.capacity m.used };
 }
@@ -57,7 +58,7 @@ impl MemVolume {
             slots: Slots::new(alloc),
             capacity,
             used: 0,
-            fails,
+            fails: Failing::new(alloc, fails)?,
             number: 0,
             faults: 0,
             calls: Vec::new(alloc),
@@ -76,16 +77,17 @@ impl MemVolume {
         ensures image { IfOk result (λ image. image ≡ reopened choice self.now) }
         ensures possible { IfOk result (λ image. Images (state_of self.now) image.kept.held) }
     {
+        let none = Fails {
+            list: Vec::new(alloc),
+            from: None,
+        };
         let slots = self.slots.image(alloc, choice)?;
         let used = slots.size();
         Ok(MemVolume {
             slots,
             capacity: self.capacity,
             used,
-            fails: Fails {
-                list: Vec::new(alloc),
-                from: None,
-            },
+            fails: Failing::new(alloc, none)?,
             number: 0,
             faults: 0,
             calls: Vec::new(alloc),

@@ -4,6 +4,7 @@ ghost use Rattle.std.specs.Prelude.{◌≡◌, ◌↔◌, IsTrue, ◌-◌, ◌^�
 ghost use Rattle.std.specs.Result.{is_err};
 ghost use Rattle.std.specs.Option.{option_copied, option_map};
 ghost use Rattle.std.specs.FinMap.{get};
+ghost use Rattle.mi_text.specs.Bytes.{AreBytes};
 ghost use Rattle.mi_text.specs.Next.{next_name};
 ghost use Rattle.mi_volume.specs.Maps.{size, bytes_or_none, IsAbove, HoldsByte};
 ghost use Rattle.mi_volume.specs.State.{Images, ImagesOf, GoesOn, Stays, StaysDirty, Rose};
@@ -45,6 +46,7 @@ impl Volume for MemVolume {
 
     fn size(&mut self, name: &Name) -> Result<Option<u64>, Failed>
         ensures value { IfOk result (λ n. n ≡ option_map length (get self.old.kept.held name.now)) }
+        ensures bytes { IfOk result (λ n. AreBytes (bytes_or_none (get self.old.kept.held name.now))) }
         ensures stays { Stays (state_of self.old) (state_of self.new) }
         ensures still { StaysDirty (state_of self.old) (state_of self.new) }
         ensures moments { GoesOn (state_of self.old) (state_of self.new) (Images (state_of self.old)) }
@@ -55,7 +57,10 @@ impl Volume for MemVolume {
         if self.look() {
             return Err(Failed);
         }
-        Ok(self.size_of(name))
+        match self.bytes_of(name) {
+            None => Ok(None),
+            Some(bytes) => Ok(Some(length_of(bytes.as_slice()))),
+        }
     }
 
     fn read(&mut self, alloc: Global, name: &Name, at: u64, want: usize) -> Result<Bytes, VolFault>
@@ -166,4 +171,12 @@ fn part(bytes: &[u8], at: u64, want: usize) -> &[u8]
     let from = at.min(bytes.len() as u64) as usize;
     let rest = &bytes[from..];
     &rest[..want.min(rest.len())]
+}
+
+/// The number of bytes.
+fn length_of(bytes: &[u8]) -> u64
+    ensures length { result ≡ length bytes.now }
+    ensures bytes { AreBytes bytes.now }
+{
+    bytes.len() as u64
 }

@@ -7,10 +7,11 @@ ghost use Rattle.mi_text.specs.Next.{next_name};
 ghost use Rattle.mi_volume.specs.Maps.{HoldsByte, bytes_or_none, size};
 ghost use Rattle.mi_volume.specs.Kept.{nothing_kept, changed, changed_if_held, cleaned, imaged, with_clean};
 
-use crate::before::{Before, add_slot, clean, is_noted, note};
+use crate::before::Before;
 use crate::call::CallKind;
 use crate::choice::{Choice, left};
 use crate::held::{extend_held, first_above, mark_held, size_of_all};
+use crate::notes::Notes;
 use mi_text::{Bytes, Name, NoMemory};
 use std::alloc::Global;
 use std::collections::BTreeMap;
@@ -20,7 +21,7 @@ use std::marker::Model;
 #[derive(Drop)]
 pub struct Slots {
     held: BTreeMap<Name, Bytes>,
-    before: BTreeMap<Name, Before>,
+    before: Notes,
     alloc: Global,
 }
 
@@ -32,10 +33,11 @@ impl Model for Slots {
     ghost coded = { kept_code };
 
     ghost use Rattle.mi_volume.specs.Slots.{kept_of, HaveSlots};
+    ghost use Rattle.mi_volume.specs.Notes.{notes_of};
 
-    ghost view = { λ s. kept_of s.held.entries s.before.entries };
+    ghost view = { λ s. kept_of s.held.entries (notes_of s.before) };
 
-    ghost invariant = { λ s. HaveSlots s.held.entries s.before.entries };
+    ghost invariant = { λ s. HaveSlots s.held.entries (notes_of s.before) };
 }
 
 impl Slots {
@@ -47,7 +49,7 @@ impl Slots {
     {
         Slots {
             held: BTreeMap::new(alloc),
-            before: BTreeMap::new(alloc),
+            before: Notes::new(alloc),
             alloc,
         }
     }
@@ -81,9 +83,9 @@ impl Slots {
         ensures ok { OnOk result (self.new ≡ changed self.old name.now (Some bytes)) }
         ensures err { OnErr result (self.new ≡ self.old) }
     {
-        add_slot(&mut self.before, alloc, name)?;
+        self.before.add(alloc, name)?;
         let held = self.held.insert(name.copy(alloc)?, bytes)?;
-        note(&mut self.before, name, Before::saved(held));
+        self.before.note(name, Before::saved(held));
         Ok(())
     }
 
@@ -95,12 +97,12 @@ impl Slots {
         let Some(held) = self.held.get(name) else {
             return self.give(alloc, name, Bytes::copy_of(alloc, bytes)?);
         };
-        if is_noted(&self.before, name) {
+        if self.before.is_noted(name) {
             return extend_held(&mut self.held, name, bytes);
         }
         let saved = Bytes::copy_of(alloc, held.as_slice())?;
         extend_held(&mut self.held, name, bytes)?;
-        note(&mut self.before, name, Before::Held(saved));
+        self.before.note(name, Before::Held(saved));
         Ok(())
     }
 
@@ -134,7 +136,7 @@ impl Slots {
         ensures { self.new ≡ changed self.old name.now (Some (byte ∷ [])) }
     {
         let held = mark_held(&mut self.held, self.alloc, name, byte);
-        note(&mut self.before, name, Before::OneByte(held));
+        self.before.note(name, Before::OneByte(held));
     }
 
     /// Takes the name away, if it is held, which takes no memory.
@@ -142,7 +144,7 @@ impl Slots {
         ensures { self.new ≡ changed_if_held self.old name.now None }
     {
         if let Some(bytes) = self.held.remove(name) {
-            note(&mut self.before, name, Before::Held(bytes));
+            self.before.note(name, Before::Held(bytes));
         }
     }
 
@@ -151,7 +153,7 @@ impl Slots {
         ensures { self.new ≡ changed_if_held self.old name.now (get self.old.held name.now) }
     {
         if self.held.contains_key(name) {
-            note(&mut self.before, name, Before::Same);
+            self.before.note(name, Before::Same);
         }
     }
 
@@ -162,7 +164,7 @@ impl Slots {
         let Some(bytes) = bytes else {
             return Ok(());
         };
-        self.before.insert(name.copy(alloc)?, Before::Clean)?;
+        self.before.set_clean(alloc, name)?;
         self.held.insert(name.copy(alloc)?, bytes)?;
         Ok(())
     }
@@ -172,8 +174,8 @@ impl Slots {
         ensures { IfOk result (λ image. image ≡ imaged choice self.now) }
     {
         let mut image = Slots::new(alloc);
-        for (name, slot) in &self.before {
-            let left = left(alloc, choice, self.held.get(name), slot)?;
+        for (name, slot) in &self.before.slots {
+            let left = left(alloc, choice, self.held.get(name), slot, self.before.syncs)?;
             image.keep(alloc, name, left)?;
         }
         Ok(image)
@@ -183,6 +185,6 @@ impl Slots {
     pub fn sync(&mut self)
         ensures { self.new ≡ cleaned self.old }
     {
-        clean(&mut self.before, &self.held);
+        self.before.clean(&self.held);
     }
 }

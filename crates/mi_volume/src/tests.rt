@@ -170,6 +170,16 @@ fn each_call_leaves_these_images(rt: HostRuntime) -> Result<(), Fail> {
             "......",
             ["a=ab ", "a=xy ", "a=x ", ""],
         ),
+        (
+            "put a ab, sync, put a c, sync, append a de",
+            ".....",
+            ["a=c ", "a=cde ", "a=c ", ""],
+        ),
+        (
+            "put a 1, put b 2, put c 3, sync, remove a, remove b, remove c, sync, put d 4, put a 5",
+            "..........",
+            ["", "a=5 d=4 ", "a= d= ", ""],
+        ),
     ] {
         check(&rt, rt.alloc(), None, script, answers, images)?;
     }

@@ -2,6 +2,7 @@
 ghost use Rattle.std.specs.Prelude.{◌≡◌, ◌-◌, ◌^◌, ◌<◌, ◌≤◌, ◌++◌, List, ℕ, length, take, drop, IfOk, OnErr, IfSome, IsSome, IsErrOf};
 ghost use Rattle.std.specs.Option.{option_copied, option_map};
 ghost use Rattle.std.specs.FinMap.{get};
+ghost use Rattle.mi_text.specs.Bytes.{AreBytes};
 ghost use Rattle.mi_text.specs.Next.{next_name};
 ghost use Rattle.mi_volume.specs.Maps.{Map, size, bytes_or_none, IsAbove, HoldsByte};
 ghost use Rattle.mi_volume.specs.State.{State, Images, ImagesOf, GoesOn, Stays, StaysDirty, Rose};
@@ -83,9 +84,10 @@ pub trait Volume {
         ensures moments { GoesOn (state self.old) (state self.new) (Images (state self.old)) }
         ensures failed { IsErrOf result VolFault.Failed → Rose (state self.old) (state self.new) };
 
-    /// The length of the name's bytes, or None where it isn't held.
+    /// The length of the name's bytes, or None where it isn't held. What a name holds are bytes.
     fn size(&mut self, name: &Name) -> Result<Option<u64>, Failed>
         ensures value { told → IfOk result (λ n. n ≡ option_map length (get (state self.old).held name.now)) }
+        ensures bytes { told → IfOk result (λ n. AreBytes (bytes_or_none (get (state self.old).held name.now))) }
         ensures stays { told → Stays (state self.old) (state self.new) }
         ensures still { told → StaysDirty (state self.old) (state self.new) }
         ensures moments { GoesOn (state self.old) (state self.new) (Images (state self.old)) }

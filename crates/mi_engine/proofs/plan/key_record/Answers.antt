@@ -1,4 +1,4 @@
-use Rattle.std.proofs.Common.{◌≡◌, true, false, Err, List, ℕ, sym, ap, ◌∙◌}
+use Rattle.std.proofs.Common.{◌≡◌, true, false, Err, sym, ap, ◌∙◌}
 use Rattle.mi_base.specs.Limits.{fits, is_key}
 use Rattle.mi_base.specs.declared.entry.Entry.TheVariants.{Key}
 use Rattle.mi_engine.proofs.EntryLemmas.{key_fits}

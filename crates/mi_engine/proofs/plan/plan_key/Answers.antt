@@ -1,10 +1,10 @@
-use Rattle.std.proofs.Common.{◌≡◌, ◌∷◌, [], true, None, Some, List, ℕ, Option, ap, sym, subst, ◌∙◌, refl}
-use Rattle.std.specs.Prelude.{filter, is_some, option_map, length}
+use Rattle.std.proofs.Common.{◌≡◌, ◌∷◌, [], true, Some, List, ℕ, ap, sym, subst, ◌∙◌}
+use Rattle.std.specs.Prelude.{filter, is_some}
 use Rattle.std.specs.FinMap.{get}
-use Rattle.mi_text.specs.Maps.{Name, Map}
+use Rattle.mi_text.specs.Maps.{Name}
 use Rattle.mi_engine.specs.After.{is_new, key_entry}
 use Rattle.mi_engine.specs.Calls.{map_of, Adds}
-use Rattle.mi_engine.proofs.PlanLemmas.{adds_present, adds_new, no_length, unplanned}
+use Rattle.mi_engine.proofs.PlanLemmas.{adds_present, adds_new, no_length, unplanned, insert_outside, key_outside}
 use Rattle.mi_engine.proofs.TreeLemmas.{stored, get-map_of}
 use Rattle.mi_engine.proofs.plan.plan_key.Goals as goal
 
@@ -21,3 +21,8 @@ returns-in_ok-insert-in-Ok-None-clause-adds g c = λ told.
     subst (λ (e : Name × List ℕ). Adds (filter (is_new (g.V.Volume.state c.args.vol.now).held) (e ∷ [])) (map_of c.args.plan.now.entries) (map_of c.insert.new.self.entries)) c.in_ok-name.ensures.record
     (adds_new (map_of c.args.plan.now.entries) (map_of c.insert.new.self.entries) (g.V.Volume.state c.args.vol.now).held (c.in_ok-name.name, c.in_ok-name.record) new unheld
     (stored c.args.plan.now c.insert.new.self c.in_ok-name.name (Some c.in_ok-name.record) c.in_ok-insert-in-Ok-None.ensures.updates))
+
+pub returns-in_ok-insert-in-Ok-None-clause-outside : goal.returns-in_ok-insert-in-Ok-None-clause-outside
+returns-in_ok-insert-in-Ok-None-clause-outside g c = λ none.
+    insert_outside (map_of c.args.plan.now.entries) (map_of c.insert.new.self.entries) c.in_ok-name.name c.in_ok-name.record (key_entry c.args.key.now)
+    (stored c.args.plan.now c.insert.new.self c.in_ok-name.name (Some c.in_ok-name.record) c.in_ok-insert-in-Ok-None.ensures.updates) c.in_ok-name.ensures.record (key_outside c.args.key.now) none

@@ -1,4 +1,4 @@
-use Rattle.std.proofs.Common.{◌≡◌, take}
+use Rattle.std.proofs.Common.{take}
 use Rattle.mi_engine.specs.Calls.{map_of}
 use Rattle.mi_engine.proofs.PlanLemmas.{PlansRows}
 use Rattle.mi_engine.proofs.plan.plan_rows.Given as goal

@@ -1,4 +1,4 @@
-use Rattle.std.proofs.Common.{◌≡◌, true, false, Err, List, ℕ, sym, ap, subst, ◌∙◌}
+use Rattle.std.proofs.Common.{◌≡◌, true, false, Err, List, ℕ, sym, ap, ◌∙◌}
 use Rattle.mi_text.specs.Fold.{folded}
 use Rattle.mi_base.specs.Limits.{fits}
 use Rattle.mi_base.specs.declared.entry.Entry.TheVariants.{Value}

@@ -11,7 +11,7 @@ use Rattle.mi_format.specs.Marks.{state_of}
 use Rattle.mi_format.specs.Expansion.{IsExpansion}
 use Rattle.mi_format.proofs.PartLemmas.{expanded}
 use Rattle.mi_format.proofs.Depth.{depth}
-use Rattle.mi_format.proofs.Grammar.{is_expansion}
+use Rattle.mi_format.proofs.Grammar.{is_expansion, only_expansion}
 use Rattle.mi_format.proofs.expansion.expand.Goals as goal
 
 -- the fault that a `?` hands on
@@ -41,6 +41,9 @@ pub returns-clause-groups : goal.returns-clause-groups
 returns-clause-groups g c =
     let L = g.E.Env.lookups c.args.env.now in
     subst (λ (x : List ℕ). IsExpansion L c.args.text.now x) (sym (returns-clause-value g c)) (is_expansion L c.args.text.now)
+
+pub returns-clause-only : goal.returns-clause-only
+returns-clause-only g c = λ x e. only_expansion (g.E.Env.lookups c.args.env.now) c.args.text.now x e ∙ sym (returns-clause-value g c)
 
 pub returns-clause-shallow : goal.returns-clause-shallow
 returns-clause-shallow g c =

@@ -16,7 +16,7 @@ pub returns-in-Ok : goal.returns-in-Ok
 returns-in-Ok c =
     let is = c.as_slice.ensures.value ∙ c.in_ok-parents.ensures in (
       ap (λ (ps : List (Option ℕ)). option_map (λ row. Cycle (target_table c.args.target).name (row + 1)) (endless_row ps)) (sym is)
-      ∙ ap (option_map (λ row. Cycle (target_table c.args.target).name (row + 1))) (none_endless c.as_slice.result.now c.in-Ok.ensures.ends),
+          ∙ ap (option_map (λ row. Cycle (target_table c.args.target).name (row + 1))) (none_endless c.as_slice.result.now c.in-Ok.ensures.ends),
       tt,
     )
 
@@ -30,6 +30,6 @@ returns-in-Err-Fault-Cycle c =
     let below : cycle.0 < length c.as_slice.result.now = cycle.2.is_row in
     let number : row_number cycle.0 ≡ cycle.0 + 1 = omega (arith, below, long, c.args.rows.now.few, c.args.rows.now.rows.ok) in
     refused_at ⊥ c.endless.result _ _ c.endless.ensures (
-      ap (λ (ps : List (Option ℕ)). option_map (λ row. Cycle name (row + 1)) (endless_row ps)) (sym is)
-      ∙ ap (option_map (λ row. Cycle name (row + 1))) (first_endless c.as_slice.result.now cycle.0 cycle.2)
-      ∙ ap (λ n. Some (Cycle name n)) (sym (at ∙ number)))
+    ap (λ (ps : List (Option ℕ)). option_map (λ row. Cycle name (row + 1)) (endless_row ps)) (sym is)
+    ∙ ap (option_map (λ row. Cycle name (row + 1))) (first_endless c.as_slice.result.now cycle.0 cycle.2)
+    ∙ ap (λ n. Some (Cycle name n)) (sym (at ∙ number)))

@@ -39,5 +39,5 @@ returns c =
     let content = content_as c.args.content.now in
     subst (λ (f : Option Fault). Answers {X = Unit {0}} ⊥ f (λ _. Unit {0}) c.check_compressed.result)
     (sym (ap (λ (o : Option Fault). o or_else (references_fault content tables content or_else cycles_fault content or_else compressed_fault content)) c.in_ok-check_required.ensures.0
-        ∙ ap (λ (o : Option Fault). o or_else (cycles_fault content or_else compressed_fault content)) c.in_ok-check_references.ensures.0
-        ∙ ap (λ (o : Option Fault). o or_else compressed_fault content) c.in_ok-check_cycles.ensures.0)) c.check_compressed.ensures
+    ∙ ap (λ (o : Option Fault). o or_else (cycles_fault content or_else compressed_fault content)) c.in_ok-check_references.ensures.0
+    ∙ ap (λ (o : Option Fault). o or_else compressed_fault content) c.in_ok-check_cycles.ensures.0)) c.check_compressed.ensures

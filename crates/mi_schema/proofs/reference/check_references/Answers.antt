@@ -27,9 +27,9 @@ returns-in_err-check_rows c =
     let p = err_from_is_err_and c.from_residual.result c.from_residual.ensures.1 in
     rw (p.1, p.2) (passed_on ⊥ ⊥ (λ x. x) _ _
     (λ f some.
-        ap (λ (ts : List Table). references_fault content ts content) (sym c.tables-layout-items.ensures.tables)
-        ∙ tables_refer_not content (map table_as layouts) c.loop-i.i _ (rows_as c.at.result.now) (map_next table_as layouts c.loop-i.i _ c.loop-i-test.true)
-        (content_next c.args.content.now c.loop-i.i (rows_as c.at.result.now) c.at.ensures (omega (arith, many, c.loop-i-test.true))) c.loop-i.invariant f some)
+    ap (λ (ts : List Table). references_fault content ts content) (sym c.tables-layout-items.ensures.tables)
+    ∙ tables_refer_not content (map table_as layouts) c.loop-i.i _ (rows_as c.at.result.now) (map_next table_as layouts c.loop-i.i _ c.loop-i-test.true)
+    (content_next c.args.content.now c.loop-i.i (rows_as c.at.result.now) c.at.ensures (omega (arith, many, c.loop-i-test.true))) c.loop-i.invariant f some)
     c.in_err-check_rows.field-0.0 c.in_err-check_rows.ensures)
 
 pub loop-i-preserved : goal.loop-i-preserved

@@ -15,7 +15,7 @@ pub returns-then-not-refers : goal.returns-then-not-refers
 returns-then-not-refers c =
     refused_at ⊥ c.dangling.result _ _ c.dangling.ensures
     (refers_not (content_as c.args.content.now) c.args.layout.now.name.now c.args.number c.args.row.now c.args.layout.now.columns.now c.loop-i.i _ c.index-row-i.result c.loop-i-test.true c.if-i-row.false c.index-row-i.is c.loop-i.invariant
-        (sym c.refers.ensures ∙ c.if-not-refers.true))
+    (sym c.refers.ensures ∙ c.if-not-refers.true))
 
 pub loop-i-preserved : goal.loop-i-preserved
 loop-i-preserved c =

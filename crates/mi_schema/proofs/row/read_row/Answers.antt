@@ -36,7 +36,7 @@ returns-in-Err c = λ keys before knows seen.
     let fit = fit_at listed cells (row_fits (map column_as listed) c.args.table.now c.requires.spelled c.requires.columns c.args.number (omega (arith, c.requires.in_range, c.args.table.now.rows.ok))) c.loop-i.i _ c.loop-i-test.true in
     refused_as _ _ _
     (λ bad some.
-        fault_here listed cells c.loop-i.i c.loop-i.row.items _ c.loop-i-test.true fit.1 c.args.layout.now.name.now (c.args.number + 1) keys before (c.loop-i.invariant keys before knows seen) c.as_slice.result.now bad c.as_slice.ensures.value some)
+    fault_here listed cells c.loop-i.i c.loop-i.row.items _ c.loop-i-test.true fit.1 c.args.layout.now.name.now (c.args.number + 1) keys before (c.loop-i.invariant keys before knows seen) c.as_slice.result.now bad c.as_slice.ensures.value some)
     c.in-Err.error c.error_at.result c.error_at.ensures (c.in-Err.ensures _ c.in_ok-shown.ensures fit.0 keys before knows seen)
 
 pub loop-i-preserved : goal.loop-i-preserved

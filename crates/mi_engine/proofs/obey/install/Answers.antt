@@ -1,0 +1,26 @@
+use Rattle.std.proofs.Common.{true, subst, sym, ap, List}
+use Rattle.mi_engine.proofs.ServeLemmas.{write_serves, unloaded_serves}
+use Rattle.mi_base.specs.declared.answers.Kind.{Kind}
+use Rattle.mi_engine.specs.Built.{Row}
+use Rattle.mi_engine.specs.After.{after}
+use Rattle.mi_engine.specs.Ends.{Ends}
+use Rattle.mi_engine.specs.Package.{package_of}
+use Rattle.mi_source.specs.Counts.{Rose}
+use Rattle.mi_engine.specs.Replies.{log_in, Replies}
+use Rattle.mi_engine.proofs.obey.install.Goals as goal
+
+pub returns-in-Ok-clause-serves : goal.returns-in-Ok-clause-serves
+returns-in-Ok-clause-serves g c =
+    let s = g.V.Volume.state c.args.vol.now in
+    let u = g.V.Volume.state c.carry_out.new.vol in
+    write_serves g.V.Volume.told g.S.Source.told (g.S.Source.files c.args.src.now) c.args.folder.now c.args.settled (Rose (g.S.Source.faults c.args.src.now) (g.S.Source.faults c.load.new.src))
+    s u (package_of (g.S.Source.files c.args.src.now) c.args.folder.now) c.in-Ok.rows.items c.in-Ok.ensures.loads c.carry_out.ensures.passes.faults
+    c.carry_out.result.kind (log_in c.carry_out.result)
+    (λ told. subst (λ (rows : List Row). Ends s.faults s u s.held (after rows s.held) c.carry_out.result.kind) c.as_slice.ensures.value (c.carry_out.ensures.writes told))
+    c.carry_out.ensures.free c.carry_out.ensures.caused c.carry_out.ensures.kinds c.carry_out.ensures.log
+
+pub returns-in-Err-clause-serves : goal.returns-in-Err-clause-serves
+returns-in-Err-clause-serves g c =
+    unloaded_serves g.V.Volume.told g.S.Source.told (g.S.Source.files c.args.src.now) c.args.folder.now c.args.settled (Rose (g.S.Source.faults c.args.src.now) (g.S.Source.faults c.load.new.src))
+    (g.V.Volume.state c.args.vol.now) (package_of (g.S.Source.files c.args.src.now) c.args.folder.now) c.in-Err.stop c.logged.result
+    c.requires.free c.in-Err.ensures.loads c.in-Err.ensures.stopped (subst (λ (k : Kind). Replies true c.args.settled k c.logged.result) c.unloaded.ensures c.logged.ensures)

@@ -1,0 +1,9 @@
+-- What a read command asks for.
+use Rattle.mi_engine.specs.Words.{Command, Install, Products, Recover}
+use Rattle.mi_engine.specs.declared.words.Command as read
+use Rattle.mi_engine.specs.declared.words.Command.TheVariants as variant
+
+abbrev pub asked : read.Command → Command
+asked (variant.Install folder) = Install folder.now
+asked variant.Products = Products
+asked variant.Recover = Recover

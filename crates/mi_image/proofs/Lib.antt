@@ -1,0 +1,10 @@
+pub mod ItemLemmas
+pub mod ListLemmas
+pub mod LookLemmas
+pub mod LookupLemmas
+pub mod PickLemmas
+pub mod PrefixLemmas
+pub mod RankLemmas
+pub mod ReadLemmas
+pub mod ScanLemmas
+pub mod UnderLemmas

@@ -1,0 +1,265 @@
+-- The lists of an image are those of its machine.
+use Rattle.std.proofs.Common.{◌≡◌, ℕ, ◌+◌, ◌<◌, Bool, true, false, cond, eqb, T, ◌&&◌, ◌||◌, ◌⊎◌, inl, inr, ⊎_elim, List, [], ◌∷◌, ◌++◌, map, drop, Option, Some, None, Result, Ok, Err, IfOk, Vec, Bor, refl, sym, ap, ◌∙◌, append_assoc, arith}
+use Rattle.std.specs.Prelude.{filter, nat_eq, codes, min}
+use Rattle.std.specs.declared.alloc.Global.{Global}
+use Rattle.std.specs.Str.{bytes_eq}
+use Rattle.std.specs.Ordering.{nat_cmp}
+use Rattle.std.specs.Cmp.Lexicographic.{slice_cmp}
+use Rattle.std.specs.BTreeMap.{BTreeMap}
+use Rattle.std.specs.BTreeMap as tree
+use Rattle.std.specs.List.{starts_with, filter_map, cons_option, AllByRecursion}
+use Rattle.std.specs.FinMap as fin
+use Rattle.std.specs.FinMap.{get, entries, is_sorted, get-entries, entries_sorted}
+use Rattle.std.specs.FinMap.Entries.{below_all}
+use Rattle.std.proofs.lemmas.Bool.{eqb-true, ltb-true}
+use Rattle.mi_text.specs.Fold.{folded}
+use Rattle.mi_text.specs.Guid.{guid_text}
+use Rattle.mi_text.specs.Path.{is_folder_path}
+use Rattle.mi_text.specs.Maps.{Name, Map, name_cmp, same_name}
+use Rattle.mi_text.proofs.ByteLemmas.{both}
+use Rattle.mi_text.proofs.MapLemmas.{same_itself, entries-map_values}
+use Rattle.mi_base.specs.declared.entry.Client.{Client}
+use Rattle.mi_base.specs.declared.entry.RegValue.{RegValue}
+use Rattle.mi_base.specs.declared.entry.ValueKey.{ValueKey}
+use Rattle.mi_base.specs.declared.entry.Entry.{Entry}
+use Rattle.mi_base.specs.declared.entry.Entry.TheVariants as entry
+use Rattle.mi_base.specs.Limits.{fits}
+use Rattle.mi_base.specs.Names.{file_name, value_name, client_name, product_name}
+use Rattle.mi_base.specs.Machine.{Machine, as_client, as_product}
+use Rattle.mi_image.specs.declared.item.Item.{Item}
+use Rattle.mi_image.specs.declared.item.Item.TheVariants.{Head, Whole}
+use Rattle.mi_image.specs.Items.{Items, pair_of, items_of, entry_over, machine_over, MayStand, AreRight}
+use Rattle.mi_image.specs.Lists.{picked, products_of, clients_of, clients_with, with_component, file_below, files_under, value_below, values_under}
+use Rattle.mi_image.specs.Picks.{product_in, client_in, client_with, file_in, value_in}
+use Rattle.mi_image.proofs.ItemLemmas.{entries-items}
+use Rattle.mi_image.proofs.LookupLemmas.{by_item}
+use Rattle.mi_image.proofs.PrefixLemmas.{starts_append}
+use Rattle.mi_image.proofs.ScanLemmas.{head_first, apart}
+
+true_of : (b : Bool) → T b → b ≡ true
+true_of true t = refl
+true_of false t = absurd t
+
+-- what holds of what is found in a sorted list holds of each entry
+each_found : {X : Type 0} → (P : Name → X → Type 0) (es : List (Name × X)) → is_sorted name_cmp es ≡ true → ((q : Name) (x : X) → fin.find name_cmp q es ≡ Some x → P q x) → AllByRecursion (λ e. P e.0 e.1) es
+each_found P [] sorted h = tt
+each_found P (e ∷ es) sorted h =
+    let parts = both (below_all name_cmp e.0 es) (is_sorted name_cmp es) sorted in (
+      h e.0 e.1 (ap (λ (b : Bool). cond b (Some e.1) (fin.find name_cmp e.0 es)) (same_itself e.0)),
+      each_found P es parts.1 (λ q x at. h q x (ap (λ (b : Bool). cond b (Some e.1) (fin.find name_cmp q es)) (apart e.0 q (head_first e.0 q es x parts.0 at)) ∙ at)),
+    )
+
+each_right : (items : Items) → AreRight items → AllByRecursion (λ e. MayStand e.0 e.1) (entries items)
+each_right items right = each_found MayStand (entries items) (true_of _ (entries_sorted items)) (λ q i at. right q i (get-entries items q ∙ at))
+
+-- one entry by one: those that pass the test give what is picked of them, and the others nothing
+listed : {Y : Type 0} → (p : Name × Item → Bool) (of_item : Item → Option Y) (pick : Entry → Option Y) (over : Item → Entry) (es : List (Name × Item)) → AllByRecursion (λ e. cond (p e) (of_item e.1) None ≡ pick (over e.1)) es
+    → filter_map of_item (map (λ (e : Name × Item). e.1) (filter p es)) ≡ filter_map (λ (e : Name × Entry). pick e.1) (map (λ (e : Name × Item). (e.0, over e.1)) es)
+listed p of_item pick over [] h = refl
+listed {Y} p of_item pick over (e ∷ es) h =
+    elim (p e) as (λ b. cond b (of_item e.1) None ≡ pick (over e.1) → filter_map of_item (map (λ (e : Name × Item). e.1) (cond b (e ∷ filter p es) (filter p es))) ≡ cons_option (pick (over e.1)) (filter_map (λ (e : Name × Entry). pick e.1) (map (λ (e : Name × Item). (e.0, over e.1)) es))) [
+      | true ↦ λ is. ap (λ (o : Option Y). cons_option o (filter_map of_item (map (λ (e : Name × Item). e.1) (filter p es)))) is ∙ ap (cons_option (pick (over e.1))) (listed p of_item pick over es h.1)
+      | false ↦ λ is. ap (λ (o : Option Y). cons_option o (filter_map of_item (map (λ (e : Name × Item). e.1) (filter p es)))) is ∙ ap (cons_option (pick (over e.1))) (listed p of_item pick over es h.1)
+    ] h.0
+
+all_of : {X : Type 0} → (P Q : X → Type 0) (xs : List X) → ((x : X) → P x → Q x) → AllByRecursion P xs → AllByRecursion Q xs
+all_of P Q [] h all = tt
+all_of P Q (x ∷ xs) h all = (h x all.0, all_of P Q xs h all.1)
+
+-- what is found of an image below some bytes is the list of its machine, where nothing else is picked
+pub list_is : {Y : Type 0} → (held files : Map (List ℕ)) (items : Items) (p : Name × Item → Bool) (of_item : Item → Option Y) (pick : Entry → Option Y) → AreRight items
+    → ((q : Name) (i : Item) → MayStand q i → cond (p (q, i)) (of_item i) None ≡ pick (entry_over held files i))
+    → filter_map of_item (map (λ e. e.1) (filter p (entries items))) ≡ picked pick (machine_over held files items)
+unfolding machine_over
+list_is held files items p of_item pick right picks =
+    listed p of_item pick (entry_over held files) (entries items) (all_of (λ e. MayStand e.0 e.1) (λ e. cond (p e) (of_item e.1) None ≡ pick (entry_over held files e.1)) (entries items) (λ e may. picks e.0 e.1 may) (each_right items right))
+    ∙ sym (ap (filter_map (λ e. pick e.1)) (entries-map_values (entry_over held files) items))
+
+-- what is picked stands below these bytes, or nothing is
+where_begins : {Y : Type 0} → (b : Bool) (o u : Option Y) → o ≡ u → (o ≡ None) ⊎ (b ≡ true) → cond b o None ≡ u
+where_begins true o u same either = same
+where_begins false o u same (inl none) = sym none ∙ same
+where_begins false o u same (inr here) = absurd cc
+
+no_other : {Y : Type 0} → (b : Bool) → cond {A = Option Y} b None None ≡ None
+no_other true = refl
+no_other false = refl
+
+-- ---- products and clients
+
+begins_so : (q name front rest : Name) → name ≡ q → name ≡ front ++ rest → starts_with nat_eq q front ≡ true
+begins_so q name front rest named is = ap (λ (n : Name). starts_with nat_eq n front) (sym named ∙ is) ∙ starts_append front rest
+
+product_is : (code : ℕ) → product_name code ≡ codes "p/" ++ guid_text code
+unfolding product_name
+product_is code = refl
+
+client_is : (component product : ℕ) → client_name component product ≡ codes "c/" ++ guid_text component ++ guid_text product
+unfolding client_name
+client_is component product = refl
+
+client_kind : (component product : ℕ) → client_name component product ≡ codes "c/" ++ (guid_text component ++ guid_text product)
+client_kind component product = client_is component product ∙ append_assoc (codes "c/") (guid_text component) (guid_text product)
+
+product_at : (q : Name) (i : Item) → MayStand q i → (product_in i ≡ None) ⊎ (starts_with nat_eq q (codes "p/") ≡ true)
+product_at q (Whole (entry.Product p)) may = inr (begins_so q (product_name p.code.number) (codes "p/") (guid_text p.code.number) may.named (product_is p.code.number))
+product_at q (Head h content) may = inl refl
+product_at q (Whole (entry.File f)) may = inl refl
+product_at q (Whole (entry.Folder t)) may = inl refl
+product_at q (Whole (entry.Value k v)) may = inl refl
+product_at q (Whole (entry.Key r t)) may = inl refl
+product_at q (Whole (entry.Shortcut s)) may = inl refl
+product_at q (Whole (entry.Variable v)) may = inl refl
+product_at q (Whole (entry.Client c)) may = inl refl
+product_at q (Whole (entry.System p t)) may = inl refl
+
+pub products_are : (held files : Map (List ℕ)) (items : Items) → AreRight items → filter_map product_in (map (λ e. e.1) (filter (λ e. starts_with nat_eq e.0 (codes "p/")) (entries items))) ≡ products_of (machine_over held files items)
+unfolding products_of
+products_are held files items right = list_is held files items (λ e. starts_with nat_eq e.0 (codes "p/")) product_in (λ e. as_product (Some e)) right
+    (λ q i may. where_begins (starts_with nat_eq q (codes "p/")) (product_in i) (as_product (Some (entry_over held files i))) (by_item as_product (λ f. refl) held files (Some i)) (product_at q i may))
+
+-- the client of an item
+abbrev is_client_at : Name → Item → Type 0
+is_client_at q i = (c : Client) → client_in i ≡ Some c → client_name c.component.number c.product.number ≡ q
+
+client_at : (q : Name) (i : Item) → MayStand q i → is_client_at q i
+client_at q (Whole (entry.Client d)) may c is = let same : d ≡ c = cc in ap (λ (x : Client). client_name x.component.number x.product.number) (sym same) ∙ may.named
+client_at q (Head h content) may c is = absurd cc
+client_at q (Whole (entry.File f)) may c is = absurd cc
+client_at q (Whole (entry.Folder t)) may c is = absurd cc
+client_at q (Whole (entry.Value k v)) may c is = absurd cc
+client_at q (Whole (entry.Key r t)) may c is = absurd cc
+client_at q (Whole (entry.Shortcut s)) may c is = absurd cc
+client_at q (Whole (entry.Variable v)) may c is = absurd cc
+client_at q (Whole (entry.Product p)) may c is = absurd cc
+client_at q (Whole (entry.System p t)) may c is = absurd cc
+
+pub clients_are : (held files : Map (List ℕ)) (items : Items) → AreRight items → filter_map client_in (map (λ e. e.1) (filter (λ e. starts_with nat_eq e.0 (codes "c/")) (entries items))) ≡ clients_of (machine_over held files items)
+unfolding clients_of
+clients_are held files items right = list_is held files items (λ e. starts_with nat_eq e.0 (codes "c/")) client_in (λ e. as_client (Some e)) right
+    (λ q i may. where_begins (starts_with nat_eq q (codes "c/")) (client_in i) (as_client (Some (entry_over held files i))) (by_item as_client (λ f. refl) held files (Some i)) (by_client q i (client_in i) refl may))
+  where
+    by_client : (q : Name) (i : Item) (o : Option Client) → client_in i ≡ o → MayStand q i → (client_in i ≡ None) ⊎ (starts_with nat_eq q (codes "c/") ≡ true)
+    by_client q i None is may = inl is
+    by_client q i (Some c) is may = inr (begins_so q (client_name c.component.number c.product.number) (codes "c/") (guid_text c.component.number ++ guid_text c.product.number) (client_at q i may c is) (client_kind c.component.number c.product.number))
+
+pub clients_with_are : (held files : Map (List ℕ)) (items : Items) (component : ℕ) (front : List ℕ) → front ≡ codes "c/" ++ guid_text component → AreRight items
+    → filter_map (client_with component) (map (λ e. e.1) (filter (λ e. starts_with nat_eq e.0 front) (entries items))) ≡ clients_with (machine_over held files items) component
+unfolding clients_with
+clients_with_are held files items component front is right = list_is held files items (λ e. starts_with nat_eq e.0 front) (client_with component) (λ e. with_component component (as_client (Some e))) right
+    (λ q i may. where_begins (starts_with nat_eq q front) (client_with component i) (with_component component (as_client (Some (entry_over held files i)))) (ap (with_component component) (by_item as_client (λ f. refl) held files (Some i))) (by_client q i (client_in i) refl may))
+  where
+    by_component : (q : Name) (c : Client) → client_name c.component.number c.product.number ≡ q → (b : Bool) → eqb c.component.number component ≡ b → (cond b (Some c) None ≡ None) ⊎ (starts_with nat_eq q front ≡ true)
+    by_component q c named true same =
+        let number : c.component.number ≡ component = eqb-true c.component.number component same in
+        inr (begins_so q (client_name c.component.number c.product.number) front (guid_text c.product.number) named
+        (client_is c.component.number c.product.number ∙ ap (λ (n : ℕ). codes "c/" ++ guid_text n ++ guid_text c.product.number) number ∙ ap (λ (f : List ℕ). f ++ guid_text c.product.number) (sym is)))
+    by_component q c named false other = inl refl
+
+    by_client : (q : Name) (i : Item) (o : Option Client) → client_in i ≡ o → MayStand q i → (with_component component (client_in i) ≡ None) ⊎ (starts_with nat_eq q front ≡ true)
+    by_client q i None none may = inl (ap (with_component component) none)
+    by_client q i (Some c) some may = ⊎_elim (λ none. inl (ap (with_component component) some ∙ none)) (λ here. inr here) (by_component q c (client_at q i may c some) (eqb c.component.number component) refl)
+
+-- ---- files
+
+file_is : (path : List ℕ) → file_name path ≡ codes "f/" ++ folded path
+unfolding file_name
+file_is path = refl
+
+pub files_are : (held files : Map (List ℕ)) (items : Items) (folder front : List ℕ) → is_folder_path folder ≡ true → front ≡ codes "f/" ++ folded folder → AreRight items
+    → filter_map file_in (map (λ e. e.1) (filter (λ e. starts_with nat_eq e.0 front) (entries items))) ≡ files_under (machine_over held files items) folder
+unfolding files_under
+files_are held files items folder front is_folder is right = list_is held files items (λ e. starts_with nat_eq e.0 front) file_in (file_below folder) right picks
+  where
+    picks : (q : Name) (i : Item) → MayStand q i → cond (starts_with nat_eq q front) (file_in i) None ≡ file_below folder (entry_over held files i)
+    picks q (Head h content) may =
+        ap (λ b. cond b (Some h.shown) None) (ap (λ (n : Name). starts_with nat_eq n front) (sym may.named ∙ file_is h.shown) ∙ ap (starts_with nat_eq (codes "f/" ++ folded h.shown)) is)
+        ∙ ap (λ b. cond (b && starts_with nat_eq (folded h.shown) (folded folder)) (Some h.shown) None) (sym is_folder)
+    picks q (Whole (entry.File f)) may = let clash : false ≡ true = may.split in absurd cc
+    picks q (Whole (entry.Folder t)) may = no_other (starts_with nat_eq q front)
+    picks q (Whole (entry.Value k v)) may = no_other (starts_with nat_eq q front)
+    picks q (Whole (entry.Key r t)) may = no_other (starts_with nat_eq q front)
+    picks q (Whole (entry.Shortcut s)) may = no_other (starts_with nat_eq q front)
+    picks q (Whole (entry.Variable v)) may = no_other (starts_with nat_eq q front)
+    picks q (Whole (entry.Client c)) may = no_other (starts_with nat_eq q front)
+    picks q (Whole (entry.Product p)) may = no_other (starts_with nat_eq q front)
+    picks q (Whole (entry.System p t)) may = no_other (starts_with nat_eq q front)
+
+-- below what isn't a folder there is none
+pub no_files : (m : Machine) (folder : List ℕ) → is_folder_path folder ≡ false → [] ≡ files_under m folder
+unfolding files_under
+no_files m folder no_folder = by_entries (entries m)
+  where
+    below : (e : Entry) → file_below folder e ≡ None
+    below (entry.File f) = ap (λ b. cond (b && starts_with nat_eq (folded f.shown) (folded folder)) (Some f.shown) None) no_folder
+    below (entry.Folder t) = refl
+    below (entry.Value k v) = refl
+    below (entry.Key r t) = refl
+    below (entry.Shortcut s) = refl
+    below (entry.Variable v) = refl
+    below (entry.Client c) = refl
+    below (entry.Product p) = refl
+    below (entry.System p t) = refl
+
+    by_entries : (es : List (Name × Entry)) → [] ≡ filter_map (λ e. file_below folder e.1) es
+    by_entries [] = refl
+    by_entries (e ∷ es) = by_entries es ∙ ap (λ o. cons_option o (filter_map (λ e. file_below folder e.1) es)) (sym (below e.1))
+
+-- ---- values
+
+value_root : (k : ValueKey) (v : RegValue) → fits (entry.Value k v) ≡ true → k.root < 4
+unfolding fits
+value_root k v fit = ltb-true k.root 4 (both _ _ (both _ _ (both _ _ (both _ _ fit).0).0).0).0
+
+value_begins : (root : ℕ) (key name : List ℕ) → (rest : List ℕ) × (value_name root key name ≡ (118 ∷ 47 ∷ (48 + root) ∷ []) ++ rest)
+unfolding value_name
+value_begins root key name = (drop 3 (value_name root key name), refl)
+
+pub values_are : (held files : Map (List ℕ)) (items : Items) (root : ℕ) (key fold_key front : List ℕ) → fold_key ≡ folded key → front ≡ folded key ++ 92 ∷ [] → AreRight items
+    → filter_map (value_in root fold_key front) (map (λ e. e.1) (filter (λ e. starts_with nat_eq e.0 (118 ∷ 47 ∷ (48 + min root 9) ∷ [])) (entries items))) ≡ values_under (machine_over held files items) root key
+unfolding values_under
+values_are held files items root key fold_key front key_is front_is right = list_is held files items (λ e. starts_with nat_eq e.0 (118 ∷ 47 ∷ (48 + min root 9) ∷ [])) (value_in root fold_key front) (value_below root key) right picks
+  where
+    same : (i : Item) → value_in root fold_key front i ≡ value_in root (folded key) (folded key ++ 92 ∷ []) i
+    same i = ap (λ (k : List ℕ). value_in root k front i) key_is ∙ ap (λ (f : List ℕ). value_in root (folded key) f i) front_is
+
+    by_root : (q : Name) (k : ValueKey) (inside : Bool) → value_name k.root k.key k.shown ≡ q → k.root < 4 → (b : Bool) → eqb k.root root ≡ b → (cond (b && inside) (Some k) None ≡ None) ⊎ (starts_with nat_eq q (118 ∷ 47 ∷ (48 + min root 9) ∷ []) ≡ true)
+    by_root q k inside named small true is =
+        let number : k.root ≡ root = eqb-true k.root root is in
+        let low : min root 9 ≡ k.root = omega (arith, number, small) in
+        let rest = value_begins k.root k.key k.shown in
+        inr (begins_so q (value_name k.root k.key k.shown) (118 ∷ 47 ∷ (48 + min root 9) ∷ []) rest.0 named (rest.1 ∙ ap (λ (n : ℕ). (118 ∷ 47 ∷ (48 + n) ∷ []) ++ rest.0) (sym low)))
+    by_root q k inside named small false other = inl refl
+
+    picks : (q : Name) (i : Item) → MayStand q i → cond (starts_with nat_eq q (118 ∷ 47 ∷ (48 + min root 9) ∷ [])) (value_in root fold_key front i) None ≡ value_below root key (entry_over held files i)
+    picks q (Whole (entry.Value k v)) may =
+        where_begins (starts_with nat_eq q (118 ∷ 47 ∷ (48 + min root 9) ∷ [])) (value_in root fold_key front (Whole (entry.Value k v))) (value_below root key (entry.Value k v)) (same (Whole (entry.Value k v)))
+        (by_root q k (bytes_eq k.key fold_key || starts_with nat_eq k.key front) may.named (value_root k v may.right) (eqb k.root root) refl)
+    picks q (Head h content) may = no_other (starts_with nat_eq q (118 ∷ 47 ∷ (48 + min root 9) ∷ []))
+    picks q (Whole (entry.File f)) may = let clash : false ≡ true = may.split in absurd cc
+    picks q (Whole (entry.Folder t)) may = no_other (starts_with nat_eq q (118 ∷ 47 ∷ (48 + min root 9) ∷ []))
+    picks q (Whole (entry.Key r t)) may = no_other (starts_with nat_eq q (118 ∷ 47 ∷ (48 + min root 9) ∷ []))
+    picks q (Whole (entry.Shortcut s)) may = no_other (starts_with nat_eq q (118 ∷ 47 ∷ (48 + min root 9) ∷ []))
+    picks q (Whole (entry.Variable v)) may = no_other (starts_with nat_eq q (118 ∷ 47 ∷ (48 + min root 9) ∷ []))
+    picks q (Whole (entry.Client c)) may = no_other (starts_with nat_eq q (118 ∷ 47 ∷ (48 + min root 9) ∷ []))
+    picks q (Whole (entry.Product p)) may = no_other (starts_with nat_eq q (118 ∷ 47 ∷ (48 + min root 9) ∷ []))
+    picks q (Whole (entry.System p t)) may = no_other (starts_with nat_eq q (118 ∷ 47 ∷ (48 + min root 9) ∷ []))
+
+-- ---- what is found of a tree
+
+paired : (front : List ℕ) (es : List (Vec ℕ Global × Item)) → map (λ e. e.1) (filter (λ e. starts_with nat_eq e.0.items front) es) ≡ map (λ e. e.1) (filter (λ e. starts_with nat_eq e.0 front) (map pair_of es))
+paired front [] = refl
+paired front (e ∷ es) = elim (starts_with nat_eq e.0.items front) as (λ b. map (λ e. e.1) (cond b (e ∷ filter (λ e. starts_with nat_eq e.0.items front) es) (filter (λ e. starts_with nat_eq e.0.items front) es)) ≡ map (λ e. e.1) (cond b (pair_of e ∷ filter (λ e. starts_with nat_eq e.0 front) (map pair_of es)) (filter (λ e. starts_with nat_eq e.0 front) (map pair_of es)))) [
+  | true ↦ ap (λ (is : List Item). e.1 ∷ is) (paired front es)
+  | false ↦ paired front es
+]
+
+ok_both : {X E : Type 0} → (r : Result X E) (P Q R : X → Type 0) → ((x : X) → P x → Q x → R x) → IfOk r P → IfOk r Q → IfOk r R
+ok_both (Ok x) P Q R h p q = h x p q
+ok_both (Err e) P Q R h p q = tt
+
+pub found_in : {E : Type 0} → (r : Result (Vec (Bor Item) Global) E) (m : BTreeMap (Vec ℕ Global) Item) (image : Items) (front : List ℕ) → items_of m.entries ≡ image
+    → IfOk r (λ found. map (λ i. i.now) found.items ≡ map (λ e. e.1) (filter (λ e. starts_with nat_eq e.0.items front) m.entries)) → IfOk r (λ _. tree.IsOrdered (λ a b. slice_cmp nat_cmp a.items b.items) m)
+    → IfOk r (λ found. map (λ i. i.now) found.items ≡ map (λ e. e.1) (filter (λ e. starts_with nat_eq e.0 front) (entries image)))
+found_in r m image front is found ordered = ok_both r _ _ _ (λ v at sorted. at ∙ paired front m.entries
+    ∙ ap (λ es. map (λ (e : Name × Item). e.1) (filter (λ e. starts_with nat_eq e.0 front) es)) (sym (entries-items m sorted) ∙ ap entries is)) found ordered

@@ -1,0 +1,12 @@
+use Rattle.std.proofs.Common.{Some, None, refl, ap, ◌∙◌}
+use Rattle.std.specs.Option.{option_copied}
+use Rattle.mi_base.specs.Names.{product_name}
+use Rattle.mi_base.specs.Machine.{as_product}
+use Rattle.mi_image.proofs.LookupLemmas.{over_found}
+use Rattle.mi_image.proofs.image.Image.product.Goals as goal
+
+pub returns-in_err-whole_at : goal.returns-in_err-whole_at
+returns-in_err-whole_at c held files = ap option_copied c.from_residual.ensures ∙ over_found as_product (λ f. refl) held files c.args.self.now (product_name c.args.code.number) None (c.in_err-whole_at.ensures (product_name c.args.code.number) c.product_name.ensures)
+
+pub returns : goal.returns
+returns c held files = c.as_product.ensures ∙ over_found as_product (λ f. refl) held files c.args.self.now (product_name c.args.code.number) (Some c.in_ok-whole_at.field-0.now) (c.in_ok-whole_at.ensures (product_name c.args.code.number) c.product_name.ensures)

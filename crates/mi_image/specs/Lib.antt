@@ -1,0 +1,7 @@
+pub mod Faults
+pub mod Items
+pub mod Lists
+pub mod Lookups
+pub mod Looks
+pub mod Picks
+pub mod Scan

@@ -1,0 +1,77 @@
+//! The image of a machine.
+
+ghost use Rattle.std.specs.Prelude.{◌≡◌, List, ℕ, IfOk, OnOk, OnErr, map, filter, nat_eq};
+ghost use Rattle.std.specs.Option.{option_copied};
+ghost use Rattle.std.specs.List.{starts_with};
+ghost use Rattle.std.specs.FinMap as tree;
+ghost use Rattle.mi_image.specs.Items.{MayStand, AreRight};
+ghost use Rattle.mi_image.specs.Lookups.{IsComposed};
+
+use crate::buffer::NameBuffer;
+use crate::item::Item;
+use crate::under::items_under;
+use mi_base::{Name, NoMemory};
+use std::alloc::Global;
+use std::collections::BTreeMap;
+use std::marker::Model;
+
+/// What a machine is, without the bytes of its files: of each file its head and where its bytes are, and
+/// every other entry whole (this project's own). It is kept by the names of the volume, in byte order.
+#[derive(Drop)]
+pub struct Image {
+    items: BTreeMap<Vec<u8>, Item>,
+}
+
+impl Model for Image {
+    ghost use Rattle.std.specs.FinMap as map;
+    ghost use Rattle.std.specs.Coded.{coded_list, coded_ℕ};
+    ghost use Rattle.mi_image.specs.contracts.item.Item as item;
+    ghost use Rattle.mi_image.specs.Items.{Items, items_of, AreRight};
+
+    ghost Value = { Items };
+
+    ghost coded = { map.code (coded_list coded_ℕ) item.the_row.coded };
+
+    ghost view = { λ a. items_of a.items.entries };
+
+    ghost invariant = { λ a. AreRight (items_of a.items.entries) };
+}
+
+impl Image {
+    /// The image of nothing, which takes no memory.
+    pub(crate) fn new(alloc: Global) -> Image
+        ensures { result ≡ tree.empty }
+    {
+        Image {
+            items: BTreeMap::new(alloc),
+        }
+    }
+
+    /// What stands at a composed name, which takes no memory.
+    pub(crate) fn at(&self, name: Option<NameBuffer>) -> Option<&Item>
+        ensures value { (q : List ℕ) → IsComposed q name → option_copied result ≡ tree.get self.now q }
+        ensures right { AreRight self.now }
+    {
+        let items = &self.items;
+        items.get(name?.as_slice())
+    }
+
+    /// What stands at the names that begin with some bytes, in byte order.
+    pub(crate) fn under(&self, alloc: Global, front: &[u8]) -> Result<Vec<&Item>, NoMemory>
+        ensures found { IfOk result (λ found. map (λ i. i.now) found.items ≡ map (λ e. e.1) (filter (λ e. starts_with nat_eq e.0 front.now) (tree.entries self.now))) }
+        ensures right { AreRight self.now }
+    {
+        items_under(alloc, &self.items, front)
+    }
+
+    /// Sets what stands at a name.
+    pub(crate) fn put(&mut self, alloc: Global, name: &Name, item: Item) -> Result<(), NoMemory>
+        requires { MayStand name.now item }
+        ensures ok { OnOk result (self.new ≡ tree.insert self.old name.now item) }
+        ensures err { OnErr result (self.new ≡ self.old) }
+    {
+        let key = Vec::from_slice(alloc, name.as_bytes())?;
+        self.items.insert(key, item)?;
+        Ok(())
+    }
+}

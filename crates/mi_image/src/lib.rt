@@ -1,0 +1,23 @@
+//! The image of a machine: what a scan of the volume reads, without the bytes of files.
+#![tactic(auto)]
+
+mod buffer;
+mod copies;
+mod fault;
+mod image;
+mod item;
+mod kinds;
+mod lists;
+mod lookups;
+mod names;
+mod pick;
+mod reading;
+mod scan;
+mod under;
+
+pub use fault::ImageError;
+pub use image::Image;
+pub use item::Content;
+
+#[cfg(test)]
+mod tests;

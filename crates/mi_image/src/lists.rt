@@ -1,0 +1,77 @@
+//! Lists of what an image holds, in byte order of the volume's names. Each costs one search in the ordered
+//! names, and what stands below the names where the list begins.
+
+ghost use Rattle.std.specs.Prelude.{◌≡◌, List, ℕ, IfOk};
+ghost use Rattle.mi_text.specs.Maps.{Map};
+ghost use Rattle.mi_image.specs.Items.{machine_over};
+ghost use Rattle.mi_image.specs.Lists.{products_of, clients_of, clients_with, files_under, values_under};
+
+use crate::image::Image;
+use crate::pick::{ClientsOf, EachClient, EachFile, EachProduct, ValuesIn, pick_all};
+use mi_base::{Client, Guid, NoMemory, PathText, Product, Text, ValueKey, fold};
+use std::alloc::Global;
+
+impl Image {
+    /// The installed products, by code (this project's own).
+    pub fn products(&self, alloc: Global) -> Result<Vec<Product>, NoMemory>
+        ensures { (held files : Map (List ℕ)) → IfOk result (λ products. products.items ≡ products_of (machine_over held files self.now)) }
+    {
+        let items = self.under(alloc, b"p/")?;
+        pick_all(alloc, items.as_slice(), &EachProduct)
+    }
+
+    /// The clients of all components, by component, then product (Component table).
+    pub fn clients(&self, alloc: Global) -> Result<Vec<Client>, NoMemory>
+        ensures { (held files : Map (List ℕ)) → IfOk result (λ clients. clients.items ≡ clients_of (machine_over held files self.now)) }
+    {
+        let items = self.under(alloc, b"c/")?;
+        pick_all(alloc, items.as_slice(), &EachClient)
+    }
+
+    /// The clients of one component, by product (Component table).
+    pub fn clients_of(&self, alloc: Global, component: Guid) -> Result<Vec<Client>, NoMemory>
+        ensures { (held files : Map (List ℕ)) → IfOk result (λ clients. clients.items ≡ clients_with (machine_over held files self.now) component.number) }
+    {
+        let mut front = Text::copy_of(alloc, "c/")?;
+        front.push_str(component.print(alloc)?.as_str())?;
+        let items = self.under(alloc, front.as_bytes())?;
+        pick_all(alloc, items.as_slice(), &ClientsOf(component))
+    }
+
+    /// The paths of the files in a folder and in the folders below it, as they are shown (File table). Below the
+    /// path of a file there is none.
+    pub fn files_below(&self, alloc: Global, folder: &PathText) -> Result<Vec<PathText>, NoMemory>
+        ensures { (held files : Map (List ℕ)) → IfOk result (λ paths. paths.items ≡ files_under (machine_over held files self.now) folder.now) }
+    {
+        if !folder.is_folder() {
+            return Ok(Vec::new(alloc));
+        }
+        let mut front = Text::copy_of(alloc, "f/")?;
+        front.push_str(fold(alloc, folder.as_str())?.as_str())?;
+        let items = self.under(alloc, front.as_bytes())?;
+        pick_all(alloc, items.as_slice(), &EachFile)
+    }
+
+    /// Where the values of a registry key and of the keys below it stand (Registry table).
+    pub fn values_below(
+        &self,
+        alloc: Global,
+        root: u8,
+        key: &str,
+    ) -> Result<Vec<ValueKey>, NoMemory>
+        ensures { (held files : Map (List ℕ)) → IfOk result (λ values. values.items ≡ values_under (machine_over held files self.now) root key.now) }
+    {
+        let key = fold(alloc, key)?;
+        let mut front = Text::copy_of(alloc, key.as_str())?;
+        front.push_str("\\")?;
+        // No value has a greater root than 3.
+        let kind = [b'v', b'/', b'0' + root.min(9)];
+        let items = self.under(alloc, &kind)?;
+        let values = ValuesIn {
+            root,
+            key: key.as_str(),
+            front: front.as_str(),
+        };
+        pick_all(alloc, items.as_slice(), &values)
+    }
+}

@@ -1,0 +1,127 @@
+//! The names of entries, composed without memory.
+
+ghost use Rattle.std.specs.Prelude.{◌≡◌, ◌<◌, ◌+◌, ◌++◌, length, MatchOption};
+ghost use Rattle.mi_text.specs.Fold.{folded};
+ghost use Rattle.mi_base.specs.Names.{four_digits, file_name, folder_name, key_name, value_name, shortcut_name, variable_name, client_name, product_name, system_name};
+ghost use Rattle.mi_image.specs.Lookups.{IsComposed};
+
+use crate::buffer::NameBuffer;
+use mi_base::{Guid, PathText};
+
+// Some bytes, and a text that is folded.
+fn folded_behind(front: &[u8], text: &str) -> Option<NameBuffer>
+    ensures { MatchOption result (1024 < length front.now + length text.now) (λ n. n ≡ front.now ++ folded text.now) }
+{
+    let mut name = NameBuffer::new();
+    if name.push_all(front) && name.push_folded(text) {
+        Some(name)
+    } else {
+        None
+    }
+}
+
+#[tactic(auto, unfolding(mi_base::specs::Names::file_name))]
+pub fn file_name(path: &PathText) -> Option<NameBuffer>
+    ensures { IsComposed (file_name path.now) result }
+{
+    folded_behind(b"f/", path.as_str())
+}
+
+#[tactic(auto, unfolding(mi_base::specs::Names::folder_name))]
+pub fn folder_name(path: &PathText) -> Option<NameBuffer>
+    ensures { IsComposed (folder_name path.now) result }
+{
+    folded_behind(b"d/", path.as_str())
+}
+
+#[tactic(auto, unfolding(mi_base::specs::Names::shortcut_name))]
+pub fn shortcut_name(path: &PathText) -> Option<NameBuffer>
+    ensures { IsComposed (shortcut_name path.now) result }
+{
+    folded_behind(b"s/", path.as_str())
+}
+
+#[tactic(auto, unfolding(mi_base::specs::Names::key_name))]
+pub fn key_name(root: u8, key: &str) -> Option<NameBuffer>
+    ensures { IsComposed (key_name root key.now) result }
+{
+    if root > 3 {
+        return None;
+    }
+    folded_behind(&[b'k', b'/', b'0' + root], key)
+}
+
+#[tactic(auto, unfolding(mi_base::specs::Names::variable_name))]
+pub fn variable_name(system: bool, name: &str) -> Option<NameBuffer>
+    ensures { IsComposed (variable_name system name.now) result }
+{
+    folded_behind(if system { b"n/1" } else { b"n/0" }, name)
+}
+
+fn digit(number: usize) -> u8
+    requires { number < 10 }
+    ensures { result ≡ 48 + number }
+{
+    b'0' + number as u8
+}
+
+#[tactic(auto, unfolding(mi_base::specs::Names::value_name))]
+pub fn value_name(root: u8, key: &str, name: &str) -> Option<NameBuffer>
+    ensures { IsComposed (value_name root key.now name.now) result }
+{
+    if root > 3 {
+        return None;
+    }
+    let length = key.len();
+    let front = [
+        b'v',
+        b'/',
+        b'0' + root,
+        digit(length / 1000 % 10),
+        digit(length / 100 % 10),
+        digit(length / 10 % 10),
+        digit(length % 10),
+    ];
+    let mut buffer = folded_behind(&front, key)?;
+    if buffer.push_folded(name) {
+        Some(buffer)
+    } else {
+        None
+    }
+}
+
+#[tactic(auto, unfolding(mi_base::specs::Names::client_name))]
+pub fn client_name(component: Guid, product: Guid) -> Option<NameBuffer>
+    ensures { IsComposed (client_name component.number product.number) result }
+{
+    let mut name = NameBuffer::new();
+    if name.push_all(b"c/") && name.push_code(component) && name.push_code(product) {
+        Some(name)
+    } else {
+        None
+    }
+}
+
+#[tactic(auto, unfolding(mi_base::specs::Names::product_name))]
+pub fn product_name(code: Guid) -> Option<NameBuffer>
+    ensures { IsComposed (product_name code.number) result }
+{
+    let mut name = NameBuffer::new();
+    if name.push_all(b"p/") && name.push_code(code) {
+        Some(name)
+    } else {
+        None
+    }
+}
+
+#[tactic(auto, unfolding(mi_base::specs::Names::system_name))]
+pub fn system_name(property: &str) -> Option<NameBuffer>
+    ensures { IsComposed (system_name property.now) result }
+{
+    let mut name = NameBuffer::new();
+    if name.push_all(b"y/") && name.push_all(property.as_bytes()) {
+        Some(name)
+    } else {
+        None
+    }
+}

@@ -1,0 +1,138 @@
+//! Reading what a volume holds under one name.
+
+ghost use Rattle.std.specs.Prelude.{◌≡◌, ◌≤◌, List, ℕ, IfOk, IsErrOf, length, take, codes, min, true, false, nat_eq};
+ghost use Rattle.std.specs.List.{starts_with};
+ghost use Rattle.std.specs.FinMap.{get};
+ghost use Rattle.mi_text.specs.Bytes.{AreBytes};
+ghost use Rattle.mi_volume.specs.Maps.{bytes_or_none};
+ghost use Rattle.mi_volume.specs.State.{Passes, Rose};
+ghost use Rattle.mi_image.specs.Items.{MayStand};
+ghost use Rattle.mi_image.specs.Looks.{OnlyLooks};
+ghost use Rattle.mi_image.specs.Scan.{Tells};
+
+use crate::fault::ImageError;
+use crate::item::{Content, Item};
+use mi_base::{Bytes, Name, RecError, dec_entry, dec_file_head};
+use mi_volume::{PIECE, VolFault, Volume};
+use std::alloc::Global;
+
+/// The length of the longest head of a file, in bytes.
+const HEAD_LIMIT: u64 = 131_364;
+
+/// Whether a name begins with some bytes.
+pub fn begins(name: &Name, front: &[u8]) -> bool
+    ensures { result ≡ starts_with nat_eq name.now front.now }
+{
+    name.as_bytes().starts_with(front)
+}
+
+/// The first `want` bytes that a name holds, or all where there are fewer. They are read in pieces.
+fn read_front<V: Volume>(
+    alloc: Global,
+    vol: &mut V,
+    name: &Name,
+    want: usize,
+) -> Result<Bytes, VolFault>
+    ensures value { V.told → IfOk result (λ bytes. bytes ≡ take want (bytes_or_none (get (V.state vol.old).held name.now))) }
+    ensures short { IfOk result (λ bytes. length bytes ≤ want) }
+    ensures looks { V.told → OnlyLooks (V.state vol.old) (V.state vol.new) }
+    ensures passes { Passes (V.state vol.old) (V.state vol.new) }
+    ensures failed { IsErrOf result VolFault.Failed → Rose (V.state vol.old) (V.state vol.new) }
+{
+    let mut bytes = Bytes::new(alloc);
+    while bytes.len() < want {
+        let asked = PIECE.min(want - bytes.len());
+        let piece = vol.read(alloc, name, bytes.len() as u64, asked)?;
+        bytes.extend(piece.as_slice())?;
+        if piece.len() < asked {
+            return Ok(bytes);
+        }
+    }
+    Ok(bytes)
+}
+
+/// The item of a file, from a front of its record, which has `size` bytes.
+fn head_item(alloc: Global, name: &Name, front: &[u8], size: u64) -> Result<Item, ImageError>
+    requires file { starts_with nat_eq name.now (codes "f/") ≡ true }
+    requires within { length front.now ≤ size }
+    requires enough { min size 131364 ≤ length front.now }
+    ensures tells { (whole : List ℕ) → AreBytes whole → length whole ≡ size → take (length front.now) whole ≡ front.now → Tells name.now whole result }
+    ensures right { IfOk result (MayStand name.now) }
+    ensures no_fault { ¬ IsErrOf result ImageError.Fault }
+{
+    match dec_file_head(alloc, name.as_str(), front, size) {
+        Ok(head) => Ok(Item::Head(head, Content::Held(name.copy(alloc)?))),
+        Err(RecError::NoMemory) => Err(ImageError::NoMemory),
+        Err(RecError::Fault(_)) => Err(ImageError::BadImage(name.copy(alloc)?)),
+    }
+}
+
+/// The item of another entry, from its record.
+fn record_item(alloc: Global, name: &Name, bytes: &[u8]) -> Result<Item, ImageError>
+    requires other { starts_with nat_eq name.now (codes "f/") ≡ false }
+    ensures tells { Tells name.now bytes.now result }
+    ensures right { IfOk result (MayStand name.now) }
+    ensures no_fault { ¬ IsErrOf result ImageError.Fault }
+{
+    match dec_entry(alloc, name.as_str(), bytes) {
+        Ok(entry) => Ok(Item::Whole(entry)),
+        Err(RecError::NoMemory) => Err(ImageError::NoMemory),
+        Err(RecError::Fault(_)) => Err(ImageError::BadImage(name.copy(alloc)?)),
+    }
+}
+
+/// The item of a file, whose record has `size` bytes; at most the bytes of the longest head are read.
+fn read_head<V: Volume>(
+    alloc: Global,
+    vol: &mut V,
+    name: &Name,
+    size: u64,
+) -> Result<Item, ImageError>
+    requires file { starts_with nat_eq name.now (codes "f/") ≡ true }
+    ensures tells { V.told → let whole = bytes_or_none (get (V.state vol.old).held name.now) in AreBytes whole → length whole ≡ size → Tells name.now whole result }
+    ensures right { IfOk result (MayStand name.now) }
+    ensures looks { V.told → OnlyLooks (V.state vol.old) (V.state vol.new) }
+    ensures passes { Passes (V.state vol.old) (V.state vol.new) }
+    ensures fault { IsErrOf result ImageError.Fault → Rose (V.state vol.old) (V.state vol.new) }
+{
+    let want = size.min(HEAD_LIMIT) as usize;
+    let front = read_front(alloc, vol, name, want)?;
+    if front.len() < want {
+        return Err(ImageError::BadImage(name.copy(alloc)?));
+    }
+    head_item(alloc, name, front.as_slice(), size)
+}
+
+/// The item of another entry, whose record has `size` bytes.
+fn read_record<V: Volume>(
+    alloc: Global,
+    vol: &mut V,
+    name: &Name,
+    size: u64,
+) -> Result<Item, ImageError>
+    requires other { starts_with nat_eq name.now (codes "f/") ≡ false }
+    ensures tells { V.told → let whole = bytes_or_none (get (V.state vol.old).held name.now) in length whole ≡ size → Tells name.now whole result }
+    ensures right { IfOk result (MayStand name.now) }
+    ensures looks { V.told → OnlyLooks (V.state vol.old) (V.state vol.new) }
+    ensures passes { Passes (V.state vol.old) (V.state vol.new) }
+    ensures fault { IsErrOf result ImageError.Fault → Rose (V.state vol.old) (V.state vol.new) }
+{
+    let bytes = read_front(alloc, vol, name, size as usize)?;
+    record_item(alloc, name, bytes.as_slice())
+}
+
+/// The item that a volume holds under a name.
+pub fn read_item<V: Volume>(alloc: Global, vol: &mut V, name: &Name) -> Result<Item, ImageError>
+    ensures tells { V.told → Tells name.now (bytes_or_none (get (V.state vol.old).held name.now)) result }
+    ensures right { IfOk result (MayStand name.now) }
+    ensures looks { V.told → OnlyLooks (V.state vol.old) (V.state vol.new) }
+    ensures passes { Passes (V.state vol.old) (V.state vol.new) }
+    ensures fault { IsErrOf result ImageError.Fault → Rose (V.state vol.old) (V.state vol.new) }
+{
+    let size = vol.size(name)?.unwrap_or(0);
+    if begins(name, b"f/") {
+        read_head(alloc, vol, name, size)
+    } else {
+        read_record(alloc, vol, name, size)
+    }
+}

@@ -1,0 +1,55 @@
+//! Removing the entries that aren't read.
+
+ghost use Rattle.std.specs.Prelude.{List, OnErr, IsErrOf};
+ghost use Rattle.mi_volume.specs.Maps.{Map};
+ghost use Rattle.mi_volume.specs.State.{Passes, Rose};
+ghost use Rattle.mi_undo.specs.Notes.{Note};
+ghost use Rattle.mi_undo.specs.Reading.{Spare, Spares};
+ghost use Rattle.mi_undo.specs.Answers.{IfBad, IfFull};
+
+use crate::fault::UndoError;
+use crate::names::{entries_of, entry_number};
+use mi_text::Name;
+use mi_volume::{Failed, Volume};
+use std::alloc::Global;
+
+/// Removes this name, where it is that of an entry from this number on.
+fn remove_entry<V: Volume>(vol: &mut V, entries: u32, name: &Name) -> Result<(), Failed>
+    ensures spares { V.told → (F : Map) (ns : List Note) → Spare (V.state vol.old) F ns entries → Spares (V.state vol.old) (V.state vol.new) F ns entries }
+    ensures passes { Passes (V.state vol.old) (V.state vol.new) }
+    ensures fault { OnErr result (Rose (V.state vol.old) (V.state vol.new)) }
+{
+    let Some(number) = entry_number(name) else {
+        return Ok(());
+    };
+    if number < entries {
+        return Ok(());
+    }
+    vol.remove(name)
+}
+
+/// Removes the entries from this number on; their gates stay.
+pub(crate) fn remove_unread<V: Volume>(
+    alloc: Global,
+    vol: &mut V,
+    entries: u32,
+) -> Result<(), UndoError>
+    ensures spares { V.told → (F : Map) (ns : List Note) → Spare (V.state vol.old) F ns entries → Spares (V.state vol.old) (V.state vol.new) F ns entries }
+    ensures passes { Passes (V.state vol.old) (V.state vol.new) }
+    ensures fault { IsErrOf result UndoError.Fault → Rose (V.state vol.old) (V.state vol.new) }
+    ensures never_bad { IfBad result (λ name. ⊥) }
+    ensures never_full { IfFull result (λ name. ⊥) }
+{
+    let mut after = entries_of(alloc)?;
+    for _ in 0..u64::MAX {
+        let Some(name) = vol.next(alloc, Some(&after))? else {
+            return Ok(());
+        };
+        if !name.as_bytes().starts_with(b"j/e/") {
+            return Ok(());
+        }
+        remove_entry(vol, entries, &name)?;
+        after = name;
+    }
+    Err(UndoError::NoMemory)
+}
