@@ -20,7 +20,7 @@ use Rattle.mi_dirs.proofs.TargetLemmas.{same_function}
 -- ---- the first number that passes a test
 
 -- no number does
-find_none : {A : Type 0} (test : ℕ → Bool) (xs : List A) (n : ℕ) → ((k : ℕ) → k < length xs → test (n + k) ≡ false) → find test (numbers_from n xs) ≡ None
+pub find_none : {A : Type 0} (test : ℕ → Bool) (xs : List A) (n : ℕ) → ((k : ℕ) → k < length xs → test (n + k) ≡ false) → find test (numbers_from n xs) ≡ None
 find_none test [] n h = refl
 find_none test (x ∷ xs) n h =
     let first : test n ≡ false = ap test (let e : n ≡ n + 0 = omega arith in e) ∙ h 0 (omega arith) in
@@ -28,7 +28,7 @@ find_none test (x ∷ xs) n h =
     ∙ find_none test xs (suc n) (λ k lt. ap test (let e : suc n + k ≡ n + suc k = omega arith in e) ∙ h (suc k) (omega arith))
 
 -- this one does, and none before it
-find_at : {A : Type 0} (test : ℕ → Bool) (xs : List A) (n row : ℕ) → row < length xs → test (n + row) ≡ true → ((k : ℕ) → k < row → test (n + k) ≡ false) → find test (numbers_from n xs) ≡ Some (n + row)
+pub find_at : {A : Type 0} (test : ℕ → Bool) (xs : List A) (n row : ℕ) → row < length xs → test (n + row) ≡ true → ((k : ℕ) → k < row → test (n + k) ≡ false) → find test (numbers_from n xs) ≡ Some (n + row)
 find_at test [] n row lt is before = absurd (omega arith)
 find_at test (x ∷ xs) n zero lt is before =
     let here : n + 0 ≡ n = omega arith in

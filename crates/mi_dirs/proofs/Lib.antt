@@ -1,10 +1,10 @@
-mod ChainLemmas
+pub mod ChainLemmas
 mod PathLemmas
-mod RowLemmas
+pub mod RowLemmas
 mod TargetLemmas
 mod SourceLemmas
 mod OwnLemmas
 mod DirLemmas
-mod FaultLemmas
+pub mod FaultLemmas
 mod KeptLemmas
 mod ResolveLemmas

@@ -11,8 +11,8 @@ use mi_text::{NoMemory, PathText, Text};
 use std::alloc::{AllocError, Global};
 use std::collections::BTreeMap;
 
-// The first row of each key.
-fn index_of(alloc: Global, keys: &[&str]) -> Result<BTreeMap<String, usize>, NoMemory>
+/// The first row of each key, counted from 0.
+pub fn index_of(alloc: Global, keys: &[&str]) -> Result<BTreeMap<String, usize>, NoMemory>
     ensures { IfOk result (λ m. (q : Name) → get_by_text m q ≡ first_row (same_name q) (map (λ k. k.now) keys.now)) }
 {
     let mut index = BTreeMap::new(alloc);

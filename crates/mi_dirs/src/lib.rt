@@ -17,4 +17,5 @@ mod tests;
 
 pub use dirs::{Dirs, resolve};
 pub use fault::{DirError, DirFault};
+pub use order::order_of;
 pub use rows::DirRow;

@@ -75,7 +75,7 @@ impl Placing {
 }
 
 /// An order of all rows in which each stands behind its parent, or the first row whose chain of parents doesn't end.
-pub(crate) fn order_of(alloc: Global, parents: &[Option<usize>]) -> Result<Vec<usize>, DirError>
+pub fn order_of(alloc: Global, parents: &[Option<usize>]) -> Result<Vec<usize>, DirError>
     requires { AreRows (parent_in parents.now) (length parents.now) }
     ensures order { IfOk result (λ v. IsOrder (parent_in parents.now) (length parents.now) v.items) }
     ensures ends { OnOk result ((row : ℕ) → row < length parents.now → ends_in (parent_in parents.now) (suc (length parents.now)) row ≡ true) }

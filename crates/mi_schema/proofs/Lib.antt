@@ -1,0 +1,13 @@
+pub mod CheckLemmas
+pub mod ColumnLemmas
+pub mod ConditionLaws
+pub mod FileLemmas
+pub mod FitLemmas
+pub mod KeyLemmas
+pub mod ListLemmas
+pub mod LoadLemmas
+pub mod NumberLaws
+pub mod PlaceLemmas
+pub mod RowLemmas
+pub mod TableLemmas
+pub mod TopLemmas

@@ -1,0 +1,10 @@
+use Rattle.std.proofs.Common.{map, take}
+use Rattle.mi_idt.specs.Means.{meaning}
+use Rattle.mi_schema.specs.Described.{table_as}
+use Rattle.mi_schema.specs.Keys.{KnowsKeys}
+use Rattle.mi_schema.specs.Rows.{keys_of}
+use Rattle.mi_schema.specs.Values.{row_of}
+use Rattle.mi_schema.proofs.row.index_of.Given as goal
+
+abbrev pub invariant-loop-number : goal.invariant-loop-number
+invariant-loop-number l = KnowsKeys l.index (keys_of (map (row_of (table_as l.layout).columns) (take l.number (meaning l.table).rows)))

@@ -1,0 +1,15 @@
+pub mod Answers
+pub mod Checks
+pub mod Conditions
+pub mod Described
+pub mod Files
+pub mod Held
+pub mod Keys
+pub mod Loaded
+pub mod Read
+pub mod Reads
+pub mod Rows
+pub mod Seen
+pub mod Tables
+pub mod Texts
+pub mod Values

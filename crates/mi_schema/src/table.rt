@@ -1,0 +1,198 @@
+//! A table of the package, from its file.
+
+ghost use Rattle.std.specs.Prelude.{◌≡◌, ◌≤◌, ◌&&◌, Some, IfOk, OnErr, is_some, map, []};
+ghost use Rattle.std.specs.FinMap.{get};
+ghost use Rattle.std.specs.Str.{bytes_eq};
+ghost use Rattle.mi_base.specs.declared.answers.Fault.TheVariants as faults;
+ghost use Rattle.mi_source.specs.Counts.{Rose};
+ghost use Rattle.mi_idt.specs.Means.{IsSpelled, meaning, column_value};
+ghost use Rattle.mi_schema.specs.Answers.{Answers, IsCounted};
+ghost use Rattle.mi_schema.specs.Described.{column_as, table_as};
+ghost use Rattle.mi_schema.specs.Reads.{Refuses};
+ghost use Rattle.mi_schema.specs.Rows.{is_of_class, begins_with, key_places, has_columns, rows_in, value_fault, table_fault, table_rows};
+ghost use Rattle.mi_schema.specs.Checks.{table_path, bytes_of, rows_of};
+ghost use Rattle.mi_schema.specs.Read.{rows_as};
+
+use crate::column::{Column, Kind, Layout};
+use crate::error::LoadError;
+use crate::file::read_file;
+use crate::held::Rows;
+use crate::row::read_rows;
+use mi_base::{Fault, IdtFault, NoMemory, Text};
+use mi_idt::{Column as Spelled, IdtError, Table, read_table};
+use mi_source::{Failed, Source};
+use std::alloc::Global;
+use std::collections::BTreeMap;
+
+/// Whether the letter of a definition is of the class of a kind.
+fn is_of_class(kind: Kind, letter: u8) -> bool
+    ensures { result ≡ is_of_class kind letter }
+{
+    match kind {
+        Kind::Integer => matches!(letter, b'i' | b'I'),
+        _ => matches!(letter, b's' | b'S' | b'l' | b'L'),
+    }
+}
+
+/// Whether a column has the name and the class of a known one.
+fn is_known(column: &Spelled, known: &Column) -> bool
+    ensures { result ≡ (bytes_eq column.now.name.now known.now.name.now && is_of_class known.now.kind column.now.letter) }
+{
+    let named = column.name == known.name;
+    let classed = is_of_class(known.kind, column.letter);
+    named && classed
+}
+
+/// Whether the columns begin with the known ones, in this order.
+fn begins_with(known: &[Column], columns: &[Spelled]) -> bool
+    ensures { result ≡ begins_with (map column_as known.now) (map column_value columns.now) }
+{
+    if columns.len() < known.len() {
+        return false;
+    }
+    for (i, column) in known.iter().enumerate() {
+        if !is_known(&columns[i], column) {
+            return false;
+        }
+    }
+    true
+}
+
+/// Whether the keys are the places of the key columns.
+fn has_keys(known: &[Column], keys: &[u32]) -> bool
+    ensures { result ≡ bytes_eq keys.now (key_places 0 (map column_as known.now)) }
+{
+    let mut next = 0;
+    for (i, column) in known.iter().enumerate() {
+        if column.key {
+            if next == keys.len() || keys[next] as usize != i {
+                return false;
+            }
+            next += 1;
+        }
+    }
+    next == keys.len()
+}
+
+/// Whether a table has the columns and the keys of its layout.
+#[tactic(auto, unfolding(mi_idt::specs::Means::meaning))]
+fn has_columns(known: &[Column], table: &Table) -> bool
+    ensures { result ≡ has_columns (map column_as known.now) (meaning table.now) }
+{
+    let keyed = has_keys(known, table.keys.as_slice());
+    let begun = begins_with(known, table.columns.as_slice());
+    keyed && begun
+}
+
+/// A fault that names its table.
+fn unsupported(alloc: Global, table: &str) -> LoadError
+    ensures { Refuses result (faults.Unsupported table.now) }
+{
+    match Text::copy_of(alloc, table) {
+        Ok(table) => LoadError::Table(Fault::Unsupported(table)),
+        Err(_) => LoadError::NoMemory,
+    }
+}
+
+/// A fault that names its table.
+fn other_columns(alloc: Global, table: &str) -> LoadError
+    ensures { Refuses result (faults.Columns table.now) }
+{
+    match Text::copy_of(alloc, table) {
+        Ok(table) => LoadError::Table(Fault::Columns(table)),
+        Err(_) => LoadError::NoMemory,
+    }
+}
+
+/// A fault of the text of a table.
+fn misspelled(alloc: Global, table: &str, why: IdtFault) -> LoadError
+    ensures { Refuses result (faults.Idt table.now why) }
+{
+    match Text::copy_of(alloc, table) {
+        Ok(table) => LoadError::Table(Fault::Idt(table, why)),
+        Err(_) => LoadError::NoMemory,
+    }
+}
+
+/// A table without rows.
+fn no_rows(alloc: Global) -> Rows
+    ensures { rows_as result ≡ [] }
+{
+    Rows {
+        rows: Vec::new(alloc),
+        index: BTreeMap::new(alloc),
+    }
+}
+
+/// The rows of a table that its bytes spell, or its first fault.
+fn read_spelled(alloc: Global, layout: &Layout, table: &Table) -> Result<Rows, LoadError>
+    requires { IsSpelled table.now }
+    ensures { Answers ⊥ (value_fault (table_as layout.now) (meaning table.now)) (λ held. rows_as held ≡ rows_in (table_as layout.now) (meaning table.now)) result }
+{
+    if layout.columns.is_empty() {
+        if table.rows.is_empty() {
+            return Ok(no_rows(alloc));
+        }
+        return Err(unsupported(alloc, layout.name));
+    }
+    if !has_columns(layout.columns, table) {
+        return Err(other_columns(alloc, layout.name));
+    }
+    read_rows(alloc, layout, table)
+}
+
+/// The rows of a table in these bytes, or its first fault.
+fn read_bytes(alloc: Global, layout: &Layout, bytes: &[u8]) -> Result<Rows, LoadError>
+    ensures { Answers ⊥ (table_fault (table_as layout.now) (Some bytes.now)) (λ held. rows_as held ≡ table_rows (table_as layout.now) (Some bytes.now)) result }
+{
+    match read_table(alloc, bytes) {
+        Ok(table) => read_spelled(alloc, layout, &table),
+        Err(IdtError::NoMemory) => Err(LoadError::NoMemory),
+        Err(IdtError::Fault(fault)) => Err(misspelled(alloc, layout.name, fault)),
+    }
+}
+
+/// The path of a table's file.
+pub fn path_of(alloc: Global, folder: &str, table: &str) -> Result<Text, NoMemory>
+    ensures { IfOk result (λ path. path ≡ table_path folder.now table.now) }
+{
+    let mut path = Text::copy_of(alloc, folder)?;
+    path.push_str("/")?;
+    path.push_str(table)?;
+    path.push_str(".idt")?;
+    Ok(path)
+}
+
+/// Whether a file is there.
+pub fn is_there<S: Source>(src: &mut S, path: &str) -> Result<bool, Failed>
+    ensures value { S.told → IfOk result (λ there. there ≡ is_some (get (S.files src.old) path.now)) }
+    ensures stays { S.files src.new ≡ S.files src.old }
+    ensures counts { S.faults src.old ≤ S.faults src.new }
+    ensures failed { OnErr result (Rose (S.faults src.old) (S.faults src.new)) }
+{
+    let size = src.size(path)?;
+    Ok(size.is_some())
+}
+
+/// The rows of a table in a folder, or its first fault; none where its file isn't there.
+pub fn load_table<S: Source>(
+    alloc: Global,
+    src: &mut S,
+    folder: &str,
+    layout: &Layout,
+) -> Result<Rows, LoadError>
+    ensures value { S.told → Answers (Rose (S.faults src.old) (S.faults src.new)) (table_fault (table_as layout.now) (bytes_of (S.files src.old) folder.now (table_as layout.now)))
+        (λ held. rows_as held ≡ rows_of (S.files src.old) folder.now (table_as layout.now)) result }
+    ensures counted { IsCounted (Rose (S.faults src.old) (S.faults src.new)) result }
+    ensures stays { S.files src.new ≡ S.files src.old }
+    ensures counts { S.faults src.old ≤ S.faults src.new }
+{
+    let path = path_of(alloc, folder, layout.name)?;
+    if !is_there(src, path.as_str())? {
+        return Ok(no_rows(alloc));
+    }
+    match read_file(alloc, src, path.as_str())? {
+        Some(bytes) => read_bytes(alloc, layout, bytes.as_slice()),
+        None => Err(misspelled(alloc, layout.name, IdtFault::TooLarge)),
+    }
+}

@@ -1,0 +1,165 @@
+//! Which texts are values of their kind, or meet the rule of their column.
+
+ghost use Rattle.std.specs.Prelude.{◌≡◌, is_some, length, count_by, ◌==◌};
+ghost use Rattle.std.specs.List.{slice_split, list_all};
+ghost use Rattle.mi_text.specs.Path.{good_byte};
+ghost use Rattle.mi_idt.specs.Fields.{is_digit, number_within};
+ghost use Rattle.mi_text.specs.Version.{version_of};
+ghost use Rattle.mi_schema.specs.Texts.{may_stand, is_part, is_name, is_folder_name, is_default_dir, is_decimal, is_language, are_languages, is_product_code, is_value_of};
+
+use mi_base::{Guid, Version};
+
+/// How many bytes equal `mark`.
+fn count(bytes: &[u8], mark: u8) -> usize
+    ensures { result ≡ count_by (λ b. b == mark) bytes.now }
+{
+    bytes.iter().filter(|byte| **byte == mark).count()
+}
+
+/// How many parts there are between the bytes that equal `mark`.
+fn count_parts(text: &str, mark: u8) -> usize
+    ensures { result ≡ length (slice_split (λ b. b == mark) text.now) }
+{
+    count(text.as_bytes(), mark) + 1
+}
+
+fn good_byte(byte: u8) -> bool
+    ensures { result ≡ good_byte byte }
+{
+    byte >= 32 && !matches!(byte, b'/' | b':' | b'*' | b'?' | b'"' | b'<' | b'>' | b'|')
+}
+
+/// Whether a byte may stand in a name; in a pattern `*` and `?` may stand too.
+fn may_stand(pattern: bool, byte: u8) -> bool
+    ensures { result ≡ may_stand pattern byte }
+{
+    let plain = good_byte(byte) && byte != b'\\';
+    plain || (pattern && (byte == b'*' || byte == b'?'))
+}
+
+fn all_may_stand(pattern: bool, bytes: &[u8]) -> bool
+    ensures { result ≡ list_all (may_stand pattern) bytes.now }
+{
+    bytes.iter().all(|byte| may_stand(pattern, *byte))
+}
+
+fn is_part(pattern: bool, part: &str) -> bool
+    ensures { result ≡ is_part pattern part.now }
+{
+    let empty = part.is_empty();
+    let dots = part == "." || part == "..";
+    !empty && !dots && all_may_stand(pattern, part.as_bytes())
+}
+
+fn all_names(pattern: bool, text: &str) -> bool
+    ensures { result ≡ list_all (is_part pattern) (slice_split (λ b. b == 124) text.now) }
+{
+    text.split('|').all(|part| is_part(pattern, part))
+}
+
+/// Whether a text is a long name, or a short and a long one joined by `|`.
+pub fn is_name(pattern: bool, text: &str) -> bool
+    ensures { result ≡ is_name pattern text.now }
+{
+    count_parts(text, b'|') <= 2 && all_names(pattern, text)
+}
+
+fn is_folder_name(text: &str) -> bool
+    ensures { result ≡ is_folder_name text.now }
+{
+    text == "." || is_name(false, text)
+}
+
+fn all_folder_names(text: &str) -> bool
+    ensures { result ≡ list_all is_folder_name (slice_split (λ b. b == 58) text.now) }
+{
+    text.split(':').all(|part| is_folder_name(part))
+}
+
+/// Whether a text is `target:source`, or one name for both.
+pub fn is_default_dir(text: &str) -> bool
+    ensures { result ≡ is_default_dir text.now }
+{
+    count_parts(text, b':') <= 2 && all_folder_names(text)
+}
+
+fn all_digits(bytes: &[u8]) -> bool
+    ensures { result ≡ list_all is_digit bytes.now }
+{
+    bytes.iter().all(|byte| byte.is_ascii_digit())
+}
+
+/// Whether a text is decimal digits.
+pub fn is_decimal(text: &str) -> bool
+    ensures { result ≡ is_decimal text.now }
+{
+    !text.is_empty() && all_digits(text.as_bytes())
+}
+
+/// Whether digits, at least one, spell a number up to a limit.
+fn is_number_within(digits: &[u8], limit: u32) -> bool
+    ensures { result ≡ is_some (number_within limit digits.now) }
+{
+    if digits.is_empty() {
+        return false;
+    }
+    let mut number = 0u64;
+    for digit in digits {
+        if !digit.is_ascii_digit() {
+            return false;
+        }
+        number = number * 10 + u64::from(*digit - b'0');
+        if number > u64::from(limit) {
+            return false;
+        }
+    }
+    true
+}
+
+fn is_language(text: &str) -> bool
+    ensures { result ≡ is_language text.now }
+{
+    is_number_within(text.as_bytes(), 65535)
+}
+
+fn all_languages(text: &str) -> bool
+    ensures { result ≡ list_all is_language (slice_split (λ b. b == 44) text.now) }
+{
+    text.split(',').all(|part| is_language(part))
+}
+
+/// Whether a text is at most 65,535 numbers up to 65535, joined by `,`.
+pub fn are_languages(text: &str) -> bool
+    ensures { result ≡ are_languages text.now }
+{
+    count_parts(text, b',') <= 65535 && all_languages(text)
+}
+
+/// Whether a text is a code that isn't all zeros.
+fn is_product_code(text: &str) -> bool
+    ensures { result ≡ is_product_code text.now }
+{
+    match Guid::read(text) {
+        Ok(code) => code.number != 0,
+        Err(_) => false,
+    }
+}
+
+/// Whether a text is a version.
+pub fn is_version(text: &str) -> bool
+    ensures { result ≡ is_some (version_of text.now) }
+{
+    Version::read(text).is_ok()
+}
+
+/// Whether a property may have this value.
+pub fn is_value_of(name: &str, text: &str) -> bool
+    ensures { result ≡ is_value_of name.now text.now }
+{
+    match name {
+        "ProductCode" => is_product_code(text),
+        "ProductVersion" => is_version(text),
+        "ProductLanguage" => is_language(text),
+        _ => true,
+    }
+}
