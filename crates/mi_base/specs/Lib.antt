@@ -6,6 +6,7 @@ pub mod Reading
 pub mod Records
 pub mod SpelledMaps
 pub mod Machine
+pub mod System
 pub use Rattle.mi_text.specs.Bytes
 pub use Rattle.mi_text.specs.Fold
 pub use Rattle.mi_text.specs.Guid
