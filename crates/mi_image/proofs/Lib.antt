@@ -7,4 +7,5 @@ pub mod PrefixLemmas
 pub mod RankLemmas
 pub mod ReadLemmas
 pub mod ScanLemmas
+pub mod SystemLemmas
 pub mod UnderLemmas

@@ -9,13 +9,13 @@ use Rattle.std.specs.BTreeMap.{BTreeMap}
 use Rattle.std.specs.BTreeMap as tree
 use Rattle.std.specs.List.{starts_with, filter_map, cons_option, AllByRecursion}
 use Rattle.std.specs.FinMap as fin
-use Rattle.std.specs.FinMap.{get, entries, is_sorted, get-entries, entries_sorted}
+use Rattle.std.specs.FinMap.{entries, is_sorted, get-entries, entries_sorted}
 use Rattle.std.specs.FinMap.Entries.{below_all}
 use Rattle.std.proofs.lemmas.Bool.{eqb-true, ltb-true}
 use Rattle.mi_text.specs.Fold.{folded}
 use Rattle.mi_text.specs.Guid.{guid_text}
 use Rattle.mi_text.specs.Path.{is_folder_path}
-use Rattle.mi_text.specs.Maps.{Name, Map, name_cmp, same_name}
+use Rattle.mi_text.specs.Maps.{Name, Map, name_cmp}
 use Rattle.mi_text.proofs.ByteLemmas.{both}
 use Rattle.mi_text.proofs.MapLemmas.{same_itself, entries-map_values}
 use Rattle.mi_base.specs.declared.entry.Client.{Client}
@@ -49,7 +49,7 @@ each_found P (e ∷ es) sorted h =
       each_found P es parts.1 (λ q x at. h q x (ap (λ (b : Bool). cond b (Some e.1) (fin.find name_cmp q es)) (apart e.0 q (head_first e.0 q es x parts.0 at)) ∙ at)),
     )
 
-each_right : (items : Items) → AreRight items → AllByRecursion (λ e. MayStand e.0 e.1) (entries items)
+pub each_right : (items : Items) → AreRight items → AllByRecursion (λ e. MayStand e.0 e.1) (entries items)
 each_right items right = each_found MayStand (entries items) (true_of _ (entries_sorted items)) (λ q i at. right q i (get-entries items q ∙ at))
 
 -- one entry by one: those that pass the test give what is picked of them, and the others nothing

@@ -90,6 +90,25 @@ fn variables_clients_and_products_are_found(rt: HostRuntime) -> Result<(), Fail>
     Ok(())
 }
 
+#[test]
+fn a_held_property_of_the_system_stands_alone(rt: HostRuntime) -> Result<(), Fail> {
+    let image = scanned(rt.alloc(), &MACHINE)?;
+    assert_eq!(rt; image.system("VersionNT"), Some("601"));
+    assert!(rt; image.system("TempFolder").is_none());
+    Ok(())
+}
+
+#[test]
+fn where_no_property_of_the_system_is_held_the_defaults_are_read(
+    rt: HostRuntime,
+) -> Result<(), Fail> {
+    let image = scanned(rt.alloc(), &MACHINE[..9])?;
+    assert_eq!(rt; image.system("VersionNT"), Some("603"));
+    assert_eq!(rt; image.system("TempFolder"), Some("C:\\Temp\\"));
+    assert!(rt; image.system("versionNT").is_none());
+    Ok(())
+}
+
 /// Whether a volume with this name beside an empty machine is refused by the name.
 fn is_bad(alloc: Global, name: &str, bytes: &[u8]) -> Result<bool, Fail> {
     let mut vol = holding(alloc, &[(name, bytes), ("z/behind", b"")])?;
