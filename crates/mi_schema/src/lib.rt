@@ -11,6 +11,7 @@ mod file;
 mod form;
 mod held;
 mod load;
+mod package;
 mod place;
 mod property;
 mod read;
@@ -21,12 +22,15 @@ mod seen;
 mod table;
 mod tables;
 mod text;
+mod typed_rows;
 
 pub use cell::{Cell, Row};
 pub use content::Content;
 pub use error::LoadError;
 pub use held::Rows;
 pub use load::load_content;
+pub use package::Package;
+pub use typed_rows::*;
 
 #[cfg(test)]
 mod tests;
