@@ -12,6 +12,7 @@ pub mod Read
 pub mod Reads
 pub mod Rows
 pub mod Seen
+pub mod Suits
 pub mod Tables
 pub mod Texts
 pub mod Typed
