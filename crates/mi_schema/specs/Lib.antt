@@ -5,11 +5,16 @@ pub mod Described
 pub mod Files
 pub mod Held
 pub mod Keys
+pub mod Lawful
 pub mod Loaded
+pub mod Package
 pub mod Read
 pub mod Reads
 pub mod Rows
 pub mod Seen
+pub mod Suits
 pub mod Tables
 pub mod Texts
+pub mod Typed
+pub mod TypedRows
 pub mod Values

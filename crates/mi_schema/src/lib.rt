@@ -11,6 +11,7 @@ mod file;
 mod form;
 mod held;
 mod load;
+mod package;
 mod place;
 mod property;
 mod read;
@@ -21,12 +22,20 @@ mod seen;
 mod table;
 mod tables;
 mod text;
+mod typed_rows;
 
 pub use cell::{Cell, Row};
 pub use content::Content;
 pub use error::LoadError;
 pub use held::Rows;
 pub use load::load_content;
+pub use package::Package;
+pub use typed_rows::{
+    ComponentRow, ConditionRow, CreateFolderRow, CustomActionRow, DirectoryRow, DuplicateFileRow,
+    EnvironmentRow, FeatureComponentsRow, FeatureRow, FileRow, InstallExecuteSequenceRow,
+    LaunchConditionRow, MsiFileHashRow, PropertyRow, RegistryRow, RemoveFileRow, RemoveRegistryRow,
+    ShortcutRow, SummaryInformationRow, UpgradeRow,
+};
 
 #[cfg(test)]
 mod tests;
