@@ -1,3 +1,5 @@
+pub mod CellLaws
+pub mod ChainLaws
 pub mod CheckLemmas
 pub mod ColumnLemmas
 pub mod ConditionLaws
@@ -8,7 +10,9 @@ pub mod KeyLemmas
 pub mod ListLemmas
 pub mod LoadLemmas
 pub mod NumberLaws
+pub mod PackageLaws
 pub mod PlaceLemmas
+pub mod ReferenceLaws
 pub mod RowLemmas
 pub mod SuitLemmas
 pub mod TableLemmas

@@ -6,6 +6,7 @@ pub mod Files
 pub mod Held
 pub mod Keys
 pub mod Lawful
+pub mod Laws
 pub mod Loaded
 pub mod Package
 pub mod Read

@@ -10,6 +10,7 @@ mod error;
 mod file;
 mod form;
 mod held;
+mod laws;
 mod load;
 mod package;
 mod place;
@@ -28,6 +29,7 @@ pub use cell::{Cell, Row};
 pub use content::Content;
 pub use error::LoadError;
 pub use held::Rows;
+pub use laws::{keys_stand, parents_end, references_stand};
 pub use load::load_content;
 pub use package::Package;
 pub use typed_rows::{

@@ -1,0 +1,235 @@
+-- The laws of a lawful package, table by table.
+use Rattle.std.proofs.Common.{◌≡◌, ◌&&◌, ◌||◌, not, ℕ, ◌<◌, Bool, true, false, cond, List, [], length, get_or, Option, Some, None, is_some, Ok, refl, sym, ap, subst, ◌∙◌, arith}
+use Rattle.std.specs.Prelude.{nat_lt, IfSome, Contains, All, bit_and, ◌==◌, unwrap_or}
+use Rattle.std.specs.Option.{option_map_or}
+use Rattle.std.specs.Map.{keys_of as keys_in}
+use Rattle.std.proofs.lemmas.Bool.Decides.{nat_tests}
+use Rattle.mi_text.specs.Maps.{Name}
+use Rattle.mi_text.specs.Version.{version_of}
+use Rattle.mi_base.specs.declared.answers.Fault.{Fault}
+use Rattle.mi_cond.specs.Texts.{IsRead}
+use Rattle.mi_schema.specs.declared.cell.Cell.{Cell}
+use Rattle.mi_schema.specs.declared.cell.Cell.TheVariants as cell
+use Rattle.mi_schema.specs.declared.column.Kind.TheVariants as kind
+use Rattle.mi_schema.specs.declared.column.Target.TheVariants as of
+use Rattle.mi_schema.specs.declared.package.Package.{Package}
+use Rattle.mi_schema.specs.Checks.{Content, rows_at, target_table, targets_of, key_path_target, is_key_or_null, chain_fault, cycle_fault, cycles_fault, companion_of, parent_key}
+use Rattle.mi_schema.specs.Conditions.{condition_of, IsCondition}
+use Rattle.mi_schema.specs.Laws.{EachRow, IsKeyOf, KeysStand, ReferencesStand, ParentsEnd, key_paths, sets_directory, parent_of_directory}
+use Rattle.mi_schema.specs.Lawful.{AreTables, IsLawful}
+use Rattle.mi_schema.specs.Package.{IsPackage, keyed}
+use Rattle.mi_schema.specs.Rows.{◌or_else◌, keys_of}
+use Rattle.mi_schema.specs.Tables.{Table, tables, component, condition, create_folder, custom_action, directory, duplicate_file, environment, feature, feature_components, file, install_execute_sequence, launch_condition, msi_file_hash, property, registry, remove_file, remove_registry, shortcut, summary_information, upgrade}
+use Rattle.mi_schema.specs.Suits.{suits}
+use Rattle.mi_schema.specs.Typed.{condition_in}
+use Rattle.mi_schema.specs.TypedRows.{component_row, component_key, condition_row, condition_key, create_folder_row, create_folder_key, custom_action_row, custom_action_key, directory_row, directory_key, duplicate_file_row, duplicate_file_key, environment_row, environment_key, feature_row, feature_key, feature_components_row, feature_components_key, file_row, file_key, install_execute_sequence_row, install_execute_sequence_key, launch_condition_row, launch_condition_key, msi_file_hash_row, msi_file_hash_key, property_row, property_key, registry_row, registry_key, remove_file_row, remove_file_key, remove_registry_row, remove_registry_key, shortcut_row, shortcut_key, summary_information_row, summary_information_key, upgrade_row, upgrade_key}
+use Rattle.mi_schema.specs.Values.{Row, cell_at, text_in, text_at, number_in, lacks, is_root, is_key_in}
+use Rattle.mi_schema.proofs.CellLaws.{IsKnown, IsRight, OfKind, value_at, right_parts}
+use Rattle.mi_schema.proofs.ChainLaws.{chains_end}
+use Rattle.mi_schema.proofs.ConditionLaws.{conditions_are}
+use Rattle.mi_schema.proofs.ReferenceLaws.{each_keyed, keys_keyed, row_names, row_may_name, meets_rule, suits_here, stands_here, key_here, if_named, source_named, column_at}
+use Rattle.mi_schema.proofs.SuitLemmas.{or_none}
+
+-- ---- the tables of the list
+
+pub component_known : IsKnown component
+unfolding tables
+component_known = record { below = grind (arith, nat_tests); there = refl }
+
+pub condition_known : IsKnown condition
+unfolding tables
+condition_known = record { below = grind (arith, nat_tests); there = refl }
+
+pub create_folder_known : IsKnown create_folder
+unfolding tables
+create_folder_known = record { below = grind (arith, nat_tests); there = refl }
+
+pub custom_action_known : IsKnown custom_action
+unfolding tables
+custom_action_known = record { below = grind (arith, nat_tests); there = refl }
+
+pub directory_known : IsKnown directory
+unfolding tables
+directory_known = record { below = grind (arith, nat_tests); there = refl }
+
+pub duplicate_file_known : IsKnown duplicate_file
+unfolding tables
+duplicate_file_known = record { below = grind (arith, nat_tests); there = refl }
+
+pub environment_known : IsKnown environment
+unfolding tables
+environment_known = record { below = grind (arith, nat_tests); there = refl }
+
+pub feature_known : IsKnown feature
+unfolding tables
+feature_known = record { below = grind (arith, nat_tests); there = refl }
+
+pub feature_components_known : IsKnown feature_components
+unfolding tables
+feature_components_known = record { below = grind (arith, nat_tests); there = refl }
+
+pub file_known : IsKnown file
+unfolding tables
+file_known = record { below = grind (arith, nat_tests); there = refl }
+
+pub install_execute_sequence_known : IsKnown install_execute_sequence
+unfolding tables
+install_execute_sequence_known = record { below = grind (arith, nat_tests); there = refl }
+
+pub launch_condition_known : IsKnown launch_condition
+unfolding tables
+launch_condition_known = record { below = grind (arith, nat_tests); there = refl }
+
+pub msi_file_hash_known : IsKnown msi_file_hash
+unfolding tables
+msi_file_hash_known = record { below = grind (arith, nat_tests); there = refl }
+
+pub property_known : IsKnown property
+unfolding tables
+property_known = record { below = grind (arith, nat_tests); there = refl }
+
+pub registry_known : IsKnown registry
+unfolding tables
+registry_known = record { below = grind (arith, nat_tests); there = refl }
+
+pub remove_file_known : IsKnown remove_file
+unfolding tables
+remove_file_known = record { below = grind (arith, nat_tests); there = refl }
+
+pub remove_registry_known : IsKnown remove_registry
+unfolding tables
+remove_registry_known = record { below = grind (arith, nat_tests); there = refl }
+
+pub shortcut_known : IsKnown shortcut
+unfolding tables
+shortcut_known = record { below = grind (arith, nat_tests); there = refl }
+
+pub summary_information_known : IsKnown summary_information
+unfolding tables
+summary_information_known = record { below = grind (arith, nat_tests); there = refl }
+
+pub upgrade_known : IsKnown upgrade
+unfolding tables
+upgrade_known = record { below = grind (arith, nat_tests); there = refl }
+
+-- ---- parts
+
+-- the condition of a row that its key column reads as
+condition_read : (x : Option Cell) → suits (column_at launch_condition 0) x ≡ true → OfKind x kind.Condition → IsRead (unwrap_or (text_in x) []) (condition_in x)
+condition_read None on is = let wrong : false ≡ true = on in absurd cc
+condition_read (Some (cell.Condition text tree)) on is = subst (λ r. IsCondition r text) is (conditions_are text)
+condition_read (Some (cell.Text text)) on is = let wrong : false ≡ true = on in absurd cc
+condition_read (Some (cell.Integer z)) on is = let wrong : false ≡ true = on in absurd cc
+condition_read (Some (cell.Code code)) on is = let wrong : false ≡ true = on in absurd cc
+
+key_path : (content : Content) (x : Option Cell) (b : Bool) (files values : List Name) → files ≡ targets_of content of.File → values ≡ targets_of content of.Registry → is_key_or_null (targets_of content (cond b of.File of.Registry)) x ≡ true → IfSome (text_in x) (Contains (cond b files values))
+key_path content x true files values f v e = if_named files x (ap (λ (ks : List Name). is_key_or_null ks x) f ∙ e)
+key_path content x false files values f v e = if_named values x (ap (λ (ks : List Name). is_key_or_null ks x) v ∙ e)
+
+known_key : (keys : List Name) (o : Option Name) → ((q : Name) → o ≡ Some q → is_key_in keys q ≡ true) → IfSome o (λ q. is_key_in keys q ≡ true)
+known_key keys None h = tt
+known_key keys (Some q) h = h q refl
+
+below_root : (keys : List Name) (b : Bool) (o : Option Name) → ((q : Name) → o ≡ Some q → is_key_in keys q ≡ true) → IfSome (cond b None o) (λ q. is_key_in keys q ≡ true)
+below_root keys true o h = tt
+below_root keys false o h = known_key keys o h
+
+pub companion : (keys : List Name) (o : Option (List ℕ)) → option_map_or (λ text. is_some (version_of text) || is_key_in keys text) o true ≡ true → IfSome (companion_of o) (λ q. is_key_in keys q ≡ true)
+companion keys None e = tt
+companion keys (Some text) e = elim (is_some (version_of text)) as (λ b. (b || is_key_in keys text) ≡ true → IfSome (cond b None (Some text)) (λ q. is_key_in keys q ≡ true)) [ true ↦ λ h. tt | false ↦ λ h. h ] e
+
+pub record NoCycles (content : Content) : Type 0 where
+  pub directory : chain_fault of.Directory (rows_at content directory) ≡ None
+  pub feature : chain_fault of.Feature (rows_at content feature) ≡ None
+  pub file : chain_fault of.File (rows_at content file) ≡ None
+
+no_cycles : (content : Content) → cycles_fault content ≡ None → NoCycles content
+no_cycles content e =
+    let first = or_none (cycle_fault content of.Directory) (cycle_fault content of.Feature or_else cycle_fault content of.File or_else None) e in
+    let second = or_none (cycle_fault content of.Feature) (cycle_fault content of.File or_else None) first.1 in
+    let third = or_none (cycle_fault content of.File) None second.1 in
+    record { directory = first.0; feature = second.0; file = third.0 }
+
+-- ---- the laws
+
+module _ (p : Package) (lawful : IsLawful p) where
+  abbrev content : Content
+  content = lawful.content
+
+  abbrev is : IsPackage p content
+  is = lawful.is
+
+  abbrev are : AreTables tables content
+  are = lawful.are_tables
+
+  right : IsRight content
+  right = right_parts content lawful.right
+
+  pub keys_stand : KeysStand p
+  keys_stand = record {
+    component = each_keyed component_key component_row (λ e. e.0 ≡ e.1.component) (rows_at content component) p.component.entries is.component (λ n lt. refl);
+    condition = each_keyed condition_key condition_row (λ e. e.0 ≡ (e.1.feature, e.1.level)) (rows_at content condition) p.condition.entries is.condition (λ n lt. refl);
+    create_folder = each_keyed create_folder_key create_folder_row (λ e. e.0 ≡ (e.1.directory, e.1.component)) (rows_at content create_folder) p.create_folder.entries is.create_folder (λ n lt. refl);
+    custom_action = each_keyed custom_action_key custom_action_row (λ e. e.0 ≡ e.1.action) (rows_at content custom_action) p.custom_action.entries is.custom_action (λ n lt. refl);
+    directory = each_keyed directory_key directory_row (λ e. e.0 ≡ e.1.directory) (rows_at content directory) p.directory.entries is.directory (λ n lt. refl);
+    duplicate_file = each_keyed duplicate_file_key duplicate_file_row (λ e. e.0 ≡ e.1.file_key) (rows_at content duplicate_file) p.duplicate_file.entries is.duplicate_file (λ n lt. refl);
+    environment = each_keyed environment_key environment_row (λ e. e.0 ≡ e.1.environment) (rows_at content environment) p.environment.entries is.environment (λ n lt. refl);
+    feature = each_keyed feature_key feature_row (λ e. e.0 ≡ e.1.feature) (rows_at content feature) p.feature.entries is.feature (λ n lt. refl);
+    feature_components = each_keyed feature_components_key feature_components_row (λ e. e.0 ≡ (e.1.feature, e.1.component)) (rows_at content feature_components) p.feature_components.entries is.feature_components (λ n lt. refl);
+    file = each_keyed file_key file_row (λ e. e.0 ≡ e.1.file) (rows_at content file) p.file.entries is.file (λ n lt. refl);
+    install_execute_sequence = each_keyed install_execute_sequence_key install_execute_sequence_row (λ e. e.0 ≡ e.1.action) (rows_at content install_execute_sequence) p.install_execute_sequence.entries is.install_execute_sequence (λ n lt. refl);
+    launch_condition = each_keyed launch_condition_key launch_condition_row (λ e. IsRead e.0 e.1.condition) (rows_at content launch_condition) p.launch_condition.entries is.launch_condition (λ n lt.
+        condition_read (value_at (rows_at content launch_condition) n 0) (suits_here content are launch_condition launch_condition_known 0 n lt refl) (stands_here content are launch_condition launch_condition_known 0 n lt refl).1);
+    msi_file_hash = each_keyed msi_file_hash_key msi_file_hash_row (λ e. e.0 ≡ e.1.file) (rows_at content msi_file_hash) p.msi_file_hash.entries is.msi_file_hash (λ n lt. refl);
+    property = each_keyed property_key property_row (λ e. e.0 ≡ e.1.property) (rows_at content property) p.property.entries is.property (λ n lt. refl);
+    registry = each_keyed registry_key registry_row (λ e. e.0 ≡ e.1.registry) (rows_at content registry) p.registry.entries is.registry (λ n lt. refl);
+    remove_file = each_keyed remove_file_key remove_file_row (λ e. e.0 ≡ e.1.file_key) (rows_at content remove_file) p.remove_file.entries is.remove_file (λ n lt. refl);
+    remove_registry = each_keyed remove_registry_key remove_registry_row (λ e. e.0 ≡ e.1.remove_registry) (rows_at content remove_registry) p.remove_registry.entries is.remove_registry (λ n lt. refl);
+    shortcut = each_keyed shortcut_key shortcut_row (λ e. e.0 ≡ e.1.shortcut) (rows_at content shortcut) p.shortcut.entries is.shortcut (λ n lt. refl);
+    summary_information = each_keyed summary_information_key summary_information_row (λ e. e.0 ≡ e.1.property_id) (rows_at content summary_information) p.summary_information.entries is.summary_information (λ n lt. refl);
+    upgrade = each_keyed upgrade_key upgrade_row (λ e. e.0 ≡ (e.1.upgrade_code, e.1.version_min, e.1.version_max, e.1.language, e.1.attributes)) (rows_at content upgrade) p.upgrade.entries is.upgrade (λ n lt. refl);
+  }
+
+  pub references_stand : ReferencesStand p
+  references_stand = record {
+    component_directory = row_names content are right.refer component_key component_row directory_row component component_known 2 of.Directory p.component.entries is.component p.directory.entries is.directory (refl, refl, refl) (λ r. r.directory) (λ r. refl);
+    condition_feature = row_names content are right.refer condition_key condition_row feature_row condition condition_known 0 of.Feature p.condition.entries is.condition p.feature.entries is.feature (refl, refl, refl) (λ r. r.feature) (λ r. refl);
+    create_folder_directory = row_names content are right.refer create_folder_key create_folder_row directory_row create_folder create_folder_known 0 of.Directory p.create_folder.entries is.create_folder p.directory.entries is.directory (refl, refl, refl) (λ r. r.directory) (λ r. refl);
+    create_folder_component = row_names content are right.refer create_folder_key create_folder_row component_row create_folder create_folder_known 1 of.Component p.create_folder.entries is.create_folder p.component.entries is.component (refl, refl, refl) (λ r. r.component) (λ r. refl);
+    directory_parent = row_may_name content are right.refer directory_key directory_row directory_row directory directory_known 1 of.Directory p.directory.entries is.directory p.directory.entries is.directory (refl, refl, refl) (λ r. r.directory_parent) (λ r. refl);
+    duplicate_file_component = row_names content are right.refer duplicate_file_key duplicate_file_row component_row duplicate_file duplicate_file_known 1 of.Component p.duplicate_file.entries is.duplicate_file p.component.entries is.component (refl, refl, refl) (λ r. r.component) (λ r. refl);
+    duplicate_file_file = row_names content are right.refer duplicate_file_key duplicate_file_row file_row duplicate_file duplicate_file_known 2 of.File p.duplicate_file.entries is.duplicate_file p.file.entries is.file (refl, refl, refl) (λ r. r.file) (λ r. refl);
+    environment_component = row_names content are right.refer environment_key environment_row component_row environment environment_known 3 of.Component p.environment.entries is.environment p.component.entries is.component (refl, refl, refl) (λ r. r.component) (λ r. refl);
+    feature_parent = row_may_name content are right.refer feature_key feature_row feature_row feature feature_known 1 of.Feature p.feature.entries is.feature p.feature.entries is.feature (refl, refl, refl) (λ r. r.feature_parent) (λ r. refl);
+    feature_components_feature = row_names content are right.refer feature_components_key feature_components_row feature_row feature_components feature_components_known 0 of.Feature p.feature_components.entries is.feature_components p.feature.entries is.feature (refl, refl, refl) (λ r. r.feature) (λ r. refl);
+    feature_components_component = row_names content are right.refer feature_components_key feature_components_row component_row feature_components feature_components_known 1 of.Component p.feature_components.entries is.feature_components p.component.entries is.component (refl, refl, refl) (λ r. r.component) (λ r. refl);
+    file_component = row_names content are right.refer file_key file_row component_row file file_known 1 of.Component p.file.entries is.file p.component.entries is.component (refl, refl, refl) (λ r. r.component) (λ r. refl);
+    msi_file_hash_file = row_names content are right.refer msi_file_hash_key msi_file_hash_row file_row msi_file_hash msi_file_hash_known 0 of.File p.msi_file_hash.entries is.msi_file_hash p.file.entries is.file (refl, refl, refl) (λ r. r.file) (λ r. refl);
+    registry_component = row_names content are right.refer registry_key registry_row component_row registry registry_known 5 of.Component p.registry.entries is.registry p.component.entries is.component (refl, refl, refl) (λ r. r.component) (λ r. refl);
+    remove_file_component = row_names content are right.refer remove_file_key remove_file_row component_row remove_file remove_file_known 1 of.Component p.remove_file.entries is.remove_file p.component.entries is.component (refl, refl, refl) (λ r. r.component) (λ r. refl);
+    remove_registry_component = row_names content are right.refer remove_registry_key remove_registry_row component_row remove_registry remove_registry_known 4 of.Component p.remove_registry.entries is.remove_registry p.component.entries is.component (refl, refl, refl) (λ r. r.component) (λ r. refl);
+    shortcut_directory = row_names content are right.refer shortcut_key shortcut_row directory_row shortcut shortcut_known 1 of.Directory p.shortcut.entries is.shortcut p.directory.entries is.directory (refl, refl, refl) (λ r. r.directory) (λ r. refl);
+    shortcut_component = row_names content are right.refer shortcut_key shortcut_row component_row shortcut shortcut_known 3 of.Component p.shortcut.entries is.shortcut p.component.entries is.component (refl, refl, refl) (λ r. r.component) (λ r. refl);
+    component_key_path = each_keyed component_key component_row (λ e. IfSome e.1.key_path (Contains (key_paths p e.1))) (rows_at content component) p.component.entries is.component (λ n lt.
+        key_path content (value_at (rows_at content component) n 5) (lacks 4 (number_in (value_at (rows_at content component) n 3))) (keys_in p.file.entries) (keys_in p.registry.entries)
+        (keys_keyed file_key file_row (rows_at content file) p.file.entries is.file) (keys_keyed registry_key registry_row (rows_at content registry) p.registry.entries is.registry)
+        (meets_rule content are right.refer component component_known 5 n lt refl));
+    custom_action_source = each_keyed custom_action_key custom_action_row (λ e. sets_directory e.1.kind ≡ true → (dir : Name) × (e.1.source ≡ Some dir) × IsKeyOf p.directory.entries dir) (rows_at content custom_action) p.custom_action.entries is.custom_action (λ n lt sets.
+        let x : Option Cell = value_at (rows_at content custom_action) n 2 in
+        let some : (is_some x && is_key_or_null (targets_of content of.Directory) x) ≡ true = sym (ap (λ b. not b || (is_some x && is_key_or_null (targets_of content of.Directory) x)) sets) ∙ meets_rule content are right.refer custom_action custom_action_known 2 n lt refl in
+        let source = source_named (targets_of content of.Directory) (column_at custom_action 2) x refl (suits_here content are custom_action custom_action_known 2 n lt refl) some in
+        (source.0, source.1, subst (λ (ks : List Name). Contains ks source.0) (sym (keys_keyed directory_key directory_row (rows_at content directory) p.directory.entries is.directory)) source.2));
+  }
+
+  pub parents_end : ParentsEnd p
+  parents_end = record {
+    directory = chains_end directory_row of.Directory parent_of_directory (λ r. refl) (rows_at content directory)
+        (λ n lt. below_root (targets_of content of.Directory) (is_root (get_or (rows_at content directory) n [])) (text_in (value_at (rows_at content directory) n 1)) (λ q e. key_here content are right.refer directory directory_known 1 n lt of.Directory q (refl, refl, refl) e))
+        (no_cycles content right.chains).directory p.directory.entries is.directory;
+    feature = chains_end feature_row of.Feature (λ r. r.feature_parent) (λ r. refl) (rows_at content feature)
+        (λ n lt. known_key (targets_of content of.Feature) (text_in (value_at (rows_at content feature) n 1)) (λ q e. key_here content are right.refer feature feature_known 1 n lt of.Feature q (refl, refl, refl) e))
+        (no_cycles content right.chains).feature p.feature.entries is.feature;
+    file = chains_end file_row of.File (λ r. companion_of r.version) (λ r. refl) (rows_at content file)
+        (λ n lt. companion (keys_of (rows_at content file)) (text_in (value_at (rows_at content file) n 4)) (stands_here content are file file_known 4 n lt refl).0)
+        (no_cycles content right.chains).file p.file.entries is.file;
+  }

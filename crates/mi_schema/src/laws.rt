@@ -1,0 +1,24 @@
+//! Laws of lawful packages, which the crates above may use.
+
+ghost use Rattle.mi_schema.specs.Lawful.{IsLawful};
+ghost use Rattle.mi_schema.specs.Laws.{KeysStand, ReferencesStand, ParentsEnd};
+
+use crate::package::Package;
+
+/// The key of each row is what the row has in its key columns.
+pub fn keys_stand(loaded: &Package)
+    requires lawful { IsLawful loaded.now }
+    ensures { KeysStand loaded.now }
+{}
+
+/// Each row that a row names is there.
+pub fn references_stand(loaded: &Package)
+    requires lawful { IsLawful loaded.now }
+    ensures { ReferencesStand loaded.now }
+{}
+
+/// From each row of Directory, Feature and File its parents lead to a row without one.
+pub fn parents_end(loaded: &Package)
+    requires lawful { IsLawful loaded.now }
+    ensures { ParentsEnd loaded.now }
+{}
