@@ -58,7 +58,7 @@ parent_of_row f (r ∷ rows) zero lt = refl
 parent_of_row f (r ∷ rows) (suc n) lt = parent_of_row f rows n (omega arith)
 
 -- the first row of a key
-found_first : (rows : List Row) (q : Name) → is_key_in (keys_of rows) q ≡ true → (j : ℕ) × (row_with (keys_of rows) q ≡ Some j) × (j < length rows) × (text_at (get_or rows j []) 0 ≡ q)
+pub found_first : (rows : List Row) (q : Name) → is_key_in (keys_of rows) q ≡ true → (j : ℕ) × (row_with (keys_of rows) q ≡ Some j) × (j < length rows) × (text_at (get_or rows j []) 0 ≡ q)
 found_first [] q e = cc
 found_first (r ∷ rows) q e = elim (cases_Bool (same_name q (text_at r 0))) [
   | inl same ↦ (0, ap (λ b. cond b (Some 0) (option_map suc (row_with (keys_of rows) q))) same, omega arith, sym (from_same q (text_at r 0) same))

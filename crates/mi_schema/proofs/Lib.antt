@@ -17,3 +17,4 @@ pub mod RowLemmas
 pub mod SuitLemmas
 pub mod TableLemmas
 pub mod TopLemmas
+pub mod ValueLaws

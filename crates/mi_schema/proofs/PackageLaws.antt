@@ -1,33 +1,38 @@
 -- The laws of a lawful package, table by table.
-use Rattle.std.proofs.Common.{◌≡◌, ◌&&◌, ◌||◌, not, ℕ, ◌<◌, Bool, true, false, cond, List, [], length, get_or, Option, Some, None, is_some, Ok, refl, sym, ap, subst, ◌∙◌, arith}
-use Rattle.std.specs.Prelude.{nat_lt, IfSome, Contains, All, bit_and, ◌==◌, unwrap_or}
+use Rattle.std.proofs.Common.{◌≡◌, ◌⊎◌, ◌&&◌, ◌||◌, not, ℕ, pos, negsuc, ◌<◌, Bool, true, false, cond, List, [], length, take, get_or, Option, Some, None, is_some, Ok, refl, sym, ap, subst, ◌∙◌, arith, inl, inr}
+use Rattle.std.specs.Prelude.{nat_lt, IfSome, Contains, All, AllPairs, bit_and, ◌==◌, unwrap_or, codes}
 use Rattle.std.specs.Option.{option_map_or}
+use Rattle.std.specs.List.{list_any}
 use Rattle.std.specs.Map.{keys_of as keys_in}
 use Rattle.std.proofs.lemmas.Bool.Decides.{nat_tests}
 use Rattle.mi_text.specs.Maps.{Name}
+use Rattle.mi_text.specs.PropertyNames.{is_property_name}
 use Rattle.mi_text.specs.Version.{version_of}
 use Rattle.mi_base.specs.declared.answers.Fault.{Fault}
+use Rattle.mi_base.specs.declared.answers.Fault.TheVariants.{MissingProperty}
 use Rattle.mi_cond.specs.Texts.{IsRead}
 use Rattle.mi_schema.specs.declared.cell.Cell.{Cell}
 use Rattle.mi_schema.specs.declared.cell.Cell.TheVariants as cell
 use Rattle.mi_schema.specs.declared.column.Kind.TheVariants as kind
 use Rattle.mi_schema.specs.declared.column.Target.TheVariants as of
 use Rattle.mi_schema.specs.declared.package.Package.{Package}
-use Rattle.mi_schema.specs.Checks.{Content, rows_at, target_table, targets_of, key_path_target, is_key_or_null, chain_fault, cycle_fault, cycles_fault, companion_of, parent_key}
+use Rattle.mi_schema.specs.Checks.{Content, rows_at, target_table, targets_of, key_path_target, is_key_or_null, chain_fault, cycle_fault, cycles_fault, companion_of, parent_key, first_fault, missing_property}
 use Rattle.mi_schema.specs.Conditions.{condition_of, IsCondition}
-use Rattle.mi_schema.specs.Laws.{EachRow, IsKeyOf, KeysStand, ReferencesStand, ParentsEnd, key_paths, sets_directory, parent_of_directory}
+use Rattle.mi_schema.specs.Laws.{EachRow, IsKeyOf, IsWithin, HasOtherCode, HasProperty, KeysStand, ReferencesStand, ParentsEnd, PropertiesStand, ValuesStand, key_paths, sets_directory, parent_of_directory}
 use Rattle.mi_schema.specs.Lawful.{AreTables, IsLawful}
 use Rattle.mi_schema.specs.Package.{IsPackage, keyed}
 use Rattle.mi_schema.specs.Rows.{◌or_else◌, keys_of}
-use Rattle.mi_schema.specs.Tables.{Table, tables, component, condition, create_folder, custom_action, directory, duplicate_file, environment, feature, feature_components, file, install_execute_sequence, launch_condition, msi_file_hash, property, registry, remove_file, remove_registry, shortcut, summary_information, upgrade}
+use Rattle.mi_schema.specs.Tables.{Table, tables, required_properties, component, condition, create_folder, custom_action, directory, duplicate_file, environment, feature, feature_components, file, install_execute_sequence, launch_condition, msi_file_hash, property, registry, remove_file, remove_registry, shortcut, summary_information, upgrade}
 use Rattle.mi_schema.specs.Suits.{suits}
+use Rattle.mi_schema.specs.Texts.{is_name, is_default_dir, are_languages, is_language, is_product_code, is_value_of}
 use Rattle.mi_schema.specs.Typed.{condition_in}
 use Rattle.mi_schema.specs.TypedRows.{component_row, component_key, condition_row, condition_key, create_folder_row, create_folder_key, custom_action_row, custom_action_key, directory_row, directory_key, duplicate_file_row, duplicate_file_key, environment_row, environment_key, feature_row, feature_key, feature_components_row, feature_components_key, file_row, file_key, install_execute_sequence_row, install_execute_sequence_key, launch_condition_row, launch_condition_key, msi_file_hash_row, msi_file_hash_key, property_row, property_key, registry_row, registry_key, remove_file_row, remove_file_key, remove_registry_row, remove_registry_key, shortcut_row, shortcut_key, summary_information_row, summary_information_key, upgrade_row, upgrade_key}
-use Rattle.mi_schema.specs.Values.{Row, cell_at, text_in, text_at, number_in, lacks, is_root, is_key_in}
+use Rattle.mi_schema.specs.Values.{Row, cell_at, text_in, text_at, number_in, lacks, is_root, is_root_below, is_key_in}
 use Rattle.mi_schema.proofs.CellLaws.{IsKnown, IsRight, OfKind, value_at, right_parts}
-use Rattle.mi_schema.proofs.ChainLaws.{chains_end}
+use Rattle.mi_schema.proofs.ChainLaws.{found_first, chains_end}
 use Rattle.mi_schema.proofs.ConditionLaws.{conditions_are}
-use Rattle.mi_schema.proofs.ReferenceLaws.{each_keyed, keys_keyed, row_names, row_may_name, meets_rule, suits_here, stands_here, key_here, if_named, source_named, column_at}
+use Rattle.mi_schema.proofs.ReferenceLaws.{each_keyed, keys_keyed, row_names, row_may_name, meets_rule, suits_here, stands_here, key_here, if_named, source_named, column_at, key_there, keyed_has, not_null}
+use Rattle.mi_schema.proofs.ValueLaws.{pairs_keyed, any_before, one_root, other_code, text_before, root_before, kind_suits, text_there, passes, if_passes, if_name, if_pattern, within, if_within}
 use Rattle.mi_schema.proofs.SuitLemmas.{or_none}
 
 -- ---- the tables of the list
@@ -150,6 +155,29 @@ no_cycles content e =
     let third = or_none (cycle_fault content of.File) None second.1 in
     record { directory = first.0; feature = second.0; file = third.0 }
 
+default_dir : (root : Bool) (o : Option (List ℕ)) → is_some o ≡ true → (root || option_map_or is_default_dir o true) ≡ true → (root ≡ true) ⊎ (is_default_dir (unwrap_or o []) ≡ true)
+default_dir true o some e = inl refl
+default_dir false None some e = let wrong : false ≡ true = some in absurd cc
+default_dir false (Some text) some e = inr e
+
+key_of_map : (keys held : List Name) → keys ≡ held → (o : Option Name) → IfSome o (λ q. is_key_in keys q ≡ true) → IfSome o (Contains held)
+key_of_map keys held same None h = tt
+key_of_map keys held same (Some q) h = subst (λ (ks : List Name). Contains ks q) same (key_there keys q h)
+
+not_missing : (b : Bool) (name : Name) → cond b None (Some (MissingProperty name)) ≡ None → b ≡ true
+not_missing true name e = refl
+not_missing false name e = cc
+
+all_there : (rows : List Row) → first_fault (missing_property rows) required_properties ≡ None → (missing_property rows (codes "Manufacturer") ≡ None) × (missing_property rows (codes "ProductCode") ≡ None) × (missing_property rows (codes "ProductLanguage") ≡ None) × (missing_property rows (codes "ProductName") ≡ None) × (missing_property rows (codes "ProductVersion") ≡ None)
+all_there rows e =
+    let f : Name → Option Fault = missing_property rows in
+    let one = or_none (f (codes "Manufacturer")) _ e in
+    let two = or_none (f (codes "ProductCode")) _ one.1 in
+    let three = or_none (f (codes "ProductLanguage")) _ two.1 in
+    let four = or_none (f (codes "ProductName")) _ three.1 in
+    let five = or_none (f (codes "ProductVersion")) None four.1 in
+    (one.0, two.0, three.0, four.0, five.0)
+
 -- ---- the laws
 
 module _ (p : Package) (lawful : IsLawful p) where
@@ -233,3 +261,63 @@ module _ (p : Package) (lawful : IsLawful p) where
         (λ n lt. companion (keys_of (rows_at content file)) (text_in (value_at (rows_at content file) n 4)) (stands_here content are file file_known 4 n lt refl).0)
         (no_cycles content right.chains).file p.file.entries is.file;
   }
+
+  value_passes : (n : ℕ) → n < length (rows_at content property) → is_value_of (text_at (get_or (rows_at content property) n []) 0) (text_at (get_or (rows_at content property) n []) 1) ≡ true
+  value_passes n lt =
+      let name : List ℕ = text_at (get_or (rows_at content property) n []) 0 in
+      passes (λ value. is_value_of name value ≡ true) (text_in (value_at (rows_at content property) n 1)) (text_there (column_at property 1) (value_at (rows_at content property) n 1) refl refl (suits_here content are property property_known 1 n lt refl))
+      (if_passes (is_value_of name) (text_in (value_at (rows_at content property) n 1)) (ap (λ (text : List ℕ). option_map_or (is_value_of text) (text_in (value_at (rows_at content property) n 1)) true) (sym (text_before (get_or (rows_at content property) n []))) ∙ (stands_here content are property property_known 1 n lt refl).0))
+
+  pub values_stand : ValuesStand p
+  values_stand = record {
+    component_id = pairs_keyed component_key component_row (λ a b. HasOtherCode a.1.component_id b.1.component_id) (rows_at content component) p.component.entries is.component (λ m n before lt. other_code (rows_at content component) m n before lt (stands_here content are component component_known 1 n lt refl).0);
+    component_attributes = each_keyed component_key component_row (λ e. lacks 97 e.1.attributes ≡ true) (rows_at content component) p.component.entries is.component (λ n lt. (stands_here content are component component_known 3 n lt refl).0);
+    directory_one_root = pairs_keyed directory_key directory_row (λ a b. is_root_below a.1.directory a.1.directory_parent ≡ true → is_root_below b.1.directory b.1.directory_parent ≡ false) (rows_at content directory) p.directory.entries is.directory (λ m n before lt. λ root.
+        ap (λ (text : List ℕ). is_root_below text (text_in (value_at (rows_at content directory) n 1))) (sym (text_before (get_or (rows_at content directory) n [])))
+        ∙ one_root (is_root_below (text_at (take 1 (get_or (rows_at content directory) n [])) 0) (text_in (value_at (rows_at content directory) n 1))) (list_any is_root (take n (rows_at content directory))) (stands_here content are directory directory_known 1 n lt refl).0 (any_before is_root (rows_at content directory) m n before lt root));
+    directory_default_dir = each_keyed directory_key directory_row (λ e. (is_root_below e.1.directory e.1.directory_parent ≡ true) ⊎ (is_default_dir e.1.default_dir ≡ true)) (rows_at content directory) p.directory.entries is.directory (λ n lt.
+        default_dir (is_root (get_or (rows_at content directory) n [])) (text_in (value_at (rows_at content directory) n 2)) (text_there (column_at directory 2) (value_at (rows_at content directory) n 2) refl refl (suits_here content are directory directory_known 2 n lt refl))
+        (ap (λ b. b || option_map_or is_default_dir (text_in (value_at (rows_at content directory) n 2)) true) (sym (root_before (get_or (rows_at content directory) n []))) ∙ (stands_here content are directory directory_known 2 n lt refl).0));
+    duplicate_file_name = each_keyed duplicate_file_key duplicate_file_row (λ e. IfSome e.1.dest_name (λ name. is_name false name ≡ true)) (rows_at content duplicate_file) p.duplicate_file.entries is.duplicate_file (λ n lt. if_name (value_at (rows_at content duplicate_file) n 3) (kind_suits kind.Name (column_at duplicate_file 3) (value_at (rows_at content duplicate_file) n 3) refl (suits_here content are duplicate_file duplicate_file_known 3 n lt refl)) (stands_here content are duplicate_file duplicate_file_known 3 n lt refl).1);
+    file_name = each_keyed file_key file_row (λ e. is_name false e.1.file_name ≡ true) (rows_at content file) p.file.entries is.file (λ n lt.
+        passes (λ name. is_name false name ≡ true) (text_in (value_at (rows_at content file) n 2)) (text_there (column_at file 2) (value_at (rows_at content file) n 2) refl refl (suits_here content are file file_known 2 n lt refl)) (if_name (value_at (rows_at content file) n 2) (kind_suits kind.Name (column_at file 2) (value_at (rows_at content file) n 2) refl (suits_here content are file file_known 2 n lt refl)) (stands_here content are file file_known 2 n lt refl).1));
+    file_size = each_keyed file_key file_row (λ e. IsWithin (pos 0) (pos 2147483647) e.1.file_size) (rows_at content file) p.file.entries is.file (λ n lt. within (pos 0) (pos 2147483647) (value_at (rows_at content file) n 3) (not_null (column_at file 3) (value_at (rows_at content file) n 3) (suits_here content are file file_known 3 n lt refl) refl) (stands_here content are file file_known 3 n lt refl).0);
+    file_version = each_keyed file_key file_row (λ e. IfSome (companion_of e.1.version) (IsKeyOf p.file.entries)) (rows_at content file) p.file.entries is.file (λ n lt.
+        key_of_map (keys_of (rows_at content file)) (keys_in p.file.entries) (sym (keys_keyed file_key file_row (rows_at content file) p.file.entries is.file)) (companion_of (text_in (value_at (rows_at content file) n 4)))
+        (companion (keys_of (rows_at content file)) (text_in (value_at (rows_at content file) n 4)) (stands_here content are file file_known 4 n lt refl).0));
+    file_language = each_keyed file_key file_row (λ e. IfSome e.1.language (λ text. are_languages text ≡ true)) (rows_at content file) p.file.entries is.file (λ n lt. if_passes are_languages (text_in (value_at (rows_at content file) n 5)) (stands_here content are file file_known 5 n lt refl).0);
+    property_name = each_keyed property_key property_row (λ e. is_property_name e.1.property ≡ true) (rows_at content property) p.property.entries is.property (λ n lt.
+        passes (λ name. is_property_name name ≡ true) (text_in (value_at (rows_at content property) n 0)) (text_there (column_at property 0) (value_at (rows_at content property) n 0) refl refl (suits_here content are property property_known 0 n lt refl)) (if_passes is_property_name (text_in (value_at (rows_at content property) n 0)) (stands_here content are property property_known 0 n lt refl).0));
+    property_value = each_keyed property_key property_row (λ e. is_value_of e.1.property e.1.value ≡ true) (rows_at content property) p.property.entries is.property (λ n lt. value_passes n lt);
+    registry_root = each_keyed registry_key registry_row (λ e. IsWithin (negsuc 0) (pos 3) e.1.root) (rows_at content registry) p.registry.entries is.registry (λ n lt. within (negsuc 0) (pos 3) (value_at (rows_at content registry) n 1) (not_null (column_at registry 1) (value_at (rows_at content registry) n 1) (suits_here content are registry registry_known 1 n lt refl) refl) (stands_here content are registry registry_known 1 n lt refl).0);
+    remove_file_name = each_keyed remove_file_key remove_file_row (λ e. IfSome e.1.file_name (λ name. is_name true name ≡ true)) (rows_at content remove_file) p.remove_file.entries is.remove_file (λ n lt. if_pattern (value_at (rows_at content remove_file) n 2) (kind_suits kind.Pattern (column_at remove_file 2) (value_at (rows_at content remove_file) n 2) refl (suits_here content are remove_file remove_file_known 2 n lt refl)) (stands_here content are remove_file remove_file_known 2 n lt refl).1);
+    remove_file_mode = each_keyed remove_file_key remove_file_row (λ e. IsWithin (pos 1) (pos 3) e.1.install_mode) (rows_at content remove_file) p.remove_file.entries is.remove_file (λ n lt. within (pos 1) (pos 3) (value_at (rows_at content remove_file) n 4) (not_null (column_at remove_file 4) (value_at (rows_at content remove_file) n 4) (suits_here content are remove_file remove_file_known 4 n lt refl) refl) (stands_here content are remove_file remove_file_known 4 n lt refl).0);
+    remove_registry_root = each_keyed remove_registry_key remove_registry_row (λ e. IsWithin (negsuc 0) (pos 3) e.1.root) (rows_at content remove_registry) p.remove_registry.entries is.remove_registry (λ n lt. within (negsuc 0) (pos 3) (value_at (rows_at content remove_registry) n 1) (not_null (column_at remove_registry 1) (value_at (rows_at content remove_registry) n 1) (suits_here content are remove_registry remove_registry_known 1 n lt refl) refl) (stands_here content are remove_registry remove_registry_known 1 n lt refl).0);
+    shortcut_name = each_keyed shortcut_key shortcut_row (λ e. is_name false e.1.name ≡ true) (rows_at content shortcut) p.shortcut.entries is.shortcut (λ n lt.
+        passes (λ name. is_name false name ≡ true) (text_in (value_at (rows_at content shortcut) n 2)) (text_there (column_at shortcut 2) (value_at (rows_at content shortcut) n 2) refl refl (suits_here content are shortcut shortcut_known 2 n lt refl)) (if_name (value_at (rows_at content shortcut) n 2) (kind_suits kind.Name (column_at shortcut 2) (value_at (rows_at content shortcut) n 2) refl (suits_here content are shortcut shortcut_known 2 n lt refl)) (stands_here content are shortcut shortcut_known 2 n lt refl).1));
+    shortcut_hotkey = each_keyed shortcut_key shortcut_row (λ e. IfSome e.1.hotkey (IsWithin (pos 0) (pos 65535))) (rows_at content shortcut) p.shortcut.entries is.shortcut (λ n lt. if_within (pos 0) (pos 65535) (value_at (rows_at content shortcut) n 7) (stands_here content are shortcut shortcut_known 7 n lt refl).0);
+    shortcut_icon_index = each_keyed shortcut_key shortcut_row (λ e. IfSome e.1.icon_index (IsWithin (negsuc 32766) (pos 32767))) (rows_at content shortcut) p.shortcut.entries is.shortcut (λ n lt. if_within (negsuc 32766) (pos 32767) (value_at (rows_at content shortcut) n 9) (stands_here content are shortcut shortcut_known 9 n lt refl).0);
+    shortcut_show_cmd = each_keyed shortcut_key shortcut_row (λ e. IfSome e.1.show_cmd (IsWithin (pos 0) (pos 65535))) (rows_at content shortcut) p.shortcut.entries is.shortcut (λ n lt. if_within (pos 0) (pos 65535) (value_at (rows_at content shortcut) n 10) (stands_here content are shortcut shortcut_known 10 n lt refl).0);
+  }
+
+  -- a property that is a key has a row, whose value passes
+  property_there : (name : Name) (P : List ℕ → Type 0) → missing_property (rows_at content property) name ≡ None → ((value : List ℕ) → is_value_of name value ≡ true → P value) → HasProperty p name P
+  property_there name P none h =
+      let rows : List Row = rows_at content property in
+      let found = found_first rows name (not_missing (is_key_in (keys_of rows) name) name none) in
+      let row : Row = get_or rows found.0 [] in (
+        property_row row,
+        subst (λ es. Contains es (name, property_row row)) (sym is.property) (subst (λ (q : Name). Contains (keyed property_key property_row rows) (q, property_row row)) found.3 (keyed_has property_key property_row rows found.0 found.2)),
+        h (text_at row 1) (ap (λ (q : Name). is_value_of q (text_at row 1)) (sym found.3) ∙ value_passes found.0 found.2),
+      )
+
+  pub properties_stand : PropertiesStand p
+  properties_stand =
+      let there = all_there (rows_at content property) right.required in
+      record {
+        manufacturer = property_there (codes "Manufacturer") (λ value. Unit {0}) there.0 (λ value e. tt);
+        product_code = property_there (codes "ProductCode") (λ value. is_product_code value ≡ true) there.1 (λ value e. e);
+        product_language = property_there (codes "ProductLanguage") (λ value. is_language value ≡ true) there.2 (λ value e. e);
+        product_name = property_there (codes "ProductName") (λ value. Unit {0}) there.3 (λ value e. tt);
+        product_version = property_there (codes "ProductVersion") (λ value. is_some (version_of value) ≡ true) there.4 (λ value e. e);
+      }

@@ -30,7 +30,7 @@ use Rattle.mi_schema.proofs.FitLemmas.{front, back}
 -- ---- rows behind their keys
 
 module _ {K R : Type 0} (key : Row → K) (row : Row → R) where
-  keyed_at : (rows : List Row) (n : ℕ) (d : K × R) → n < length rows → get_or (keyed key row rows) n d ≡ (key (get_or rows n []), row (get_or rows n []))
+  pub keyed_at : (rows : List Row) (n : ℕ) (d : K × R) → n < length rows → get_or (keyed key row rows) n d ≡ (key (get_or rows n []), row (get_or rows n []))
   keyed_at [] n d lt = absurd (omega arith)
   keyed_at (r ∷ rows) zero d lt = refl
   keyed_at (r ∷ rows) (suc n) d lt = keyed_at rows n d (omega arith)

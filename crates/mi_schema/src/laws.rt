@@ -1,7 +1,7 @@
 //! Laws of lawful packages, which the crates above may use.
 
 ghost use Rattle.mi_schema.specs.Lawful.{IsLawful};
-ghost use Rattle.mi_schema.specs.Laws.{KeysStand, ReferencesStand, ParentsEnd};
+ghost use Rattle.mi_schema.specs.Laws.{KeysStand, ReferencesStand, ParentsEnd, PropertiesStand, ValuesStand};
 
 use crate::package::Package;
 
@@ -21,4 +21,16 @@ pub fn references_stand(loaded: &Package)
 pub fn parents_end(loaded: &Package)
     requires lawful { IsLawful loaded.now }
     ensures { ParentsEnd loaded.now }
+{}
+
+/// The properties that each product has are there, with values of their kinds.
+pub fn properties_stand(loaded: &Package)
+    requires lawful { IsLawful loaded.now }
+    ensures { PropertiesStand loaded.now }
+{}
+
+/// Each value meets the rules of its column.
+pub fn values_stand(loaded: &Package)
+    requires lawful { IsLawful loaded.now }
+    ensures { ValuesStand loaded.now }
 {}

@@ -29,7 +29,7 @@ pub use cell::{Cell, Row};
 pub use content::Content;
 pub use error::LoadError;
 pub use held::Rows;
-pub use laws::{keys_stand, parents_end, references_stand};
+pub use laws::{keys_stand, parents_end, properties_stand, references_stand, values_stand};
 pub use load::load_content;
 pub use package::Package;
 pub use typed_rows::{
