@@ -97,7 +97,7 @@ suit_at (c ∷ cs) [] on i d lt = cc
 suit_at (c ∷ cs) (x ∷ xs) on zero d lt = (front (suits c x) (all_suit cs xs) on, omega arith)
 suit_at (c ∷ cs) (x ∷ xs) on (suc i) d lt = let rest = suit_at cs xs (back (suits c x) (all_suit cs xs) on) i d (omega arith) in (rest.0, omega (arith, rest.1))
 
-each_suit_at : (cs : List Column) (rows : List Row) → each_suits cs rows ≡ true → (n : ℕ) → n < length rows → all_suit cs (get_or rows n []) ≡ true
+pub each_suit_at : (cs : List Column) (rows : List Row) → each_suits cs rows ≡ true → (n : ℕ) → n < length rows → all_suit cs (get_or rows n []) ≡ true
 each_suit_at cs [] on n lt = absurd (omega arith)
 each_suit_at cs (row ∷ rows) on zero lt = front (all_suit cs row) (each_suits cs rows) on
 each_suit_at cs (row ∷ rows) on (suc n) lt = each_suit_at cs rows (back (all_suit cs row) (each_suits cs rows) on) n (omega arith)

@@ -1,3 +1,4 @@
+pub mod ApartLaws
 pub mod CellLaws
 pub mod ChainLaws
 pub mod CheckLemmas

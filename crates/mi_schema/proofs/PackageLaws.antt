@@ -1,8 +1,9 @@
 -- The laws of a lawful package, table by table.
-use Rattle.std.proofs.Common.{◌≡◌, ◌⊎◌, ◌&&◌, ◌||◌, not, ℕ, pos, negsuc, ◌<◌, Bool, true, false, cond, List, [], length, take, get_or, Option, Some, None, is_some, Ok, refl, sym, ap, subst, ◌∙◌, arith, inl, inr}
-use Rattle.std.specs.Prelude.{nat_lt, IfSome, Contains, All, AllPairs, bit_and, ◌==◌, unwrap_or, codes}
+use Rattle.std.proofs.Common.{◌≡◌, ◌⊎◌, ◌&&◌, ◌||◌, not, ℕ, ℤ, pos, negsuc, ◌<◌, Bool, true, false, cond, List, [], length, take, get_or, Option, Some, None, is_some, Ok, refl, sym, ap, subst, ◌∙◌, arith, inl, inr}
+use Rattle.std.specs.Prelude.{nat_lt, IfSome, Contains, All, AllPairs, bit_and, ◌==◌, ◌/◌, ◌%◌, find, unwrap_or, codes}
 use Rattle.std.specs.Option.{option_map_or}
 use Rattle.std.specs.List.{list_any}
+use Rattle.std.specs.Ordering.{int_eq}
 use Rattle.std.specs.Map.{keys_of as keys_in}
 use Rattle.std.proofs.lemmas.Bool.Decides.{nat_tests}
 use Rattle.mi_text.specs.Maps.{Name}
@@ -16,19 +17,22 @@ use Rattle.mi_schema.specs.declared.cell.Cell.TheVariants as cell
 use Rattle.mi_schema.specs.declared.column.Kind.TheVariants as kind
 use Rattle.mi_schema.specs.declared.column.Target.TheVariants as of
 use Rattle.mi_schema.specs.declared.package.Package.{Package}
-use Rattle.mi_schema.specs.Checks.{Content, rows_at, target_table, targets_of, key_path_target, is_key_or_null, chain_fault, cycle_fault, cycles_fault, companion_of, parent_key, first_fault, missing_property}
+use Rattle.mi_schema.specs.Checks.{Content, rows_at, target_table, targets_of, key_path_target, is_key_or_null, chain_fault, cycle_fault, cycles_fault, companion_of, parent_key, first_fault, missing_property, is_source_compressed, word_count as count_of}
 use Rattle.mi_schema.specs.Conditions.{condition_of, IsCondition}
-use Rattle.mi_schema.specs.Laws.{EachRow, IsKeyOf, IsWithin, HasOtherCode, HasProperty, KeysStand, ReferencesStand, ParentsEnd, PropertiesStand, ValuesStand, key_paths, sets_directory, parent_of_directory}
+use Rattle.mi_schema.specs.Laws.{EachRow, IsKeyOf, IsWithin, HasOtherCode, HasProperty, KeysStand, KeysApart, ReferencesStand, ParentsEnd, PropertiesStand, ValuesStand, SourceStands, number_of_property, word_count, has_attributes, key_paths, sets_directory, parent_of_directory}
 use Rattle.mi_schema.specs.Lawful.{AreTables, IsLawful}
 use Rattle.mi_schema.specs.Package.{IsPackage, keyed}
 use Rattle.mi_schema.specs.Rows.{◌or_else◌, keys_of}
 use Rattle.mi_schema.specs.Tables.{Table, tables, required_properties, component, condition, create_folder, custom_action, directory, duplicate_file, environment, feature, feature_components, file, install_execute_sequence, launch_condition, msi_file_hash, property, registry, remove_file, remove_registry, shortcut, summary_information, upgrade}
+use Rattle.mi_schema.specs.KeyCells.{text_cells, number_cells, texts_cells, text_number_cells, upgrade_cells}
 use Rattle.mi_schema.specs.Suits.{suits}
+use Rattle.mi_schema.specs.Tells.{text_tells, number_tells, texts_tell, text_number_tell, upgrade_tells}
 use Rattle.mi_schema.specs.Texts.{is_name, is_default_dir, are_languages, is_language, is_product_code, is_value_of}
 use Rattle.mi_schema.specs.Typed.{condition_in}
 use Rattle.mi_schema.specs.TypedRows.{component_row, component_key, condition_row, condition_key, create_folder_row, create_folder_key, custom_action_row, custom_action_key, directory_row, directory_key, duplicate_file_row, duplicate_file_key, environment_row, environment_key, feature_row, feature_key, feature_components_row, feature_components_key, file_row, file_key, install_execute_sequence_row, install_execute_sequence_key, launch_condition_row, launch_condition_key, msi_file_hash_row, msi_file_hash_key, property_row, property_key, registry_row, registry_key, remove_file_row, remove_file_key, remove_registry_row, remove_registry_key, shortcut_row, shortcut_key, summary_information_row, summary_information_key, upgrade_row, upgrade_key}
 use Rattle.mi_schema.specs.Values.{Row, cell_at, text_in, text_at, number_in, lacks, is_root, is_root_below, is_key_in}
-use Rattle.mi_schema.proofs.CellLaws.{IsKnown, IsRight, OfKind, value_at, right_parts}
+use Rattle.mi_schema.proofs.ApartLaws.{own_keys, counted, attributes, no_file, neither, without}
+use Rattle.mi_schema.proofs.CellLaws.{IsKnown, IsRight, OfKind, value_at, of_table, right_parts}
 use Rattle.mi_schema.proofs.ChainLaws.{found_first, chains_end}
 use Rattle.mi_schema.proofs.ConditionLaws.{conditions_are}
 use Rattle.mi_schema.proofs.ReferenceLaws.{each_keyed, keys_keyed, row_names, row_may_name, meets_rule, suits_here, stands_here, key_here, if_named, source_named, column_at, key_there, keyed_has, not_null}
@@ -321,3 +325,44 @@ module _ (p : Package) (lawful : IsLawful p) where
         product_name = property_there (codes "ProductName") (λ value. Unit {0}) there.3 (λ value e. tt);
         product_version = property_there (codes "ProductVersion") (λ value. is_some (version_of value) ≡ true) there.4 (λ value e. e);
       }
+
+  pub keys_apart : KeysApart p
+  keys_apart = record {
+    component = own_keys component_key component_row text_cells component (rows_at content component) (of_table content are component component_known) refl (text_tells component.columns refl) p.component.entries is.component;
+    condition = own_keys condition_key condition_row text_number_cells condition (rows_at content condition) (of_table content are condition condition_known) refl (text_number_tell condition.columns refl) p.condition.entries is.condition;
+    create_folder = own_keys create_folder_key create_folder_row texts_cells create_folder (rows_at content create_folder) (of_table content are create_folder create_folder_known) refl (texts_tell create_folder.columns refl) p.create_folder.entries is.create_folder;
+    custom_action = own_keys custom_action_key custom_action_row text_cells custom_action (rows_at content custom_action) (of_table content are custom_action custom_action_known) refl (text_tells custom_action.columns refl) p.custom_action.entries is.custom_action;
+    directory = own_keys directory_key directory_row text_cells directory (rows_at content directory) (of_table content are directory directory_known) refl (text_tells directory.columns refl) p.directory.entries is.directory;
+    duplicate_file = own_keys duplicate_file_key duplicate_file_row text_cells duplicate_file (rows_at content duplicate_file) (of_table content are duplicate_file duplicate_file_known) refl (text_tells duplicate_file.columns refl) p.duplicate_file.entries is.duplicate_file;
+    environment = own_keys environment_key environment_row text_cells environment (rows_at content environment) (of_table content are environment environment_known) refl (text_tells environment.columns refl) p.environment.entries is.environment;
+    feature = own_keys feature_key feature_row text_cells feature (rows_at content feature) (of_table content are feature feature_known) refl (text_tells feature.columns refl) p.feature.entries is.feature;
+    feature_components = own_keys feature_components_key feature_components_row texts_cells feature_components (rows_at content feature_components) (of_table content are feature_components feature_components_known) refl (texts_tell feature_components.columns refl) p.feature_components.entries is.feature_components;
+    file = own_keys file_key file_row text_cells file (rows_at content file) (of_table content are file file_known) refl (text_tells file.columns refl) p.file.entries is.file;
+    install_execute_sequence = own_keys install_execute_sequence_key install_execute_sequence_row text_cells install_execute_sequence (rows_at content install_execute_sequence) (of_table content are install_execute_sequence install_execute_sequence_known) refl (text_tells install_execute_sequence.columns refl) p.install_execute_sequence.entries is.install_execute_sequence;
+    launch_condition = own_keys launch_condition_key launch_condition_row text_cells launch_condition (rows_at content launch_condition) (of_table content are launch_condition launch_condition_known) refl (text_tells launch_condition.columns refl) p.launch_condition.entries is.launch_condition;
+    msi_file_hash = own_keys msi_file_hash_key msi_file_hash_row text_cells msi_file_hash (rows_at content msi_file_hash) (of_table content are msi_file_hash msi_file_hash_known) refl (text_tells msi_file_hash.columns refl) p.msi_file_hash.entries is.msi_file_hash;
+    property = own_keys property_key property_row text_cells property (rows_at content property) (of_table content are property property_known) refl (text_tells property.columns refl) p.property.entries is.property;
+    registry = own_keys registry_key registry_row text_cells registry (rows_at content registry) (of_table content are registry registry_known) refl (text_tells registry.columns refl) p.registry.entries is.registry;
+    remove_file = own_keys remove_file_key remove_file_row text_cells remove_file (rows_at content remove_file) (of_table content are remove_file remove_file_known) refl (text_tells remove_file.columns refl) p.remove_file.entries is.remove_file;
+    remove_registry = own_keys remove_registry_key remove_registry_row text_cells remove_registry (rows_at content remove_registry) (of_table content are remove_registry remove_registry_known) refl (text_tells remove_registry.columns refl) p.remove_registry.entries is.remove_registry;
+    shortcut = own_keys shortcut_key shortcut_row text_cells shortcut (rows_at content shortcut) (of_table content are shortcut shortcut_known) refl (text_tells shortcut.columns refl) p.shortcut.entries is.shortcut;
+    summary_information = own_keys summary_information_key summary_information_row number_cells summary_information (rows_at content summary_information) (of_table content are summary_information summary_information_known) refl (number_tells summary_information.columns refl) p.summary_information.entries is.summary_information;
+    upgrade = own_keys upgrade_key upgrade_row upgrade_cells upgrade (rows_at content upgrade) (of_table content are upgrade upgrade_known) refl (upgrade_tells upgrade.columns refl) p.upgrade.entries is.upgrade;
+  }
+
+  counts : word_count p ≡ count_of (rows_at content summary_information)
+  counts = ap (λ es. number_of_property (find (λ e. int_eq e.1.property_id (pos 15)) es)) is.summary_information ∙ counted (rows_at content summary_information)
+
+  -- why a file isn't compressed
+  plain : (n : ℕ) → n < length (rows_at content file) → (not (lacks 16384 (number_in (value_at (rows_at content file) n 6))) ≡ false) × ((is_source_compressed content && lacks 8192 (number_in (value_at (rows_at content file) n 6))) ≡ false)
+  plain n lt = neither (not (lacks 16384 (number_in (value_at (rows_at content file) n 6)))) (is_source_compressed content && lacks 8192 (number_in (value_at (rows_at content file) n 6))) (no_file (is_source_compressed content) (rows_at content file) right.compressed n lt)
+
+  pub source_stands : SourceStands p
+  source_stands = record {
+    short_names = is.short_names ∙ ap (λ k. k % 2 == 1) (sym counts);
+    not_compressed = each_keyed file_key file_row (λ e. has_attributes e.1 16384 ≡ false) (rows_at content file) p.file.entries is.file (λ n lt.
+        ap (λ (z : ℤ). not (lacks 16384 z)) (attributes (value_at (rows_at content file) n 6)) ∙ (plain n lt).0);
+    as_files = λ source. each_keyed file_key file_row (λ e. has_attributes e.1 8192 ≡ true) (rows_at content file) p.file.entries is.file (λ n lt.
+        ap (λ (z : ℤ). not (lacks 8192 z)) (attributes (value_at (rows_at content file) n 6))
+        ∙ without (is_source_compressed content) (lacks 8192 (number_in (value_at (rows_at content file) n 6))) (plain n lt).1 (ap (λ k. (k / 2) % 2 == 1) (sym counts) ∙ source));
+  }

@@ -1,15 +1,19 @@
 -- What holds of every lawful package, for those who read it. (Database Tables.)
-use Rattle.std.specs.Prelude.{◌≡◌, ◌≢◌, ◌⊎◌, ◌&&◌, ℕ, ℤ, zero, suc, pos, negsuc, ◌≤ℤ◌, ◌==◌, Bool, true, false, List, length, codes, bit_and, Option, Some, None, is_some, IfSome, if◌then◌else◌, All, AllPairs, Contains}
+use Rattle.std.specs.Prelude.{◌≡◌, ◌≢◌, ◌⊎◌, ℕ, ℤ, zero, suc, pos, negsuc, ◌≤ℤ◌, ◌==◌, ◌/◌, ◌%◌, not, Bool, true, false, List, [], length, find, unwrap_or, codes, bit_and, Option, Some, None, is_some, IfSome, if◌then◌else◌, All, AllPairs, Contains}
 use Rattle.std.specs.Map.{keys_of}
+use Rattle.std.specs.Ordering.{int_eq}
 use Rattle.mi_text.specs.Maps.{Name}
 use Rattle.mi_text.specs.PropertyNames.{is_property_name}
 use Rattle.mi_text.specs.Version.{version_of}
 use Rattle.mi_text.specs.declared.guid.Guid.{Guid}
+use Rattle.mi_idt.specs.Fields.{number_on}
 use Rattle.mi_cond.specs.Texts.{IsRead}
 use Rattle.mi_schema.specs.declared.package.Package.{Package}
 use Rattle.mi_schema.specs.declared.typed_rows.ComponentRow.{ComponentRow}
 use Rattle.mi_schema.specs.declared.typed_rows.DirectoryRow.{DirectoryRow}
+use Rattle.mi_schema.specs.declared.typed_rows.FileRow.{FileRow}
 use Rattle.mi_schema.specs.declared.typed_rows.PropertyRow.{PropertyRow}
+use Rattle.mi_schema.specs.declared.typed_rows.SummaryInformationRow.{SummaryInformationRow}
 use Rattle.mi_schema.specs.Checks.{companion_of}
 use Rattle.mi_schema.specs.Texts.{is_name, is_default_dir, are_languages, is_language, is_product_code, is_value_of}
 use Rattle.mi_schema.specs.Values.{bits_of, lacks, is_root_below}
@@ -55,6 +59,28 @@ pub record KeysStand (p : Package) : Type 0 where
   pub shortcut : All (λ e. e.0 ≡ e.1.shortcut) p.shortcut.entries
   pub summary_information : All (λ e. e.0 ≡ e.1.property_id) p.summary_information.entries
   pub upgrade : All (λ e. e.0 ≡ (e.1.upgrade_code, e.1.version_min, e.1.version_max, e.1.language, e.1.attributes)) p.upgrade.entries
+
+pub record KeysApart (p : Package) : Type 0 where
+  pub component : HaveOwnKeys p.component.entries
+  pub condition : HaveOwnKeys p.condition.entries
+  pub create_folder : HaveOwnKeys p.create_folder.entries
+  pub custom_action : HaveOwnKeys p.custom_action.entries
+  pub directory : HaveOwnKeys p.directory.entries
+  pub duplicate_file : HaveOwnKeys p.duplicate_file.entries
+  pub environment : HaveOwnKeys p.environment.entries
+  pub feature : HaveOwnKeys p.feature.entries
+  pub feature_components : HaveOwnKeys p.feature_components.entries
+  pub file : HaveOwnKeys p.file.entries
+  pub install_execute_sequence : HaveOwnKeys p.install_execute_sequence.entries
+  pub launch_condition : HaveOwnKeys p.launch_condition.entries
+  pub msi_file_hash : HaveOwnKeys p.msi_file_hash.entries
+  pub property : HaveOwnKeys p.property.entries
+  pub registry : HaveOwnKeys p.registry.entries
+  pub remove_file : HaveOwnKeys p.remove_file.entries
+  pub remove_registry : HaveOwnKeys p.remove_registry.entries
+  pub shortcut : HaveOwnKeys p.shortcut.entries
+  pub summary_information : HaveOwnKeys p.summary_information.entries
+  pub upgrade : HaveOwnKeys p.upgrade.entries
 
 -- ---- references
 
@@ -149,3 +175,23 @@ pub record ValuesStand (p : Package) : Type 0 where
   pub shortcut_hotkey : EachRow p.shortcut.entries (λ r. IfSome r.hotkey (IsWithin (pos 0) (pos 65535)))
   pub shortcut_icon_index : EachRow p.shortcut.entries (λ r. IfSome r.icon_index (IsWithin (negsuc 32766) (pos 32767)))
   pub shortcut_show_cmd : EachRow p.shortcut.entries (λ r. IfSome r.show_cmd (IsWithin (pos 0) (pos 65535)))
+
+-- ---- the form of the source files (Word Count Summary property; File table, Attributes)
+
+abbrev pub number_of_property : {K : Type 0} → Option (K × SummaryInformationRow) → ℕ
+number_of_property None = 0
+number_of_property (Some e) = number_on 0 (unwrap_or e.1.value [])
+
+-- property 15, and 0 where it isn't there
+abbrev pub word_count : Package → ℕ
+word_count p = number_of_property (find (λ e. int_eq e.1.property_id (pos 15)) p.summary_information.entries)
+
+-- attributes that are null are 0
+abbrev pub has_attributes : FileRow → ℕ → Bool
+has_attributes row bits = not (lacks bits (unwrap_or row.attributes (pos 0)))
+
+-- no file is compressed: none has attribute 16384, and each has 8192 where bit 1 of the word count is set; bit 0 says short names
+pub record SourceStands (p : Package) : Type 0 where
+  pub short_names : p.short_names ≡ (word_count p % 2 == 1)
+  pub not_compressed : EachRow p.file.entries (λ r. has_attributes r 16384 ≡ false)
+  pub as_files : ((word_count p / 2) % 2 == 1) ≡ true → EachRow p.file.entries (λ r. has_attributes r 8192 ≡ true)

@@ -1,7 +1,7 @@
 //! Laws of lawful packages, which the crates above may use.
 
 ghost use Rattle.mi_schema.specs.Lawful.{IsLawful};
-ghost use Rattle.mi_schema.specs.Laws.{KeysStand, ReferencesStand, ParentsEnd, PropertiesStand, ValuesStand};
+ghost use Rattle.mi_schema.specs.Laws.{KeysStand, KeysApart, ReferencesStand, ParentsEnd, PropertiesStand, ValuesStand, SourceStands};
 
 use crate::package::Package;
 
@@ -33,4 +33,16 @@ pub fn properties_stand(loaded: &Package)
 pub fn values_stand(loaded: &Package)
     requires lawful { IsLawful loaded.now }
     ensures { ValuesStand loaded.now }
+{}
+
+/// No two rows of a table have one key.
+pub fn keys_apart(loaded: &Package)
+    requires lawful { IsLawful loaded.now }
+    ensures { KeysApart loaded.now }
+{}
+
+/// No file is compressed, and the word count says which names the source has.
+pub fn source_stands(loaded: &Package)
+    requires lawful { IsLawful loaded.now }
+    ensures { SourceStands loaded.now }
 {}

@@ -29,7 +29,10 @@ pub use cell::{Cell, Row};
 pub use content::Content;
 pub use error::LoadError;
 pub use held::Rows;
-pub use laws::{keys_stand, parents_end, properties_stand, references_stand, values_stand};
+pub use laws::{
+    keys_apart, keys_stand, parents_end, properties_stand, references_stand, source_stands,
+    values_stand,
+};
 pub use load::load_content;
 pub use package::Package;
 pub use typed_rows::{
