@@ -1,21 +1,20 @@
 -- Rows whose keys differ have typed keys that differ, and the form of the source files.
-use Rattle.std.proofs.Common.{◌≡◌, ◌≢◌, ◌||◌, ◌&&◌, not, ℕ, ℤ, pos, zero, suc, ◌<◌, Bool, true, false, cond, List, [], ◌∷◌, length, get_or, Option, Some, None, refl, sym, ap, subst, ◌∙◌, arith, inl, inr}
+use Rattle.std.proofs.Common.{◌≡◌, ◌≢◌, ◌||◌, ◌&&◌, not, ℕ, pos, zero, suc, ◌<◌, Bool, true, false, cond, List, [], ◌∷◌, length, get_or, Option, Some, None, refl, sym, ap, ◌∙◌, arith, inl, inr}
 use Rattle.std.specs.Prelude.{find, option_map, unwrap_or}
 use Rattle.std.specs.Ordering.{int_eq}
 use Rattle.std.proofs.lemmas.Bool.{cases_Bool}
-use Rattle.mi_base.specs.declared.answers.Fault.{Fault}
 use Rattle.mi_base.specs.declared.answers.Fault.TheVariants.{Compressed}
 use Rattle.mi_schema.specs.declared.cell.Cell.{Cell}
 use Rattle.mi_schema.specs.declared.cell.Cell.TheVariants as cell
-use Rattle.mi_schema.specs.Checks.{is_word_count, number_or_zero, word_count, is_compressed, file_fault}
+use Rattle.mi_schema.specs.Checks.{is_word_count, word_count, is_compressed, file_fault}
 use Rattle.mi_schema.specs.Laws.{HaveOwnKeys, number_of_property}
 use Rattle.mi_schema.specs.Lawful.{AreRowsOf}
 use Rattle.mi_schema.specs.Package.{keyed}
-use Rattle.mi_schema.specs.Suits.{all_suit, each_suits, key_cells, IsNewKey, KeysDiffer}
+use Rattle.mi_schema.specs.Suits.{all_suit, key_cells, IsNewKey, KeysDiffer}
 use Rattle.mi_schema.specs.Tables.{Column, Table}
 use Rattle.mi_schema.specs.TypedRows.{summary_information_row, summary_information_key}
 use Rattle.mi_schema.specs.Typed.{some_number_in}
-use Rattle.mi_schema.specs.Values.{Row, text_in, text_at, number_in, lacks}
+use Rattle.mi_schema.specs.Values.{Row, text_at, number_in}
 use Rattle.mi_schema.proofs.CellLaws.{each_suit_at}
 use Rattle.mi_schema.proofs.DifferLemmas.{keys_tell, keys_differ}
 use Rattle.mi_schema.proofs.SuitLemmas.{rows_suit}

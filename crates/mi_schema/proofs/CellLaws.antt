@@ -1,5 +1,5 @@
 -- What each value of a table without a fault meets, by its place.
-use Rattle.std.proofs.Common.{◌≡◌, ◌&&◌, ℕ, zero, suc, ◌+◌, ◌<◌, Bool, true, false, cond, List, [], ◌∷◌, ◌++◌, length, map, take, get_or, append_assoc, Option, Some, None, Result, Ok, Err, refl, sym, ap, subst, ◌∙◌, arith, inl, inr}
+use Rattle.std.proofs.Common.{◌≡◌, ℕ, zero, suc, ◌+◌, ◌<◌, Bool, true, false, cond, List, [], ◌∷◌, ◌++◌, length, map, take, get_or, append_assoc, Option, Some, None, Result, Ok, Err, refl, sym, ap, subst, arith, inl, inr}
 use Rattle.std.specs.Prelude.{option_map}
 use Rattle.std.proofs.lemmas.List.{append-nil}
 use Rattle.mi_text.specs.Maps.{Name}
@@ -21,7 +21,7 @@ use Rattle.mi_schema.specs.Texts.{is_name}
 use Rattle.mi_schema.specs.Values.{Row, value_of, row_of, kind_fault, unless, place_of_fault, tree_of, meets}
 use Rattle.mi_schema.proofs.FitLemmas.{AllFit, front, back}
 use Rattle.mi_schema.proofs.LoadLemmas.{tables_long}
-use Rattle.mi_schema.proofs.SuitLemmas.{EachFits, IsFaultless, or_none, map_none, allowed, faultless, rows_suit}
+use Rattle.mi_schema.proofs.SuitLemmas.{EachFits, or_none, map_none, allowed, faultless, rows_suit}
 
 -- the value of a row and a column, from 0
 abbrev pub value_at : List Row → ℕ → ℕ → Option Cell

@@ -1,7 +1,6 @@
 -- Chains of parents end at a row without one.
 use Rattle.std.proofs.Common.{◌≡◌, ◌⊎◌, ℕ, zero, suc, ◌+◌, ◌<◌, not, Bool, true, false, cond, ◌||◌, List, [], ◌∷◌, length, map, get_or, Option, Some, None, refl, sym, ap, subst, ◌∙◌, arith, inl, inr}
-use Rattle.std.specs.Prelude.{option_map, option_and_then, slice_get, find, IfSome, Contains}
-use Rattle.std.specs.Option.{option_flatten}
+use Rattle.std.specs.Prelude.{option_map, option_and_then, find, IfSome, Contains}
 use Rattle.std.proofs.lemmas.Bool.{cases_Bool}
 use Rattle.std.proofs.lemmas.List.{length-map}
 use Rattle.mi_text.specs.Maps.{Name, same_name}
@@ -10,11 +9,10 @@ use Rattle.mi_base.specs.declared.answers.Fault.{Fault}
 use Rattle.mi_base.specs.declared.answers.Fault.TheVariants.{Cycle}
 use Rattle.mi_dirs.specs.Chains.{ends_in, root_or}
 use Rattle.mi_dirs.specs.Order.{parent_in}
-use Rattle.mi_dirs.specs.Places.{first_row}
-use Rattle.mi_dirs.specs.Faults.{numbers_from, numbers}
+use Rattle.mi_dirs.specs.Faults.{numbers_from}
 use Rattle.mi_schema.specs.declared.column.Target.{Target}
 use Rattle.mi_schema.specs.Checks.{row_with, parent_key, parents_of, ends_at, endless_row, chain_fault, target_table}
-use Rattle.mi_schema.specs.Laws.{EachRow, EndsWithin, ChainsEnd}
+use Rattle.mi_schema.specs.Laws.{EndsWithin, ChainsEnd}
 use Rattle.mi_schema.specs.Package.{keyed}
 use Rattle.mi_schema.specs.Rows.{keys_of}
 use Rattle.mi_schema.specs.Values.{Row, text_at, is_key_in}

@@ -1,6 +1,6 @@
 -- The laws of a lawful package, table by table.
-use Rattle.std.proofs.Common.{◌≡◌, ◌⊎◌, ◌&&◌, ◌||◌, not, ℕ, ℤ, pos, negsuc, ◌<◌, Bool, true, false, cond, List, [], length, take, get_or, Option, Some, None, is_some, Ok, refl, sym, ap, subst, ◌∙◌, arith, inl, inr}
-use Rattle.std.specs.Prelude.{nat_lt, IfSome, Contains, All, AllPairs, bit_and, ◌==◌, ◌/◌, ◌%◌, find, unwrap_or, codes}
+use Rattle.std.proofs.Common.{◌≡◌, ◌⊎◌, ◌&&◌, ◌||◌, not, ℕ, ℤ, pos, negsuc, ◌<◌, Bool, true, false, cond, List, [], length, take, get_or, Option, Some, None, is_some, refl, sym, ap, subst, ◌∙◌, arith, inl, inr}
+use Rattle.std.specs.Prelude.{IfSome, Contains, ◌==◌, ◌/◌, ◌%◌, find, unwrap_or, codes}
 use Rattle.std.specs.Option.{option_map_or}
 use Rattle.std.specs.List.{list_any}
 use Rattle.std.specs.Ordering.{int_eq}
@@ -17,17 +17,17 @@ use Rattle.mi_schema.specs.declared.cell.Cell.TheVariants as cell
 use Rattle.mi_schema.specs.declared.column.Kind.TheVariants as kind
 use Rattle.mi_schema.specs.declared.column.Target.TheVariants as of
 use Rattle.mi_schema.specs.declared.package.Package.{Package}
-use Rattle.mi_schema.specs.Checks.{Content, rows_at, target_table, targets_of, key_path_target, is_key_or_null, chain_fault, cycle_fault, cycles_fault, companion_of, parent_key, first_fault, missing_property, is_source_compressed, word_count as count_of}
-use Rattle.mi_schema.specs.Conditions.{condition_of, IsCondition}
-use Rattle.mi_schema.specs.Laws.{EachRow, IsKeyOf, IsWithin, HasOtherCode, HasProperty, KeysStand, KeysApart, ReferencesStand, ParentsEnd, PropertiesStand, ValuesStand, SourceStands, number_of_property, word_count, has_attributes, key_paths, sets_directory, parent_of_directory}
+use Rattle.mi_schema.specs.Checks.{Content, rows_at, targets_of, is_key_or_null, chain_fault, cycle_fault, cycles_fault, companion_of, first_fault, missing_property, is_source_compressed, word_count as count_of}
+use Rattle.mi_schema.specs.Conditions.{IsCondition}
+use Rattle.mi_schema.specs.Laws.{IsKeyOf, IsWithin, HasOtherCode, HasProperty, KeysStand, KeysApart, ReferencesStand, ParentsEnd, PropertiesStand, ValuesStand, SourceStands, number_of_property, word_count, has_attributes, key_paths, sets_directory, parent_of_directory}
 use Rattle.mi_schema.specs.Lawful.{AreTables, IsLawful}
 use Rattle.mi_schema.specs.Package.{IsPackage, keyed}
 use Rattle.mi_schema.specs.Rows.{◌or_else◌, keys_of}
-use Rattle.mi_schema.specs.Tables.{Table, tables, required_properties, component, condition, create_folder, custom_action, directory, duplicate_file, environment, feature, feature_components, file, install_execute_sequence, launch_condition, msi_file_hash, property, registry, remove_file, remove_registry, shortcut, summary_information, upgrade}
+use Rattle.mi_schema.specs.Tables.{tables, required_properties, component, condition, create_folder, custom_action, directory, duplicate_file, environment, feature, feature_components, file, install_execute_sequence, launch_condition, msi_file_hash, property, registry, remove_file, remove_registry, shortcut, summary_information, upgrade}
 use Rattle.mi_schema.specs.KeyCells.{text_cells, number_cells, texts_cells, text_number_cells, upgrade_cells}
 use Rattle.mi_schema.specs.Suits.{suits}
 use Rattle.mi_schema.specs.Tells.{text_tells, number_tells, texts_tell, text_number_tell, upgrade_tells}
-use Rattle.mi_schema.specs.Texts.{is_name, is_default_dir, are_languages, is_language, is_product_code, is_value_of}
+use Rattle.mi_schema.specs.Texts.{is_decimal, is_name, is_default_dir, are_languages, is_language, is_product_code, is_value_of}
 use Rattle.mi_schema.specs.Typed.{condition_in}
 use Rattle.mi_schema.specs.TypedRows.{component_row, component_key, condition_row, condition_key, create_folder_row, create_folder_key, custom_action_row, custom_action_key, directory_row, directory_key, duplicate_file_row, duplicate_file_key, environment_row, environment_key, feature_row, feature_key, feature_components_row, feature_components_key, file_row, file_key, install_execute_sequence_row, install_execute_sequence_key, launch_condition_row, launch_condition_key, msi_file_hash_row, msi_file_hash_key, property_row, property_key, registry_row, registry_key, remove_file_row, remove_file_key, remove_registry_row, remove_registry_key, shortcut_row, shortcut_key, summary_information_row, summary_information_key, upgrade_row, upgrade_key}
 use Rattle.mi_schema.specs.Values.{Row, cell_at, text_in, text_at, number_in, lacks, is_root, is_root_below, is_key_in}
@@ -36,7 +36,7 @@ use Rattle.mi_schema.proofs.CellLaws.{IsKnown, IsRight, OfKind, value_at, of_tab
 use Rattle.mi_schema.proofs.ChainLaws.{found_first, chains_end}
 use Rattle.mi_schema.proofs.ConditionLaws.{conditions_are}
 use Rattle.mi_schema.proofs.ReferenceLaws.{each_keyed, keys_keyed, row_names, row_may_name, meets_rule, suits_here, stands_here, key_here, if_named, source_named, column_at, key_there, keyed_has, not_null}
-use Rattle.mi_schema.proofs.ValueLaws.{pairs_keyed, any_before, one_root, other_code, text_before, root_before, kind_suits, text_there, passes, if_passes, if_name, if_pattern, within, if_within}
+use Rattle.mi_schema.proofs.ValueLaws.{pairs_keyed, any_before, one_root, other_code, text_before, number_before, root_before, kind_suits, text_there, passes, if_passes, if_name, if_pattern, within, if_within}
 use Rattle.mi_schema.proofs.SuitLemmas.{or_none}
 
 -- ---- the tables of the list
@@ -182,6 +182,9 @@ all_there rows e =
     let five = or_none (f (codes "ProductVersion")) None four.1 in
     (one.0, two.0, three.0, four.0, five.0)
 
+decimal_of : (z : ℤ) (decimal : Bool) → z ≡ pos 15 → (not (int_eq z (pos 15)) || decimal) ≡ true → decimal ≡ true
+decimal_of z decimal is e = sym (ap (λ (y : ℤ). not (int_eq y (pos 15)) || decimal) is) ∙ e
+
 -- ---- the laws
 
 module _ (p : Package) (lawful : IsLawful p) where
@@ -301,6 +304,8 @@ module _ (p : Package) (lawful : IsLawful p) where
         passes (λ name. is_name false name ≡ true) (text_in (value_at (rows_at content shortcut) n 2)) (text_there (column_at shortcut 2) (value_at (rows_at content shortcut) n 2) refl refl (suits_here content are shortcut shortcut_known 2 n lt refl)) (if_name (value_at (rows_at content shortcut) n 2) (kind_suits kind.Name (column_at shortcut 2) (value_at (rows_at content shortcut) n 2) refl (suits_here content are shortcut shortcut_known 2 n lt refl)) (stands_here content are shortcut shortcut_known 2 n lt refl).1));
     shortcut_hotkey = each_keyed shortcut_key shortcut_row (λ e. IfSome e.1.hotkey (IsWithin (pos 0) (pos 65535))) (rows_at content shortcut) p.shortcut.entries is.shortcut (λ n lt. if_within (pos 0) (pos 65535) (value_at (rows_at content shortcut) n 7) (stands_here content are shortcut shortcut_known 7 n lt refl).0);
     shortcut_icon_index = each_keyed shortcut_key shortcut_row (λ e. IfSome e.1.icon_index (IsWithin (negsuc 32766) (pos 32767))) (rows_at content shortcut) p.shortcut.entries is.shortcut (λ n lt. if_within (negsuc 32766) (pos 32767) (value_at (rows_at content shortcut) n 9) (stands_here content are shortcut shortcut_known 9 n lt refl).0);
+    word_count = each_keyed summary_information_key summary_information_row (λ e. e.1.property_id ≡ pos 15 → is_decimal (unwrap_or e.1.value []) ≡ true) (rows_at content summary_information) p.summary_information.entries is.summary_information (λ n lt fifteen.
+        decimal_of (number_in (cell_at (take 1 (get_or (rows_at content summary_information) n [])) 0)) (is_decimal (unwrap_or (text_in (value_at (rows_at content summary_information) n 1)) [])) (number_before (get_or (rows_at content summary_information) n []) ∙ fifteen) (stands_here content are summary_information summary_information_known 1 n lt refl).0);
     shortcut_show_cmd = each_keyed shortcut_key shortcut_row (λ e. IfSome e.1.show_cmd (IsWithin (pos 0) (pos 65535))) (rows_at content shortcut) p.shortcut.entries is.shortcut (λ n lt. if_within (pos 0) (pos 65535) (value_at (rows_at content shortcut) n 10) (stands_here content are shortcut shortcut_known 10 n lt refl).0);
   }
 

@@ -1,7 +1,6 @@
 -- Rows that are named are there.
-use Rattle.std.proofs.Common.{◌≡◌, ◌&&◌, ◌||◌, not, ℕ, zero, suc, ◌+◌, ◌<◌, Bool, true, false, cond, List, [], ◌∷◌, length, map, take, get_or, Option, Some, None, refl, sym, ap, subst, ◌∙◌, arith}
-use Rattle.std.specs.Prelude.{is_some, unwrap_or, nat_lt, ◌==◌, bit_and, IfSome, Contains, All}
-use Rattle.std.specs.List.{list_any}
+use Rattle.std.proofs.Common.{◌≡◌, ◌&&◌, ◌||◌, ℕ, zero, suc, ◌<◌, Bool, true, false, List, [], ◌∷◌, length, map, take, get_or, Option, Some, None, refl, sym, ap, subst, ◌∙◌, arith}
+use Rattle.std.specs.Prelude.{is_some, unwrap_or, nat_lt, IfSome, Contains, All}
 use Rattle.std.specs.Map.{keys_of as keys_in}
 use Rattle.std.proofs.lemmas.Bool.Decides.{nat_tests}
 use Rattle.std.proofs.lemmas.Bool.{cases_Bool}
@@ -11,12 +10,10 @@ use Rattle.mi_text.specs.Maps.{Name, same_name}
 use Rattle.mi_text.proofs.MapLemmas.{from_same}
 use Rattle.mi_schema.specs.declared.cell.Cell.{Cell}
 use Rattle.mi_schema.specs.declared.cell.Cell.TheVariants as cell
-use Rattle.mi_schema.specs.declared.column.Kind.{Kind}
 use Rattle.mi_schema.specs.declared.column.Kind.TheVariants as kind
 use Rattle.mi_schema.specs.declared.column.Rule.TheVariants as rule
 use Rattle.mi_schema.specs.declared.column.Target.{Target}
-use Rattle.mi_schema.specs.declared.column.Target.TheVariants as of
-use Rattle.mi_schema.specs.Checks.{Content, rows_at, target_table, targets_of, is_key_or_null, key_path_target, meets_reference_kind, meets_reference_rule, refers, references_fault}
+use Rattle.mi_schema.specs.Checks.{Content, rows_at, target_table, targets_of, is_key_or_null, meets_reference_kind, meets_reference_rule, refers, references_fault}
 use Rattle.mi_schema.specs.Laws.{EachRow, IsKeyOf}
 use Rattle.mi_schema.specs.Lawful.{AreTables}
 use Rattle.mi_schema.specs.Package.{keyed}

@@ -1,10 +1,9 @@
 -- What the values of typed rows meet.
-use Rattle.std.proofs.Common.{◌≡◌, ◌≢◌, ◌⊎◌, ◌&&◌, ◌||◌, not, ℕ, ℤ, zero, suc, ◌<◌, ◌≤ℤ◌, Bool, true, false, cond, List, [], ◌∷◌, length, take, get_or, Option, Some, None, is_some, is_none, refl, sym, ap, subst, ◌∙◌, arith, inl, inr}
-use Rattle.std.specs.Prelude.{unwrap_or, nat_lt, int_le, ◌==◌, IfSome, AllPairs}
+use Rattle.std.proofs.Common.{◌≡◌, ◌&&◌, ◌||◌, not, ℕ, ℤ, zero, suc, ◌<◌, ◌≤ℤ◌, Bool, true, false, List, [], ◌∷◌, length, take, get_or, Option, Some, None, is_some, is_none, refl, sym, ap, subst, ◌∙◌, arith}
+use Rattle.std.specs.Prelude.{unwrap_or, int_le, ◌==◌, IfSome, AllPairs}
 use Rattle.std.specs.Option.{option_map_or}
 use Rattle.std.specs.List.{list_any}
 use Rattle.std.proofs.lemmas.Bool.Decides.{nat_tests}
-use Rattle.std.proofs.lemmas.Bool.{cases_Bool}
 use Rattle.std.proofs.lemmas.Int.{ints}
 use Rattle.mi_text.specs.declared.guid.Guid.{Guid}
 use Rattle.mi_schema.specs.declared.cell.Cell.{Cell}
@@ -21,7 +20,7 @@ use Rattle.mi_schema.specs.Typed.{some_number_in, some_code_in}
 use Rattle.mi_schema.specs.Values.{Row, cell_at, text_in, text_at, number_in, is_root, has_code, code_in, same_code, is_new_code}
 use Rattle.mi_schema.proofs.CellLaws.{OfKind}
 use Rattle.mi_schema.proofs.FitLemmas.{front, back}
-use Rattle.mi_schema.proofs.ReferenceLaws.{keyed_at, keyed_long, not_null}
+use Rattle.mi_schema.proofs.ReferenceLaws.{keyed_at, keyed_long}
 
 -- ---- pairs of rows
 
@@ -43,18 +42,15 @@ any_before test (r ∷ rows) (suc m) (suc n) before lt on = later (test r) (list
     later true b e = refl
     later false b e = e
 
-not_and : (a b : Bool) → not (a && b) ≡ true → b ≡ true → a ≡ false
-not_and true true e on = cc
-not_and true false e on = cc
-not_and false b e on = refl
+-- a second root
+pub one_root : (a b : Bool) → not (a && b) ≡ true → b ≡ true → a ≡ false
+one_root true true e on = cc
+one_root true false e on = cc
+one_root false b e on = refl
 
 not_both : (b : Bool) → not b ≡ true → b ≡ true → ⊥
 not_both true e on = cc
 not_both false e on = cc
-
--- a second root
-pub one_root : (a b : Bool) → not (a && b) ≡ true → b ≡ true → a ≡ false
-one_root = not_and
 
 same_number : (n : ℕ) → (n == n) ≡ true
 same_number n = grind (arith, nat_tests)
@@ -88,6 +84,10 @@ other_code rows m n before lt new = by (some_code_in (cell_at (get_or rows m [])
 pub text_before : (row : Row) → text_at (take 1 row) 0 ≡ text_at row 0
 text_before [] = refl
 text_before (x ∷ xs) = refl
+
+pub number_before : (row : Row) → number_in (cell_at (take 1 row) 0) ≡ number_in (cell_at row 0)
+number_before [] = refl
+number_before (x ∷ xs) = refl
 
 pub root_before : (row : Row) → is_root (take 2 row) ≡ is_root row
 root_before [] = refl

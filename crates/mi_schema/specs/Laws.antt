@@ -15,7 +15,7 @@ use Rattle.mi_schema.specs.declared.typed_rows.FileRow.{FileRow}
 use Rattle.mi_schema.specs.declared.typed_rows.PropertyRow.{PropertyRow}
 use Rattle.mi_schema.specs.declared.typed_rows.SummaryInformationRow.{SummaryInformationRow}
 use Rattle.mi_schema.specs.Checks.{companion_of}
-use Rattle.mi_schema.specs.Texts.{is_name, is_default_dir, are_languages, is_language, is_product_code, is_value_of}
+use Rattle.mi_schema.specs.Texts.{is_decimal, is_name, is_default_dir, are_languages, is_language, is_product_code, is_value_of}
 use Rattle.mi_schema.specs.Values.{bits_of, lacks, is_root_below}
 
 -- ---- words
@@ -60,6 +60,7 @@ pub record KeysStand (p : Package) : Type 0 where
   pub summary_information : All (λ e. e.0 ≡ e.1.property_id) p.summary_information.entries
   pub upgrade : All (λ e. e.0 ≡ (e.1.upgrade_code, e.1.version_min, e.1.version_max, e.1.language, e.1.attributes)) p.upgrade.entries
 
+-- no two rows of a table have one key
 pub record KeysApart (p : Package) : Type 0 where
   pub component : HaveOwnKeys p.component.entries
   pub condition : HaveOwnKeys p.condition.entries
@@ -175,6 +176,7 @@ pub record ValuesStand (p : Package) : Type 0 where
   pub shortcut_hotkey : EachRow p.shortcut.entries (λ r. IfSome r.hotkey (IsWithin (pos 0) (pos 65535)))
   pub shortcut_icon_index : EachRow p.shortcut.entries (λ r. IfSome r.icon_index (IsWithin (negsuc 32766) (pos 32767)))
   pub shortcut_show_cmd : EachRow p.shortcut.entries (λ r. IfSome r.show_cmd (IsWithin (pos 0) (pos 65535)))
+  pub word_count : EachRow p.summary_information.entries (λ r. r.property_id ≡ pos 15 → is_decimal (unwrap_or r.value []) ≡ true)
 
 -- ---- the form of the source files (Word Count Summary property; File table, Attributes)
 
