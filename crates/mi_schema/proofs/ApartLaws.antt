@@ -1,23 +1,26 @@
 -- Rows whose keys differ have typed keys that differ, and the form of the source files.
-use Rattle.std.proofs.Common.{◌≡◌, ◌≢◌, ◌||◌, ◌&&◌, not, ℕ, pos, zero, suc, ◌<◌, Bool, true, false, cond, List, [], ◌∷◌, length, get_or, Option, Some, None, refl, sym, ap, ◌∙◌, arith, inl, inr}
+use Rattle.std.proofs.Common.{◌≡◌, ◌≢◌, ◌||◌, ◌&&◌, not, ℕ, pos, zero, suc, ◌<◌, ◌≤◌, Bool, true, false, cond, List, [], ◌∷◌, length, get_or, Option, Some, None, refl, sym, ap, ◌∙◌, arith, inl, inr}
 use Rattle.std.specs.Prelude.{find, option_map, unwrap_or}
 use Rattle.std.specs.Ordering.{int_eq}
 use Rattle.std.proofs.lemmas.Bool.{cases_Bool}
+use Rattle.std.proofs.lemmas.List.{length-map}
+use Rattle.std.proofs.lemmas.Slice.Zip.{AllZip-long}
 use Rattle.mi_base.specs.declared.answers.Fault.TheVariants.{Compressed}
 use Rattle.mi_schema.specs.declared.cell.Cell.{Cell}
 use Rattle.mi_schema.specs.declared.cell.Cell.TheVariants as cell
 use Rattle.mi_schema.specs.Checks.{is_word_count, word_count, is_compressed, file_fault}
-use Rattle.mi_schema.specs.Laws.{HaveOwnKeys, number_of_property}
+use Rattle.mi_schema.specs.Laws.{AreFew, HaveOwnKeys, number_of_property}
 use Rattle.mi_schema.specs.Lawful.{AreRowsOf}
 use Rattle.mi_schema.specs.Package.{keyed}
 use Rattle.mi_schema.specs.Suits.{all_suit, key_cells, IsNewKey, KeysDiffer}
 use Rattle.mi_schema.specs.Tables.{Column, Table}
 use Rattle.mi_schema.specs.TypedRows.{summary_information_row, summary_information_key}
 use Rattle.mi_schema.specs.Typed.{some_number_in}
-use Rattle.mi_schema.specs.Values.{Row, text_at, number_in}
+use Rattle.mi_schema.specs.Values.{Row, row_of, text_at, number_in}
 use Rattle.mi_schema.proofs.CellLaws.{each_suit_at}
 use Rattle.mi_schema.proofs.DifferLemmas.{keys_tell, keys_differ}
-use Rattle.mi_schema.proofs.SuitLemmas.{rows_suit}
+use Rattle.mi_schema.proofs.ReferenceLaws.{keyed_long}
+use Rattle.mi_schema.proofs.SuitLemmas.{faultless, rows_suit}
 use Rattle.mi_schema.proofs.ValueLaws.{pairs_keyed}
 
 -- ---- keys
@@ -41,6 +44,27 @@ own_keys key row cells t rows are tell tells entries is = pairs_keyed key row (�
     let also : m < length rows = omega (arith, before, lt) in
     differ_at t.columns rows m n before lt (keys_differ t rows tell are)
     (tells (get_or rows m []) (each_suit_at t.columns rows suits m also) ∙ ap cells same ∙ sym (tells (get_or rows n []) (each_suit_at t.columns rows suits n lt))))
+
+-- ---- sizes
+
+few_rows : (t : Table) (rows : List Row) → AreRowsOf t rows → length rows ≤ 65535
+few_rows t rows are = elim (faultless t rows are) [
+  | inl none ↦ let long = ap length none in omega (arith, long)
+  | inr known ↦
+      let spelled = known.1.apart.1.spelled in
+      let lines = spelled.few_rows in
+      let same = AllZip-long _ _ _ spelled.rows_are in
+      let mapped = length-map known.0.rows (row_of t.columns) in
+      let held = ap length known.1.held in
+      omega (arith, lines, same, mapped, held)
+]
+
+pub few_keyed : {K R : Type 0} (key : Row → K) (row : Row → R) (t : Table) (rows : List Row) → AreRowsOf t rows → (entries : List (K × R)) → entries ≡ keyed key row rows → AreFew entries
+few_keyed key row t rows are entries is =
+    let few = few_rows t rows are in
+    let long = keyed_long key row rows in
+    let same = ap length is in
+    omega (arith, few, long, same)
 
 -- ---- the form of the source files
 

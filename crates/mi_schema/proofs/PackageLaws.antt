@@ -19,7 +19,7 @@ use Rattle.mi_schema.specs.declared.column.Target.TheVariants as of
 use Rattle.mi_schema.specs.declared.package.Package.{Package}
 use Rattle.mi_schema.specs.Checks.{Content, rows_at, targets_of, is_key_or_null, chain_fault, cycle_fault, cycles_fault, companion_of, first_fault, missing_property, is_source_compressed, word_count as count_of}
 use Rattle.mi_schema.specs.Conditions.{IsCondition}
-use Rattle.mi_schema.specs.Laws.{IsKeyOf, IsWithin, HasOtherCode, HasProperty, KeysStand, KeysApart, ReferencesStand, ParentsEnd, PropertiesStand, ValuesStand, SourceStands, number_of_property, word_count, has_attributes, key_paths, sets_directory, parent_of_directory}
+use Rattle.mi_schema.specs.Laws.{IsKeyOf, IsWithin, HasOtherCode, HasProperty, KeysStand, KeysApart, ReferencesStand, ParentsEnd, PropertiesStand, ValuesStand, SourceStands, TablesSmall, number_of_property, word_count, has_attributes, key_paths, sets_directory, parent_of_directory}
 use Rattle.mi_schema.specs.Lawful.{AreTables, IsLawful}
 use Rattle.mi_schema.specs.Package.{IsPackage, keyed}
 use Rattle.mi_schema.specs.Rows.{◌or_else◌, keys_of}
@@ -31,7 +31,7 @@ use Rattle.mi_schema.specs.Texts.{is_decimal, is_name, is_default_dir, are_langu
 use Rattle.mi_schema.specs.Typed.{condition_in}
 use Rattle.mi_schema.specs.TypedRows.{component_row, component_key, condition_row, condition_key, create_folder_row, create_folder_key, custom_action_row, custom_action_key, directory_row, directory_key, duplicate_file_row, duplicate_file_key, environment_row, environment_key, feature_row, feature_key, feature_components_row, feature_components_key, file_row, file_key, install_execute_sequence_row, install_execute_sequence_key, launch_condition_row, launch_condition_key, msi_file_hash_row, msi_file_hash_key, property_row, property_key, registry_row, registry_key, remove_file_row, remove_file_key, remove_registry_row, remove_registry_key, shortcut_row, shortcut_key, summary_information_row, summary_information_key, upgrade_row, upgrade_key}
 use Rattle.mi_schema.specs.Values.{Row, cell_at, text_in, text_at, number_in, lacks, is_root, is_root_below, is_key_in}
-use Rattle.mi_schema.proofs.ApartLaws.{own_keys, counted, attributes, no_file, neither, without}
+use Rattle.mi_schema.proofs.ApartLaws.{own_keys, few_keyed, counted, attributes, no_file, neither, without}
 use Rattle.mi_schema.proofs.CellLaws.{IsKnown, IsRight, OfKind, value_at, of_table, right_parts}
 use Rattle.mi_schema.proofs.ChainLaws.{found_first, chains_end}
 use Rattle.mi_schema.proofs.ConditionLaws.{conditions_are}
@@ -353,6 +353,30 @@ module _ (p : Package) (lawful : IsLawful p) where
     shortcut = own_keys shortcut_key shortcut_row text_cells shortcut (rows_at content shortcut) (of_table content are shortcut shortcut_known) refl (text_tells shortcut.columns refl) p.shortcut.entries is.shortcut;
     summary_information = own_keys summary_information_key summary_information_row number_cells summary_information (rows_at content summary_information) (of_table content are summary_information summary_information_known) refl (number_tells summary_information.columns refl) p.summary_information.entries is.summary_information;
     upgrade = own_keys upgrade_key upgrade_row upgrade_cells upgrade (rows_at content upgrade) (of_table content are upgrade upgrade_known) refl (upgrade_tells upgrade.columns refl) p.upgrade.entries is.upgrade;
+  }
+
+  pub tables_small : TablesSmall p
+  tables_small = record {
+    component = few_keyed component_key component_row component (rows_at content component) (of_table content are component component_known) p.component.entries is.component;
+    condition = few_keyed condition_key condition_row condition (rows_at content condition) (of_table content are condition condition_known) p.condition.entries is.condition;
+    create_folder = few_keyed create_folder_key create_folder_row create_folder (rows_at content create_folder) (of_table content are create_folder create_folder_known) p.create_folder.entries is.create_folder;
+    custom_action = few_keyed custom_action_key custom_action_row custom_action (rows_at content custom_action) (of_table content are custom_action custom_action_known) p.custom_action.entries is.custom_action;
+    directory = few_keyed directory_key directory_row directory (rows_at content directory) (of_table content are directory directory_known) p.directory.entries is.directory;
+    duplicate_file = few_keyed duplicate_file_key duplicate_file_row duplicate_file (rows_at content duplicate_file) (of_table content are duplicate_file duplicate_file_known) p.duplicate_file.entries is.duplicate_file;
+    environment = few_keyed environment_key environment_row environment (rows_at content environment) (of_table content are environment environment_known) p.environment.entries is.environment;
+    feature = few_keyed feature_key feature_row feature (rows_at content feature) (of_table content are feature feature_known) p.feature.entries is.feature;
+    feature_components = few_keyed feature_components_key feature_components_row feature_components (rows_at content feature_components) (of_table content are feature_components feature_components_known) p.feature_components.entries is.feature_components;
+    file = few_keyed file_key file_row file (rows_at content file) (of_table content are file file_known) p.file.entries is.file;
+    install_execute_sequence = few_keyed install_execute_sequence_key install_execute_sequence_row install_execute_sequence (rows_at content install_execute_sequence) (of_table content are install_execute_sequence install_execute_sequence_known) p.install_execute_sequence.entries is.install_execute_sequence;
+    launch_condition = few_keyed launch_condition_key launch_condition_row launch_condition (rows_at content launch_condition) (of_table content are launch_condition launch_condition_known) p.launch_condition.entries is.launch_condition;
+    msi_file_hash = few_keyed msi_file_hash_key msi_file_hash_row msi_file_hash (rows_at content msi_file_hash) (of_table content are msi_file_hash msi_file_hash_known) p.msi_file_hash.entries is.msi_file_hash;
+    property = few_keyed property_key property_row property (rows_at content property) (of_table content are property property_known) p.property.entries is.property;
+    registry = few_keyed registry_key registry_row registry (rows_at content registry) (of_table content are registry registry_known) p.registry.entries is.registry;
+    remove_file = few_keyed remove_file_key remove_file_row remove_file (rows_at content remove_file) (of_table content are remove_file remove_file_known) p.remove_file.entries is.remove_file;
+    remove_registry = few_keyed remove_registry_key remove_registry_row remove_registry (rows_at content remove_registry) (of_table content are remove_registry remove_registry_known) p.remove_registry.entries is.remove_registry;
+    shortcut = few_keyed shortcut_key shortcut_row shortcut (rows_at content shortcut) (of_table content are shortcut shortcut_known) p.shortcut.entries is.shortcut;
+    summary_information = few_keyed summary_information_key summary_information_row summary_information (rows_at content summary_information) (of_table content are summary_information summary_information_known) p.summary_information.entries is.summary_information;
+    upgrade = few_keyed upgrade_key upgrade_row upgrade (rows_at content upgrade) (of_table content are upgrade upgrade_known) p.upgrade.entries is.upgrade;
   }
 
   counts : word_count p ≡ count_of (rows_at content summary_information)

@@ -1,5 +1,5 @@
 -- What holds of every lawful package, for those who read it. (Database Tables.)
-use Rattle.std.specs.Prelude.{◌≡◌, ◌≢◌, ◌⊎◌, ℕ, ℤ, zero, suc, pos, negsuc, ◌≤ℤ◌, ◌==◌, ◌/◌, ◌%◌, not, Bool, true, false, List, [], length, find, unwrap_or, codes, bit_and, Option, Some, None, is_some, IfSome, if◌then◌else◌, All, AllPairs, Contains}
+use Rattle.std.specs.Prelude.{◌≡◌, ◌≢◌, ◌⊎◌, ℕ, ℤ, zero, suc, pos, negsuc, ◌≤◌, ◌≤ℤ◌, ◌==◌, ◌/◌, ◌%◌, not, Bool, true, false, List, [], length, find, unwrap_or, codes, bit_and, Option, Some, None, is_some, IfSome, if◌then◌else◌, All, AllPairs, Contains}
 use Rattle.std.specs.Map.{keys_of}
 use Rattle.std.specs.Ordering.{int_eq}
 use Rattle.mi_text.specs.Maps.{Name}
@@ -82,6 +82,34 @@ pub record KeysApart (p : Package) : Type 0 where
   pub shortcut : HaveOwnKeys p.shortcut.entries
   pub summary_information : HaveOwnKeys p.summary_information.entries
   pub upgrade : HaveOwnKeys p.upgrade.entries
+
+-- ---- sizes
+
+-- at most 65,535 rows
+abbrev pub AreFew : {E : Type 0} → List E → Type 0
+AreFew entries = length entries ≤ 65535
+
+pub record TablesSmall (p : Package) : Type 0 where
+  pub component : AreFew p.component.entries
+  pub condition : AreFew p.condition.entries
+  pub create_folder : AreFew p.create_folder.entries
+  pub custom_action : AreFew p.custom_action.entries
+  pub directory : AreFew p.directory.entries
+  pub duplicate_file : AreFew p.duplicate_file.entries
+  pub environment : AreFew p.environment.entries
+  pub feature : AreFew p.feature.entries
+  pub feature_components : AreFew p.feature_components.entries
+  pub file : AreFew p.file.entries
+  pub install_execute_sequence : AreFew p.install_execute_sequence.entries
+  pub launch_condition : AreFew p.launch_condition.entries
+  pub msi_file_hash : AreFew p.msi_file_hash.entries
+  pub property : AreFew p.property.entries
+  pub registry : AreFew p.registry.entries
+  pub remove_file : AreFew p.remove_file.entries
+  pub remove_registry : AreFew p.remove_registry.entries
+  pub shortcut : AreFew p.shortcut.entries
+  pub summary_information : AreFew p.summary_information.entries
+  pub upgrade : AreFew p.upgrade.entries
 
 -- ---- references
 

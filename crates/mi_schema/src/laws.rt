@@ -1,7 +1,7 @@
 //! Laws of lawful packages, which the crates above may use.
 
 ghost use Rattle.mi_schema.specs.Lawful.{IsLawful};
-ghost use Rattle.mi_schema.specs.Laws.{KeysStand, KeysApart, ReferencesStand, ParentsEnd, PropertiesStand, ValuesStand, SourceStands};
+ghost use Rattle.mi_schema.specs.Laws.{KeysStand, KeysApart, ReferencesStand, ParentsEnd, PropertiesStand, ValuesStand, SourceStands, TablesSmall};
 
 use crate::package::Package;
 
@@ -45,4 +45,10 @@ pub fn keys_apart(loaded: &Package)
 pub fn source_stands(loaded: &Package)
     requires lawful { IsLawful loaded.now }
     ensures { SourceStands loaded.now }
+{}
+
+/// No table has more than 65,535 rows.
+pub fn tables_small(loaded: &Package)
+    requires lawful { IsLawful loaded.now }
+    ensures { TablesSmall loaded.now }
 {}

@@ -31,7 +31,7 @@ pub use error::LoadError;
 pub use held::Rows;
 pub use laws::{
     keys_apart, keys_stand, parents_end, properties_stand, references_stand, source_stands,
-    values_stand,
+    tables_small, values_stand,
 };
 pub use load::load_content;
 pub use package::Package;
