@@ -1,3 +1,6 @@
+pub mod ApartLaws
+pub mod CellLaws
+pub mod ChainLaws
 pub mod CheckLemmas
 pub mod ColumnLemmas
 pub mod ConditionLaws
@@ -8,8 +11,11 @@ pub mod KeyLemmas
 pub mod ListLemmas
 pub mod LoadLemmas
 pub mod NumberLaws
+pub mod PackageLaws
 pub mod PlaceLemmas
+pub mod ReferenceLaws
 pub mod RowLemmas
 pub mod SuitLemmas
 pub mod TableLemmas
 pub mod TopLemmas
+pub mod ValueLaws

@@ -4,8 +4,10 @@ pub mod Conditions
 pub mod Described
 pub mod Files
 pub mod Held
+pub mod KeyCells
 pub mod Keys
 pub mod Lawful
+pub mod Laws
 pub mod Loaded
 pub mod Package
 pub mod Read
@@ -14,6 +16,7 @@ pub mod Rows
 pub mod Seen
 pub mod Suits
 pub mod Tables
+pub mod Tells
 pub mod Texts
 pub mod Typed
 pub mod TypedRows

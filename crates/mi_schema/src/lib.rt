@@ -10,6 +10,7 @@ mod error;
 mod file;
 mod form;
 mod held;
+mod laws;
 mod load;
 mod package;
 mod place;
@@ -28,6 +29,10 @@ pub use cell::{Cell, Row};
 pub use content::Content;
 pub use error::LoadError;
 pub use held::Rows;
+pub use laws::{
+    keys_apart, keys_stand, parents_end, properties_stand, references_stand, source_stands,
+    tables_small, values_stand,
+};
 pub use load::load_content;
 pub use package::Package;
 pub use typed_rows::{
