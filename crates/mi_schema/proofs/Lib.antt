@@ -1,4 +1,5 @@
 pub mod ApartLaws
+pub mod BuildLemmas
 pub mod CellLaws
 pub mod ChainLaws
 pub mod CheckLemmas
@@ -15,6 +16,7 @@ pub mod PackageLaws
 pub mod PlaceLemmas
 pub mod ReferenceLaws
 pub mod RowLemmas
+pub mod RowsLemmas
 pub mod SuitLemmas
 pub mod TableLemmas
 pub mod TopLemmas

@@ -10,6 +10,7 @@ pub mod Lawful
 pub mod Laws
 pub mod Loaded
 pub mod Package
+pub mod Places
 pub mod Read
 pub mod Reads
 pub mod Rows
