@@ -15,9 +15,9 @@ use Rattle.mi_base.specs.declared.answers.Place.TheVariants.{InRollback, InCommi
 use Rattle.mi_base.specs.declared.answers.Pause.{Pause}
 use Rattle.mi_base.specs.declared.answers.Kind.{Kind}
 use Rattle.mi_base.specs.declared.answers.Kind.TheVariants.{Done, Listed, Recovered, Refused, Suspended, NoMemory}
-use Rattle.mi_engine.specs.Words.{Command, Install, Products, Recover}
-use Rattle.mi_engine.specs.Outcome.{Outcome, map_after}
-use Rattle.mi_engine.specs.Outcome as outcome
+use Rattle.mi_model.specs.Words.{Command, Install, Products, Recover}
+use Rattle.mi_model.specs.Outcome.{Outcome, map_after}
+use Rattle.mi_model.specs.Outcome as outcome
 use Rattle.mi_engine.specs.Calls.{Fails}
 use Rattle.mi_engine.specs.Ends.{BelowCount, MayCommit, Allowed, AtExit, Ends, Paused}
 use Rattle.mi_engine.specs.Answers.{AnswersCommand, IsDone, Caused, MayPause, Cleans, walks, Tells, log_of, IsLog}

@@ -18,8 +18,8 @@ use Rattle.mi_base.specs.declared.answers.Cause.TheVariants.{BadWords, VolumeFau
 use Rattle.mi_base.specs.declared.answers.Pause.{Pause}
 use Rattle.mi_base.specs.declared.answers.Kind.{Kind}
 use Rattle.mi_base.specs.declared.answers.Kind.TheVariants.{Done, Listed, Recovered, Refused, Suspended, NoMemory}
-use Rattle.mi_engine.specs.Words.{Command, Install, Products, Recover}
-use Rattle.mi_engine.specs.Outcome.{Outcome, map_after}
+use Rattle.mi_model.specs.Words.{Command, Install, Products, Recover}
+use Rattle.mi_model.specs.Outcome.{Outcome, map_after}
 use Rattle.mi_engine.specs.Calls.{Fails}
 use Rattle.mi_engine.specs.Ends.{BelowCount, Allowed, AtExit, Reads, Ends}
 use Rattle.mi_engine.specs.Answers.{AnswersCommand, Caused, MayPause, Cleans, walks, log_of, IsLog}

@@ -27,9 +27,9 @@ use Rattle.mi_base.specs.declared.answers.Place.TheVariants.{InRollback, InCommi
 use Rattle.mi_base.specs.declared.answers.Kind.{Kind}
 use Rattle.mi_base.specs.declared.answers.Kind.TheVariants.{Done, Listed, Recovered, Refused, Suspended, NoMemory}
 use Rattle.mi_engine.specs.declared.reply.Reply.{Reply}
-use Rattle.mi_engine.specs.Words.{Command, Install, Products, Recover, Installs}
-use Rattle.mi_engine.specs.Outcome.{Outcome, kind_of, map_after, of_machine, of_former, of_words}
-use Rattle.mi_engine.specs.Outcome as outcome
+use Rattle.mi_model.specs.Words.{Command, Install, Products, Recover, Installs}
+use Rattle.mi_model.specs.Outcome.{Outcome, kind_of, map_after, of_machine, of_former, of_words}
+use Rattle.mi_model.specs.Outcome as outcome
 use Rattle.mi_engine.specs.Calls.{Fails}
 use Rattle.mi_engine.specs.Ends.{BelowCount, MayCommit, Allowed, AtExit, Reads, Ends, Paused}
 use Rattle.mi_engine.specs.Answers.{IsBefore, AnswersCommand, AnswersWords, IsDone, Caused, MayPause, Completes, SameCount, MayStand, UnnotedStay, ReadsAfter, Cleans, walks, Tells, log_of, IsLog}

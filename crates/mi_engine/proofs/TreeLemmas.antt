@@ -16,7 +16,7 @@ use Rattle.std.specs.BTreeMap as tree
 use Rattle.std.specs.Map.{lookup, KeepsOthers, IsKeyTest, AreApart}
 use Rattle.mi_text.specs.Maps.{Name, Map, name_cmp, same_name, set_to}
 use Rattle.mi_text.proofs.MapLemmas.{entries-from_entries, names_total, from_same, same, get-set_to}
-use Rattle.mi_engine.specs.Collected.{collected}
+use Rattle.mi_model.specs.Collected.{collected}
 use Rattle.mi_engine.specs.Calls.{map_of}
 
 abbrev pub at_name : Name → Name → Bool

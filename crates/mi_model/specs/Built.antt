@@ -1,7 +1,8 @@
 -- Which rows of the table Registry are built so far. (Registry table; Formatted.)
-use Rattle.std.specs.Prelude.{ℕ, ℤ, pos, ◌==◌, ◌&&◌, ◌||◌, not, Bool, false, List, codes, nat_eq}
+use Rattle.std.specs.Prelude.{ℕ, ℤ, pos, ◌==◌, ◌&&◌, ◌||◌, not, Bool, false, List, Option, Some, None, codes, nat_eq, if◌then◌else◌}
 use Rattle.std.specs.List.{list_any, starts_with}
 use Rattle.mi_base.specs.Limits.{is_key, is_value_name, has_no_zero, is_short}
+use Rattle.mi_schema.specs.declared.typed_rows.RegistryRow.{RegistryRow}
 
 -- what a row writes under HKEY_LOCAL_MACHINE
 pub record Row : Type 0 where
@@ -24,3 +25,11 @@ is_two other = false
 
 abbrev pub is_built_row : List ℕ → List ℕ → List ℕ → Bool
 is_built_row key name value = (is_key key && stands_for_itself key) && (is_value_name name && stands_for_itself name) && is_plain_value value
+
+abbrev pub text_written : List ℕ → Option (List ℕ) → Option (List ℕ) → Option Row
+text_written key (Some name) (Some value) = if is_built_row key name value then Some (record { key = key; name = name; value = value }) else None
+text_written key name value = None
+
+-- what a row writes, where it is built
+abbrev pub written_by : RegistryRow → Option Row
+written_by r = if is_two r.root then text_written r.key r.name r.value else None

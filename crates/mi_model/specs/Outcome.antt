@@ -1,6 +1,6 @@
 -- The outcome of a run, over the words, the source's files and the map that is handed in. (Installation; the order
--- of refusals is this project's own: words, settling, image, package.)
-use Rattle.std.specs.Prelude.{ℕ, List, Result, Ok, Err}
+-- of refusals is this project's own: words, settling, image, package, plan.)
+use Rattle.std.specs.Prelude.{ℕ, List, Option, Some, None, Result, Ok, Err}
 use Rattle.mi_text.specs.Maps.{Name}
 use Rattle.mi_text.specs.declared.answers.Settled.{Settled}
 use Rattle.mi_volume.specs.Maps.{Map}
@@ -12,11 +12,10 @@ use Rattle.mi_base.specs.declared.answers.Cause.{Cause}
 use Rattle.mi_base.specs.declared.answers.Cause.TheVariants.{BadWords, BadRollback, BadImage, Table}
 use Rattle.mi_base.specs.declared.answers.Kind.{Kind}
 use Rattle.mi_base.specs.declared.answers.Kind.TheVariants as kind
-use Rattle.mi_report.specs.Listings.{products_text_of}
-use Rattle.mi_engine.specs.Built.{Row}
-use Rattle.mi_engine.specs.Words.{Command, Install, Products, Recover, command_of}
-use Rattle.mi_engine.specs.Package.{package_of}
-use Rattle.mi_engine.specs.After.{after}
+use Rattle.mi_schema.specs.Checks.{load_fault, content_of}
+use Rattle.mi_model.specs.Listings.{products_text_of}
+use Rattle.mi_model.specs.Words.{Command, Install, Products, Recover, command_of}
+use Rattle.mi_model.specs.Plan.{plan_of}
 
 pub data Outcome : Type 0 where
   -- the map after
@@ -29,13 +28,22 @@ pub data Outcome : Type 0 where
 
 -- ---- with the former map F, which spells the machine m, and what settling found
 
--- a package writes its rows
-abbrev pub of_package : Map → Result (List Row) Fault → Outcome
-of_package F (Ok rows) = Done (after rows F)
-of_package F (Err fault) = Refused (Table fault)
+-- what the plan of a package makes
+abbrev pub of_plan : Result Map Cause → Outcome
+of_plan (Ok A) = Done A
+of_plan (Err cause) = Refused cause
+
+-- a package with a fault is refused
+abbrev pub of_loaded : Option Fault → Result Map Cause → Outcome
+of_loaded (Some fault) plan = Refused (Table fault)
+of_loaded None plan = of_plan plan
+
+-- the package of a folder: its first fault, or what its plan makes
+abbrev pub of_package : Files → Name → Map → Machine → Outcome
+of_package files folder F m = of_loaded (load_fault files folder) (plan_of (content_of files folder) F m)
 
 abbrev pub of_command : Files → Settled → Map → Machine → Command → Outcome
-of_command files found F m (Install folder) = of_package F (package_of files folder)
+of_command files found F m (Install folder) = of_package files folder F m
 of_command files found F m Products = Listed (products_text_of m)
 of_command files found F m Recover = Recovered found
 

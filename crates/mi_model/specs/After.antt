@@ -8,7 +8,7 @@ use Rattle.mi_base.specs.declared.entry.Entry.{Entry}
 use Rattle.mi_base.specs.declared.entry.Entry.TheVariants.{Key, Value}
 use Rattle.mi_base.specs.declared.entry.RegValue.TheVariants.{Text}
 use Rattle.mi_base.specs.Spelling.{name_of, record_of}
-use Rattle.mi_engine.specs.Built.{Row}
+use Rattle.mi_model.specs.Built.{Row}
 
 -- the root HKEY_LOCAL_MACHINE
 abbrev pub local_machine : ℕ

@@ -8,7 +8,7 @@ use Rattle.mi_base.specs.declared.entry.Client.{Client}
 use Rattle.mi_base.specs.declared.entry.Product.{Product}
 use Rattle.mi_base.specs.Machine.{Machine}
 use Rattle.mi_image.specs.Lists.{products_of, clients_of}
-use Rattle.mi_report.specs.Lines.{shown}
+use Rattle.mi_model.specs.Lines.{shown}
 
 -- four numbers with a point between
 unfoldable pub version_text : Version → List ℕ
