@@ -36,9 +36,14 @@ each_suits cs rows = list_all (all_suit cs) rows
 
 -- ---- keys
 
+-- a value in a key: a condition stands as its text
+abbrev pub key_cell : Option Cell → Option Cell
+key_cell (Some (cell.Condition text tree)) = Some (cell.Text text)
+key_cell other = other
+
 -- the values of a row in the key columns
 abbrev pub key_cells : List Column → Row → Row
-key_cells (c ∷ cs) (x ∷ xs) = if c.key then x ∷ key_cells cs xs else key_cells cs xs
+key_cells (c ∷ cs) (x ∷ xs) = if c.key then key_cell x ∷ key_cells cs xs else key_cells cs xs
 key_cells cs xs = []
 
 -- none of these rows has the key of this one

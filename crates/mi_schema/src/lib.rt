@@ -30,7 +30,12 @@ pub use error::LoadError;
 pub use held::Rows;
 pub use load::load_content;
 pub use package::Package;
-pub use typed_rows::*;
+pub use typed_rows::{
+    ComponentRow, ConditionRow, CreateFolderRow, CustomActionRow, DirectoryRow, DuplicateFileRow,
+    EnvironmentRow, FeatureComponentsRow, FeatureRow, FileRow, InstallExecuteSequenceRow,
+    LaunchConditionRow, MsiFileHashRow, PropertyRow, RegistryRow, RemoveFileRow, RemoveRegistryRow,
+    ShortcutRow, SummaryInformationRow, UpgradeRow,
+};
 
 #[cfg(test)]
 mod tests;

@@ -10,7 +10,7 @@ use indexmap::IndexMap;
 use mi_base::Text;
 
 /// The rows of the known tables by their keys, in file order (Database Tables). A key of several columns is a tuple.
-#[derive(Debug, Drop)]
+#[derive(Drop)]
 pub struct Package {
     /// Whether source names are the short ones: bit 0 of the Word Count (Word Count Summary property).
     pub short_names: bool,
