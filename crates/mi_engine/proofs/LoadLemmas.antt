@@ -1,25 +1,17 @@
 -- Loading a package, and what of it is written.
-use Rattle.std.proofs.Common.{◌≡◌, ℕ, List, Option, Some, None, Result, Ok, Err, Vec, refl, sym, ap, ◌∙◌}
+use Rattle.std.proofs.Common.{◌≡◌, ℕ, List, Option, Some, None, Result, Ok, Err, Vec, sym, ap, subst, ◌∙◌}
+use Rattle.std.specs.Prelude.{IsErrAnd, IfErr}
 use Rattle.std.specs.declared.alloc.Global.{Global}
 use Rattle.mi_base.specs.declared.answers.Fault.{Fault}
 use Rattle.mi_base.specs.declared.answers.Cause.{Cause}
 use Rattle.mi_base.specs.declared.answers.Cause.TheVariants.{BadWords, VolumeFault, BadRollback, BadImage, SourceFault, Table}
-use Rattle.mi_schema.specs.declared.error.LoadError.{LoadError}
-use Rattle.mi_schema.specs.declared.error.LoadError.TheVariants as load
-use Rattle.mi_schema.specs.Answers as answers
 use Rattle.mi_model.specs.Built.{Row}
 use Rattle.mi_engine.specs.declared.stop.Stop.{Stop}
 use Rattle.mi_engine.specs.declared.stop.Stop.TheVariants.{NoMemory, Refuse}
-use Rattle.mi_engine.specs.Calls.{stop_of, CausedStop, Loads, IsSourceStop}
+use Rattle.mi_engine.specs.Calls.{CausedStop, Loads, IsSourceStop, Refuses}
 use Rattle.mi_engine.specs.Rows.{unless_fault}
 
 module _ (failed : Type 0) (fault : Option Fault) (rows : Result (List Row) Fault) where
-  -- a package that isn't loaded
-  pub unloaded : (e : LoadError) → answers.Fails failed fault e → CausedStop failed (unless_fault fault rows) (stop_of e)
-  unloaded load.NoMemory fails = tt
-  unloaded load.Source fails = fails
-  unloaded (load.Table f) fails = ap (λ (o : Option Fault). unless_fault o rows) fails
-
   no_fault : fault ≡ None → unless_fault fault rows ≡ rows
   no_fault none = ap (λ (o : Option Fault). unless_fault o rows) none
 
@@ -34,16 +26,39 @@ module _ (failed : Type 0) (fault : Option Fault) (rows : Result (List Row) Faul
   loaded (Err (Refuse (BadRollback name))) none is = absurd is
   loaded (Err (Refuse (BadImage name))) none is = absurd is
 
-  pub source_stop : (e : LoadError) → answers.IsCounted failed (Err {T = Unit {0}} e) → IsSourceStop failed (stop_of e)
-  source_stop load.NoMemory is = tt
-  source_stop load.Source is = is
-  source_stop (load.Table f) is = tt
+-- ---- answers of the plan
 
-  pub any_source : (s : Stop) → IsSourceStop ⊥ s → IsSourceStop failed s
-  any_source NoMemory is = tt
-  any_source (Refuse SourceFault) is = absurd is
-  any_source (Refuse (Table f)) is = tt
-  any_source (Refuse (BadWords place)) is = absurd is
-  any_source (Refuse VolumeFault) is = absurd is
-  any_source (Refuse (BadRollback name)) is = absurd is
-  any_source (Refuse (BadImage name)) is = absurd is
+any_source : (failed : Type 0) (s : Stop) → IsSourceStop ⊥ s → IsSourceStop failed s
+any_source failed NoMemory is = tt
+any_source failed (Refuse SourceFault) is = absurd is
+any_source failed (Refuse (Table f)) is = tt
+any_source failed (Refuse (BadWords place)) is = absurd is
+any_source failed (Refuse VolumeFault) is = absurd is
+any_source failed (Refuse (BadRollback name)) is = absurd is
+any_source failed (Refuse (BadImage name)) is = absurd is
+
+pub source_stop : (failed : Type 0) (r : Result (Vec Row Global) Stop) → IfErr r (IsSourceStop ⊥) → IfErr r (IsSourceStop failed)
+source_stop failed (Ok v) is = tt
+source_stop failed (Err s) is = any_source failed s is
+
+pub want_of_memory : (rows : Result (List Row) Fault) (r : Result (Vec Row Global) Stop) → IsErrAnd r (λ e. e ≡ NoMemory) → Loads ⊥ rows r
+want_of_memory rows (Ok v) is = absurd is
+want_of_memory rows (Err e) is = subst (CausedStop ⊥ rows) (sym is) tt
+
+pub refused : (rows : Result (List Row) Fault) (fault : Fault) (s : Stop) → rows ≡ Err fault → Refuses fault s → CausedStop ⊥ rows s
+refused rows fault NoMemory is refuses = tt
+refused rows fault (Refuse SourceFault) is refuses = refuses
+refused rows fault (Refuse (Table f)) is refuses = is ∙ ap Err (sym refuses)
+refused rows fault (Refuse (BadWords place)) is refuses = refuses
+refused rows fault (Refuse VolumeFault) is refuses = refuses
+refused rows fault (Refuse (BadRollback name)) is refuses = refuses
+refused rows fault (Refuse (BadImage name)) is refuses = refuses
+
+pub refused_stop : (fault : Fault) (s : Stop) → Refuses fault s → IsSourceStop ⊥ s
+refused_stop fault NoMemory refuses = tt
+refused_stop fault (Refuse SourceFault) refuses = refuses
+refused_stop fault (Refuse (Table f)) refuses = tt
+refused_stop fault (Refuse (BadWords place)) refuses = refuses
+refused_stop fault (Refuse VolumeFault) refuses = refuses
+refused_stop fault (Refuse (BadRollback name)) refuses = refuses
+refused_stop fault (Refuse (BadImage name)) refuses = refuses

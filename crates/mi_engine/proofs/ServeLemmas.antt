@@ -29,7 +29,7 @@ use Rattle.mi_model.specs.After.{after}
 use Rattle.mi_model.specs.Words.{Command, Install, Products, Recover}
 use Rattle.mi_schema.specs.Checks.{load_fault, content_of}
 use Rattle.mi_model.specs.Plan.{planned_rows, made_by}
-use Rattle.mi_model.specs.Outcome.{Outcome, map_after, of_plan, of_loaded, of_package, of_command, of_machine}
+use Rattle.mi_model.specs.Outcome.{Outcome, map_after, of_loaded, of_package, of_command, of_machine}
 use Rattle.mi_model.specs.Outcome as outcome
 use Rattle.mi_engine.specs.Calls.{Fails, CausedStop, IsSourceStop}
 use Rattle.mi_engine.specs.Rows.{unless_fault, rows_of, of_rows}
@@ -119,7 +119,7 @@ module _ (volume source : Type 0) (s : State) (files : Files) (found : Settled) 
 pub package_is : (files : Files) (folder : Name) (F : Map) (m : Machine) → of_rows F (rows_of files folder) ≡ of_package files folder F m
 package_is files folder F m = by_fault (load_fault files folder) (planned_rows (content_of files folder))
   where
-    by_fault : (o : Option Fault) (r : Result (List Row) Fault) → of_rows F (unless_fault o r) ≡ of_loaded o (of_plan (made_by F r))
+    by_fault : (o : Option Fault) (r : Result (List Row) Fault) → of_rows F (unless_fault o r) ≡ of_loaded o (made_by F r)
     by_fault (Some fault) r = refl
     by_fault None (Ok rows) = refl
     by_fault None (Err fault) = refl

@@ -30,6 +30,6 @@ of_rows F (Err fault) = Refused (Table fault)
 abbrev pub counted_row : ℕ → Option ℕ
 counted_row count = if count == 0 then None else Some 1
 
--- a table and its first row that isn't built, as a fault
-abbrev pub named_fault : Name × Option ℕ → Option Fault
-named_fault t = option_map (NotYet t.0) t.1
+-- a table with so many rows, of which none is built
+abbrev pub counted_fault : Name × ℕ → Option Fault
+counted_fault t = option_map (NotYet t.0) (counted_row t.1)

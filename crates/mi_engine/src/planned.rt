@@ -1,6 +1,6 @@
 //! What a package writes, as far as it is built.
 
-ghost use Rattle.std.specs.Prelude.{◌≡◌, ◌<◌, ◌^◌, length, map, None, IfOk, IfErr};
+ghost use Rattle.std.specs.Prelude.{◌≡◌, ◌<◌, ◌^◌, length, map, take, drop, codes, None, IfOk, IfErr};
 ghost use Rattle.std.specs.Option.{option_map};
 ghost use Rattle.std.specs.FinMap as finite;
 ghost use Rattle.indexmap.specs.IndexMap.{values};
@@ -8,9 +8,10 @@ ghost use Rattle.mi_base.specs.declared.answers.Fault.TheVariants.{NotYet};
 ghost use Rattle.mi_schema.specs.Tables as table;
 ghost use Rattle.mi_schema.specs.Checks.{Content, rows_at, first_fault};
 ghost use Rattle.mi_schema.specs.Package.{IsPackage};
-ghost use Rattle.mi_model.specs.Plan.{first_unbuilt, rows_by_key, planned_rows};
+ghost use Rattle.mi_schema.specs.Rows.{◌or_else◌};
+ghost use Rattle.mi_model.specs.Plan.{first_unbuilt, rows_by_key, stages, stage_fault, planned_rows};
 ghost use Rattle.mi_engine.specs.Calls.{map_of, Loads, IsSourceStop, Refuses};
-ghost use Rattle.mi_engine.specs.Rows.{counted_row, named_fault};
+ghost use Rattle.mi_engine.specs.Rows.{counted_fault};
 
 use crate::rows::{PlainRow, written_by};
 use crate::stop::Stop;
@@ -67,23 +68,67 @@ fn in_order(alloc: Global, rows: BTreeMap<Text, PlainRow>) -> Result<Vec<PlainRo
     Ok(list)
 }
 
-/// The first row of a table of which nothing is built, from 1.
-fn any_row(rows: usize) -> Option<u32>
-    ensures { result ≡ counted_row rows }
+/// The first table of a list that holds a row, and the number of that row. A table is listed with the count of its
+/// rows.
+fn first_row(tables: &[(&'static str, usize)]) -> Option<(&'static str, u32)>
+    ensures { option_map (λ t. NotYet t.0.now t.1) result ≡ first_fault counted_fault (map (λ t. (t.0.now, t.1)) tables.now) }
 {
-    if rows == 0 { None } else { Some(1) }
-}
-
-/// The first table of a list with a row that isn't built, and that row.
-fn first_row(tables: &[(&'static str, Option<u32>)]) -> Option<(&'static str, u32)>
-    ensures { option_map (λ t. NotYet t.0.now t.1) result ≡ first_fault named_fault (map (λ t. (t.0.now, t.1)) tables.now) }
-{
-    for (table, row) in tables {
-        if let Some(row) = row {
-            return Some((*table, *row));
+    for (table, rows) in tables {
+        if *rows > 0 {
+            return Some((*table, 1));
         }
     }
     None
+}
+
+/// The first row before Registry that isn't built.
+fn before_registry(loaded: &Package) -> Option<(&'static str, u32)>
+    ensures { (content : Content) → IsPackage loaded.now content → option_map (λ t. NotYet t.0.now t.1) result ≡ first_fault (stage_fault content) (take 7 stages) }
+{
+    let tables = [
+        ("Condition", loaded.condition.len()),
+        ("CreateFolder", loaded.create_folder.len()),
+        ("CustomAction", loaded.custom_action.len()),
+        ("DuplicateFile", loaded.duplicate_file.len()),
+        ("Environment", loaded.environment.len()),
+        ("File", loaded.file.len()),
+        ("LaunchCondition", loaded.launch_condition.len()),
+    ];
+    first_row(&tables)
+}
+
+/// The first row behind Registry that isn't built.
+fn behind_registry(loaded: &Package) -> Option<(&'static str, u32)>
+    ensures { (content : Content) → IsPackage loaded.now content → option_map (λ t. NotYet t.0.now t.1) result ≡ first_fault (stage_fault content) (drop 8 stages) }
+{
+    let tables = [
+        ("RemoveFile", loaded.remove_file.len()),
+        ("RemoveRegistry", loaded.remove_registry.len()),
+        ("Shortcut", loaded.shortcut.len()),
+    ];
+    first_row(&tables)
+}
+
+/// The first of these rows that there is, in this order.
+fn first_of(
+    before: Option<(&'static str, u32)>,
+    registry: Option<u32>,
+    behind: Option<(&'static str, u32)>,
+) -> Option<(&'static str, u32)>
+    ensures { option_map (λ t. NotYet t.0.now t.1) result ≡ option_map (λ t. NotYet t.0.now t.1) before.entry or_else option_map (NotYet (codes "Registry")) registry or_else option_map (λ t. NotYet t.0.now t.1) behind.entry }
+{
+    match (before, registry) {
+        (Some(row), _) => Some(row),
+        (None, Some(row)) => Some(("Registry", row)),
+        (None, None) => behind,
+    }
+}
+
+/// The rows of Registry; the others are dropped.
+fn registry_of(loaded: Package) -> IndexMap<Text, RegistryRow>
+    ensures { result ≡ loaded.registry }
+{
+    loaded.registry
 }
 
 /// The refusal of a row that isn't built.
@@ -102,37 +147,14 @@ pub fn planned(alloc: Global, loaded: Package) -> Result<Vec<PlainRow>, Stop>
     ensures plans { (content : Content) → IsPackage loaded content → length (rows_at content table.registry) < 2 ^ 32 → Loads ⊥ (planned_rows content) result }
     ensures stopped { IfErr result (IsSourceStop ⊥) }
 {
-    let Package {
-        condition,
-        create_folder,
-        custom_action,
-        duplicate_file,
-        environment,
-        file,
-        launch_condition,
-        registry,
-        remove_file,
-        remove_registry,
-        shortcut,
-        ..
-    } = loaded;
-    let values = registry_values(alloc, registry)?;
-    let tables = [
-        ("Condition", any_row(condition.len())),
-        ("CreateFolder", any_row(create_folder.len())),
-        ("CustomAction", any_row(custom_action.len())),
-        ("DuplicateFile", any_row(duplicate_file.len())),
-        ("Environment", any_row(environment.len())),
-        ("File", any_row(file.len())),
-        ("LaunchCondition", any_row(launch_condition.len())),
-        ("Registry", values.unbuilt),
-        ("RemoveFile", any_row(remove_file.len())),
-        ("RemoveRegistry", any_row(remove_registry.len())),
-        ("Shortcut", any_row(shortcut.len())),
-    ];
-    if let Some((table, row)) = first_row(&tables) {
-        return Err(not_yet(alloc, table, row));
+    let before = before_registry(&loaded);
+    let behind = behind_registry(&loaded);
+    let values = registry_values(alloc, registry_of(loaded))?;
+    match first_of(before, values.unbuilt, behind) {
+        Some((table, row)) => Err(not_yet(alloc, table, row)),
+        None => {
+            let rows = in_order(alloc, values.rows)?;
+            Ok(rows)
+        }
     }
-    let rows = in_order(alloc, values.rows)?;
-    Ok(rows)
 }
