@@ -1,5 +1,5 @@
 -- A table that is loaded has few rows.
-use Rattle.std.proofs.Common.{◌≡◌, ℕ, zero, suc, ◌+◌, ◌^◌, ◌<◌, ◌≤◌, Bool, true, false, cond, List, [], ◌∷◌, length, map, get_or, Option, Some, None, refl, sym, ap, subst, ◌∙◌, arith}
+use Rattle.std.proofs.Common.{◌≡◌, ℕ, zero, suc, ◌+◌, ◌^◌, ◌<◌, ◌≤◌, Bool, true, false, cond, List, [], ◌∷◌, length, map, get_or, Option, Some, None, refl, sym, ap, ◌∙◌, arith}
 use Rattle.std.specs.Prelude.{nat_lt, option_map}
 use Rattle.std.specs.Str.Lines.{lines}
 use Rattle.std.proofs.lemmas.Bool.Decides.{nat_tests}
@@ -16,7 +16,7 @@ use Rattle.mi_idt.proofs.Faults.{or-none}
 use Rattle.mi_idt.specs.Raw.{raw_of_lines, raw_of}
 use Rattle.mi_idt.specs.Rows.{cells_of}
 use Rattle.mi_schema.specs.Tables.{Table, tables, registry}
-use Rattle.mi_schema.specs.Values.{Row, row_of}
+use Rattle.mi_schema.specs.Values.{row_of}
 use Rattle.mi_schema.specs.Rows.{◌or_else◌, table_fault, table_rows, value_fault, spelled_value}
 use Rattle.mi_schema.specs.Checks.{place_of_table, rows_at, rows_of, bytes_of, content_of, content_fault, first_fault, missing_fault, tables_fault, load_fault}
 

@@ -1,9 +1,8 @@
 -- Loading a package, and what of it is written.
-use Rattle.std.proofs.Common.{◌≡◌, ℕ, List, Option, Some, None, Result, Ok, Err, Vec, sym, ap, subst, ◌∙◌}
+use Rattle.std.proofs.Common.{◌≡◌, List, Option, None, Result, Ok, Err, Vec, sym, ap, subst, ◌∙◌}
 use Rattle.std.specs.Prelude.{IsErrAnd, IfErr}
 use Rattle.std.specs.declared.alloc.Global.{Global}
 use Rattle.mi_base.specs.declared.answers.Fault.{Fault}
-use Rattle.mi_base.specs.declared.answers.Cause.{Cause}
 use Rattle.mi_base.specs.declared.answers.Cause.TheVariants.{BadWords, VolumeFault, BadRollback, BadImage, SourceFault, Table}
 use Rattle.mi_model.specs.Built.{Row}
 use Rattle.mi_engine.specs.declared.stop.Stop.{Stop}

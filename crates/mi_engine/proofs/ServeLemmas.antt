@@ -1,20 +1,16 @@
 -- What a command leaves on a settled volume, by how it ends.
-use Rattle.std.proofs.Common.{◌≡◌, ◌⊎◌, inl, inr, ⊎_elim, ℕ, ◌-◌, ◌^◌, ◌<◌, ◌≤◌, arith, Bool, false, true, List, ◌++◌, Option, Some, None, Result, Ok, Err, refl, sym, ap, subst, ◌∙◌}
+use Rattle.std.proofs.Common.{◌≡◌, inl, inr, ⊎_elim, ℕ, ◌-◌, ◌^◌, ◌<◌, ◌≤◌, arith, false, true, List, Option, Some, None, Result, Ok, Err, refl, sym, ap, subst, ◌∙◌}
 use Rattle.std.specs.Prelude.{IsNone, IsOkAnd}
 use Rattle.mi_text.specs.declared.answers.Settled.{Settled}
-use Rattle.mi_text.specs.declared.answers.Settled.TheVariants.{Clean}
 use Rattle.mi_text.specs.Maps.{Name}
 use Rattle.mi_volume.specs.Maps.{Map}
-use Rattle.mi_volume.specs.State.{State, Images, GoesOn, Stays, Rose, Passes}
+use Rattle.mi_volume.specs.State.{State, Rose}
 use Rattle.mi_source.specs.Paths.{Files}
-use Rattle.mi_volume.proofs.Moments.{started}
 use Rattle.mi_undo.specs.Keeps.{IsFree}
 use Rattle.mi_undo.specs.Answers.{IsFreeUnlessRose}
 use Rattle.mi_base.specs.Machine.{Machine, machine_of}
 use Rattle.mi_base.specs.declared.answers.Fault.{Fault}
-use Rattle.mi_base.specs.declared.answers.Cause.{Cause}
 use Rattle.mi_base.specs.declared.answers.Cause.TheVariants.{BadWords, VolumeFault, BadRollback, BadImage, SourceFault, Table}
-use Rattle.mi_base.specs.declared.answers.Pause.{Pause}
 use Rattle.mi_base.specs.declared.answers.Kind.{Kind}
 use Rattle.mi_base.specs.declared.answers.Kind.TheVariants.{Done, Listed, Recovered, Refused, Suspended, NoMemory}
 use Rattle.mi_image.specs.Items.{Items, machine_over, ImageOf}
@@ -34,7 +30,7 @@ use Rattle.mi_model.specs.Outcome as outcome
 use Rattle.mi_engine.specs.Calls.{Fails, CausedStop, IsSourceStop}
 use Rattle.mi_engine.specs.Rows.{unless_fault, rows_of, of_rows}
 use Rattle.mi_engine.specs.Ends.{BelowCount, Ends, WriteCaused, IsWriteKind}
-use Rattle.mi_engine.specs.Answers.{AnswersCommand, IsDone, Caused, MayPause, Cleans, walks, Tells, log_of, IsLog}
+use Rattle.mi_engine.specs.Answers.{AnswersCommand, Caused, MayPause, Cleans, walks, log_of, IsLog}
 use Rattle.mi_engine.specs.Endings.{kind_unscanned, kind_unloaded}
 use Rattle.mi_engine.specs.Looks.{Looks}
 use Rattle.mi_engine.specs.Replies.{log_in, Replies, Lists, WriteLogs, Serves}

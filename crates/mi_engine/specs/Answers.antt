@@ -4,7 +4,7 @@ use Rattle.std.specs.FinMap.{get}
 use Rattle.mi_text.specs.declared.answers.Settled.{Settled}
 use Rattle.mi_text.specs.declared.answers.Settled.TheVariants.{Clean}
 use Rattle.mi_volume.specs.Maps.{Map}
-use Rattle.mi_volume.specs.State.{State, Stays, StaysDirty}
+use Rattle.mi_volume.specs.State.{State}
 use Rattle.mi_undo.specs.Names.{is_inside}
 use Rattle.mi_undo.specs.Notes.{Note, note_of}
 use Rattle.mi_undo.specs.Stands.{StandsFor, noted, outside}

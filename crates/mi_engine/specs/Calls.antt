@@ -7,7 +7,6 @@ use Rattle.mi_volume.specs.State.{State, Rose}
 use Rattle.mi_schema.specs.declared.error.LoadError.{LoadError}
 use Rattle.mi_schema.specs.declared.error.LoadError.TheVariants as load
 use Rattle.mi_base.specs.declared.answers.Fault.{Fault}
-use Rattle.mi_base.specs.declared.answers.Cause.{Cause}
 use Rattle.mi_base.specs.declared.answers.Cause.TheVariants.{VolumeFault, SourceFault, Table}
 use Rattle.mi_model.specs.Built.{Row}
 use Rattle.mi_engine.specs.declared.stop.Stop.{Stop}

@@ -1,12 +1,12 @@
 -- The rows that a package writes, as far as they are built, or why it writes none. (Database Tables; Registry table.)
-use Rattle.std.specs.Prelude.{ℕ, ◌==◌, List, map, Option, Some, None, option_map, Result, Ok, Err, if◌then◌else◌}
+use Rattle.std.specs.Prelude.{ℕ, ◌==◌, List, Option, Some, None, option_map, Result, Ok, Err, if◌then◌else◌}
 use Rattle.mi_text.specs.Maps.{Name}
 use Rattle.mi_volume.specs.Maps.{Map}
 use Rattle.mi_source.specs.Paths.{Files}
 use Rattle.mi_base.specs.declared.answers.Fault.{Fault}
 use Rattle.mi_base.specs.declared.answers.Fault.TheVariants.{NotYet}
 use Rattle.mi_base.specs.declared.answers.Cause.TheVariants.{Table}
-use Rattle.mi_schema.specs.Checks.{load_fault, content_of, first_fault}
+use Rattle.mi_schema.specs.Checks.{load_fault, content_of}
 use Rattle.mi_model.specs.Built.{Row}
 use Rattle.mi_model.specs.After.{after}
 use Rattle.mi_model.specs.Outcome.{Outcome, Done, Refused}

@@ -1,4 +1,3 @@
-use Rattle.std.proofs.Common.{◌≡◌}
 use Rattle.mi_source.specs.Counts.{Rose}
 use Rattle.mi_schema.specs.Checks.{load_fault, content_of}
 use Rattle.mi_model.specs.Plan.{planned_rows}

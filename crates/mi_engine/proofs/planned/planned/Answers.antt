@@ -1,9 +1,8 @@
-use Rattle.std.proofs.Common.{◌≡◌, Some, None, sym, ap, ◌∙◌}
+use Rattle.std.proofs.Common.{sym, ap, ◌∙◌}
 use Rattle.std.specs.Option.{option_map}
 use Rattle.indexmap.specs.IndexMap.{values}
 use Rattle.mi_base.specs.declared.answers.Fault.TheVariants.{NotYet}
-use Rattle.mi_schema.specs.Checks.{Content}
-use Rattle.mi_model.specs.Plan.{planned_rows, not_yet}
+use Rattle.mi_model.specs.Plan.{planned_rows}
 use Rattle.mi_engine.specs.Calls.{map_of}
 use Rattle.mi_engine.proofs.LoadLemmas.{want_of_memory, refused, refused_stop}
 use Rattle.mi_engine.proofs.UnbuiltLemmas.{few_values, first_is, plan_refused, plan_made, none_of}

@@ -1,4 +1,4 @@
-use Rattle.std.proofs.Common.{◌≡◌, None, Some, sym, ◌∙◌}
+use Rattle.std.proofs.Common.{sym, ◌∙◌}
 use Rattle.std.proofs.lemmas.Map.Iter.{rest_more, rest_all}
 use Rattle.indexmap.specs.IndexMap.{values}
 use Rattle.mi_schema.specs.declared.typed_rows.RegistryRow.{RegistryRow}
