@@ -1,6 +1,7 @@
 pub mod CheckLemmas
 pub mod ColumnLemmas
 pub mod ConditionLaws
+pub mod DifferLemmas
 pub mod FileLemmas
 pub mod FitLemmas
 pub mod KeyLemmas
@@ -9,5 +10,6 @@ pub mod LoadLemmas
 pub mod NumberLaws
 pub mod PlaceLemmas
 pub mod RowLemmas
+pub mod SuitLemmas
 pub mod TableLemmas
 pub mod TopLemmas

@@ -5,6 +5,7 @@ ghost use Rattle.mi_source.specs.Counts.{Rose};
 ghost use Rattle.mi_schema.specs.Answers.{Answers, IsCounted};
 ghost use Rattle.mi_schema.specs.Described.{table_as};
 ghost use Rattle.mi_schema.specs.Held.{content_as};
+ghost use Rattle.mi_schema.specs.Lawful.{AreTables};
 ghost use Rattle.mi_schema.specs.Read.{rows_as};
 ghost use Rattle.mi_schema.specs.Tables.{tables};
 ghost use Rattle.mi_base.specs.declared.answers.Fault.TheVariants as faults;
@@ -32,6 +33,7 @@ fn load_each<S: Source>(
     ensures value { S.told → Answers (Rose (S.faults src.old) (S.faults src.new)) (tables_fault (S.files src.old) folder.now (map table_as layouts.now))
         (λ held. map rows_as held.items ≡ map (rows_of (S.files src.old) folder.now) (map table_as layouts.now)) result }
     ensures as_many { IfOk result (λ held. vec_len held ≡ length layouts.now) }
+    ensures are_tables { IfOk result (λ held. AreTables (map table_as layouts.now) (map rows_as held.items)) }
     ensures counted { IsCounted (Rose (S.faults src.old) (S.faults src.new)) result }
     ensures stays { S.files src.new ≡ S.files src.old }
     ensures counts { S.faults src.old ≤ S.faults src.new }
@@ -48,6 +50,7 @@ fn load_each<S: Source>(
 fn load_tables<S: Source>(alloc: Global, src: &mut S, folder: &str) -> Result<Content, LoadError>
     ensures value { S.told → Answers (Rose (S.faults src.old) (S.faults src.new)) (tables_fault (S.files src.old) folder.now tables)
         (λ content. content_as content ≡ content_of (S.files src.old) folder.now) result }
+    ensures are_tables { IfOk result (λ content. AreTables tables (content_as content)) }
     ensures counted { IsCounted (Rose (S.faults src.old) (S.faults src.new)) result }
     ensures stays { S.files src.new ≡ S.files src.old }
     ensures counts { S.faults src.old ≤ S.faults src.new }
@@ -103,6 +106,7 @@ pub fn load_content<S: Source>(
 ) -> Result<Content, LoadError>
     ensures value { S.told → Answers (Rose (S.faults src.old) (S.faults src.new)) (load_fault (S.files src.old) folder.now)
         (λ content. content_as content ≡ content_of (S.files src.old) folder.now) result }
+    ensures are_tables { IfOk result (λ content. AreTables tables (content_as content)) }
     ensures counted { IsCounted (Rose (S.faults src.old) (S.faults src.new)) result }
     ensures stays { S.files src.new ≡ S.files src.old }
     ensures counts { S.faults src.old ≤ S.faults src.new }
