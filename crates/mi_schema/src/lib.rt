@@ -27,6 +27,3 @@ pub use content::Content;
 pub use error::LoadError;
 pub use held::Rows;
 pub use load::load_content;
-
-#[cfg(test)]
-mod tests;
