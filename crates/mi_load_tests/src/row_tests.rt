@@ -18,7 +18,7 @@ fn is_alone_answered(alloc: Global, case: Case) -> Result<bool, Fail> {
     is_answered(alloc, &[Change::Rows(table, rows)], answer)
 }
 
-/// Product rows: the first property of the package, whose value is checked.
+/// Rows of Property in place of its own: names, and the values that are checked.
 const PROPERTIES: [Case; 13] = [
     ("Property", "\tx\n", "Value Property 1 1"),
     ("Property", "A\t\n", "Value Property 1 2"),
@@ -251,7 +251,7 @@ fn a_feature_below_itself_is_a_cycle(rt: HostRuntime) -> Result<(), Fail> {
     Ok(())
 }
 
-const FILES: [Case; 26] = [
+const FILES: [Case; 29] = [
     ("File", "\tCFile\ta\t1\t\t\t\t1\n", "Value File 2 1"),
     ("File", "F\t\ta\t1\t\t\t\t1\n", "Value File 2 2"),
     ("File", "F\tCFile\t\t1\t\t\t\t1\n", "Value File 2 3"),
@@ -284,6 +284,9 @@ const FILES: [Case; 26] = [
     ),
     ("MsiFileHash", "\t0\t1\t2\t3\t4\n", "Value MsiFileHash 2 1"),
     ("MsiFileHash", "F\t\t1\t2\t3\t4\n", "Value MsiFileHash 2 2"),
+    ("MsiFileHash", "F\t0\t\t2\t3\t4\n", "Value MsiFileHash 2 3"),
+    ("MsiFileHash", "F\t0\t1\t\t3\t4\n", "Value MsiFileHash 2 4"),
+    ("MsiFileHash", "F\t0\t1\t2\t\t4\n", "Value MsiFileHash 2 5"),
     ("MsiFileHash", "F\t0\t1\t2\t3\t\n", "Value MsiFileHash 2 6"),
     (
         "MsiFileHash",

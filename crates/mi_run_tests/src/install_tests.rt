@@ -48,7 +48,10 @@ fn words_that_are_not_right_are_refused(rt: HostRuntime) -> Result<(), Fail> {
 
 /// Rows of Registry, and the fields of their fault.
 const ROWS: [(&str, &str); 15] = [
-    ("RVer\t1\tSoftware\\Acme\tVer\t1\tCReg\n", "NotYet Registry 1"),
+    (
+        "RVer\t1\tSoftware\\Acme\tVer\t1\tCReg\n",
+        "NotYet Registry 1",
+    ),
     ("RVer\t-1\tA\tB\t1\tCReg\n", "NotYet Registry 1"),
     ("RVer\t2\tA\t\t1\tCReg\n", "NotYet Registry 1"),
     ("RVer\t2\tA\tB\t\tCReg\n", "NotYet Registry 1"),
@@ -75,7 +78,10 @@ const ROWS: [(&str, &str); 15] = [
 fn rows_that_are_not_plain_are_refused(rt: HostRuntime) -> Result<(), Fail> {
     for (rows, fault) in ROWS {
         let line = format!(in rt.alloc(); "Result: Refused Table {fault}\n")?;
-        assert!(rt; is_refused(rt.alloc(), &["/i", "pkg"], rows, line.as_str())?, "{fault}");
+        assert!(rt;
+            is_refused(rt.alloc(), &["/i", "pkg"], rows, line.as_str())?,
+            "{fault}"
+        );
     }
     Ok(())
 }

@@ -59,11 +59,7 @@ pub const FILE_TABLES: [Table<'static>; 3] = [
 ];
 
 /// Gives the folder `pkg` these tables.
-pub fn add_tables(
-    alloc: Global,
-    source: &mut MemSource,
-    tables: &[Table<'_>],
-) -> Result<(), Fail> {
+pub fn add_tables(alloc: Global, source: &mut MemSource, tables: &[Table<'_>]) -> Result<(), Fail> {
     for (table, text) in tables {
         let path = format!(in alloc; "pkg/{table}.idt")?;
         source.add(alloc, path.as_str(), text.as_bytes())?;

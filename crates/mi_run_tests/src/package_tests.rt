@@ -84,7 +84,10 @@ const FAULTS: [(Table<'static>, &str); 8] = [
         "MissingProperty Manufacturer",
     ),
     (
-        ("Font", "File_\tFontTitle\ns72\tS128\nFont\tFile_\nFTool\t\n"),
+        (
+            "Font",
+            "File_\tFontTitle\ns72\tS128\nFont\tFile_\nFTool\t\n",
+        ),
         "Unsupported Font",
     ),
     (
@@ -117,7 +120,10 @@ const FAULTS: [(Table<'static>, &str); 8] = [
 #[test]
 fn each_fault_of_a_table_is_named(rt: HostRuntime) -> Result<(), Fail> {
     for (table, fault) in FAULTS {
-        assert!(rt; is_fault(rt.alloc(), &[table], &NO_TABLES, fault)?, "{fault}");
+        assert!(rt;
+            is_fault(rt.alloc(), &[table], &NO_TABLES, fault)?,
+            "{fault}"
+        );
     }
     Ok(())
 }
