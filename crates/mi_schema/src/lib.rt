@@ -46,6 +46,3 @@ pub use typed_rows::{
     LaunchConditionRow, MsiFileHashRow, PropertyRow, RegistryRow, RemoveFileRow, RemoveRegistryRow,
     ShortcutRow, SummaryInformationRow, UpgradeRow,
 };
-
-#[cfg(test)]
-mod tests;
