@@ -7,7 +7,7 @@ mod tables;
 mod words;
 
 use mi_idt::read_table;
-use mi_schema::{Content, load_content};
+use mi_schema::Package;
 use package::{FOLDER, MadePackage, package};
 use std::alloc::Global;
 use std::rt::{Clock, Env};
@@ -51,22 +51,42 @@ fn carry_out_table<R: Print + Clock>(
 }
 
 // How many rows were loaded.
-fn rows_in(content: &Content) -> usize {
-    let mut rows = 0usize;
-    for held in content.held.iter() {
-        rows = rows.saturating_add(held.rows.len());
-    }
-    rows
+fn rows_in(loaded: &Package) -> usize {
+    let tables = [
+        loaded.component.len(),
+        loaded.condition.len(),
+        loaded.create_folder.len(),
+        loaded.custom_action.len(),
+        loaded.directory.len(),
+        loaded.duplicate_file.len(),
+        loaded.environment.len(),
+        loaded.feature.len(),
+        loaded.feature_components.len(),
+        loaded.file.len(),
+        loaded.install_execute_sequence.len(),
+        loaded.launch_condition.len(),
+        loaded.msi_file_hash.len(),
+        loaded.property.len(),
+        loaded.registry.len(),
+        loaded.remove_file.len(),
+        loaded.remove_registry.len(),
+        loaded.shortcut.len(),
+        loaded.summary_information.len(),
+        loaded.upgrade.len(),
+    ];
+    tables
+        .iter()
+        .fold(0usize, |sum, rows| sum.saturating_add(*rows))
 }
 
 // Loads the package, and writes how many rows were loaded and the time that it took. A package that is refused has no time.
 fn time_loading<R: Print + Clock>(rt: &R, alloc: Global, made: MadePackage) -> io::Result<()> {
     let mut source = made.source;
     let start = Instant::now(rt)?;
-    let loaded = load_content(alloc, &mut source, FOLDER);
+    let loaded = Package::load(alloc, &mut source, FOLDER);
     let microseconds = start.elapsed(rt)?.as_micros();
     match loaded {
-        Ok(content) => println!(rt; "{} rows {microseconds} microseconds", rows_in(&content)),
+        Ok(package) => println!(rt; "{} rows {microseconds} microseconds", rows_in(&package)),
         Err(error) => println!(rt; "refused: {error:?}"),
     }
 }

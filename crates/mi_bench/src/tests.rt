@@ -5,7 +5,7 @@ use crate::rows_in;
 use crate::samples::Sample;
 use crate::tables::table;
 use mi_idt::read_table;
-use mi_schema::load_content;
+use mi_schema::Package;
 use std::alloc::Global;
 use std::test::Fail;
 
@@ -38,8 +38,8 @@ fn rows_are_full_and_sparse_in_turn(rt: HostRuntime) -> Result<(), Fail> {
 /// How many rows of a package with so many rows in each table are loaded; none where it is refused.
 fn loaded_rows(alloc: Global, rows: u32) -> Result<usize, Fail> {
     let mut made = package(alloc, rows)?;
-    match load_content(alloc, &mut made.source, FOLDER) {
-        Ok(content) => Ok(rows_in(&content)),
+    match Package::load(alloc, &mut made.source, FOLDER) {
+        Ok(loaded) => Ok(rows_in(&loaded)),
         Err(_) => Ok(0),
     }
 }
