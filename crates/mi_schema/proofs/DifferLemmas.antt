@@ -1,5 +1,5 @@
 -- No two rows of a table without a fault have one key.
-use Rattle.std.proofs.Common.{◌≡◌, ◌≢◌, ◌&&◌, ◌||◌, append_assoc, ℕ, ◌+◌, not, Bool, true, false, cond, List, [], ◌∷◌, ◌++◌, length, map, get_or, refl, sym, ap, subst, ◌∙◌, inl, inr, arith}
+use Rattle.std.proofs.Common.{◌≡◌, ◌≢◌, ◌&&◌, ◌||◌, append_assoc, ℕ, ◌+◌, not, Bool, true, false, cond, List, [], ◌∷◌, ◌++◌, length, map, get_or, refl, sym, ap, subst, ◌∙◌, inl, inr, arith, Option, Some, None}
 use Rattle.std.specs.List.{All, AllPairs, list_all}
 use Rattle.std.specs.Str.{bytes_eq}
 use Rattle.std.proofs.lemmas.Bool.{cases_Bool}
@@ -8,6 +8,8 @@ use Rattle.std.proofs.lemmas.List.Elements.{All-head, All-tail}
 use Rattle.std.proofs.lemmas.Slice.Eq.{bytes_eq-Decides}
 use Rattle.mi_idt.specs.Cells as raw
 use Rattle.mi_idt.proofs.Pairs.{AllPairs-head, AllPairs-tail}
+use Rattle.mi_schema.specs.declared.cell.Cell.{Cell}
+use Rattle.mi_schema.specs.declared.cell.Cell.TheVariants.{Text, Integer}
 use Rattle.mi_schema.specs.declared.column.Kind.{Kind}
 use Rattle.mi_schema.specs.declared.column.Kind.TheVariants as kind
 use Rattle.mi_schema.specs.Lawful.{AreRowsOf}
@@ -36,58 +38,37 @@ tables_tell = refl
 
 -- ---- a value tells its field
 
+-- a field as a value in a key
+abbrev plain : raw.Cell → Option Cell
+plain raw.Nothing = None
+plain (raw.Text text) = Some (Text text)
+plain (raw.Number z) = Some (Integer z)
+
+as_plain : (k : Kind) (x : raw.Cell) → tells k ≡ true → FitsKind k x → key_cell (value_of k x) ≡ plain x
+as_plain k raw.Nothing on fit = refl
+as_plain k (raw.Number z) on fit = refl
+as_plain kind.Integer (raw.Text text) on fit = absurd fit
+as_plain kind.Code (raw.Text text) on fit = cc
+as_plain kind.Condition (raw.Text text) on fit = refl
+as_plain kind.Text (raw.Text text) on fit = refl
+as_plain kind.Name (raw.Text text) on fit = refl
+as_plain kind.Pattern (raw.Text text) on fit = refl
+as_plain kind.Formatted (raw.Text text) on fit = refl
+as_plain (kind.KeyOf target) (raw.Text text) on fit = refl
+
+one_field : (x y : raw.Cell) → plain x ≡ plain y → x ≡ y
+one_field raw.Nothing raw.Nothing e = refl
+one_field raw.Nothing (raw.Text text) e = cc
+one_field raw.Nothing (raw.Number z) e = cc
+one_field (raw.Text text) raw.Nothing e = cc
+one_field (raw.Text text) (raw.Text other) e = let same : text ≡ other = cc in ap raw.Text same
+one_field (raw.Text text) (raw.Number z) e = cc
+one_field (raw.Number z) raw.Nothing e = cc
+one_field (raw.Number z) (raw.Text text) e = cc
+one_field (raw.Number z) (raw.Number w) e = let same : z ≡ w = cc in ap raw.Number same
+
 told : (k : Kind) (x y : raw.Cell) → tells k ≡ true → FitsKind k x → FitsKind k y → key_cell (value_of k x) ≡ key_cell (value_of k y) → x ≡ y
-told kind.Code x y on fit more e = cc
-told k raw.Nothing raw.Nothing on fit more e = refl
-told kind.Integer raw.Nothing (raw.Text text) on fit more e = absurd more
-told kind.Integer raw.Nothing (raw.Number z) on fit more e = cc
-told kind.Integer (raw.Text text) raw.Nothing on fit more e = absurd fit
-told kind.Integer (raw.Number z) raw.Nothing on fit more e = cc
-told kind.Integer (raw.Text text) y on fit more e = absurd fit
-told kind.Integer (raw.Number z) (raw.Text text) on fit more e = absurd more
-told kind.Integer (raw.Number z) (raw.Number w) on fit more e = let same : z ≡ w = cc in ap raw.Number same
-told kind.Condition raw.Nothing (raw.Text text) on fit more e = cc
-told kind.Condition raw.Nothing (raw.Number z) on fit more e = absurd more
-told kind.Condition (raw.Text text) raw.Nothing on fit more e = cc
-told kind.Condition (raw.Number z) raw.Nothing on fit more e = absurd fit
-told kind.Condition (raw.Number z) y on fit more e = absurd fit
-told kind.Condition (raw.Text text) (raw.Number z) on fit more e = absurd more
-told kind.Condition (raw.Text text) (raw.Text other) on fit more e = let same : text ≡ other = cc in ap raw.Text same
-told kind.Text raw.Nothing (raw.Text text) on fit more e = cc
-told kind.Text raw.Nothing (raw.Number z) on fit more e = absurd more
-told kind.Text (raw.Text text) raw.Nothing on fit more e = cc
-told kind.Text (raw.Number z) raw.Nothing on fit more e = absurd fit
-told kind.Text (raw.Number z) y on fit more e = absurd fit
-told kind.Text (raw.Text text) (raw.Number z) on fit more e = absurd more
-told kind.Text (raw.Text text) (raw.Text other) on fit more e = let same : text ≡ other = cc in ap raw.Text same
-told kind.Name raw.Nothing (raw.Text text) on fit more e = cc
-told kind.Name raw.Nothing (raw.Number z) on fit more e = absurd more
-told kind.Name (raw.Text text) raw.Nothing on fit more e = cc
-told kind.Name (raw.Number z) raw.Nothing on fit more e = absurd fit
-told kind.Name (raw.Number z) y on fit more e = absurd fit
-told kind.Name (raw.Text text) (raw.Number z) on fit more e = absurd more
-told kind.Name (raw.Text text) (raw.Text other) on fit more e = let same : text ≡ other = cc in ap raw.Text same
-told kind.Pattern raw.Nothing (raw.Text text) on fit more e = cc
-told kind.Pattern raw.Nothing (raw.Number z) on fit more e = absurd more
-told kind.Pattern (raw.Text text) raw.Nothing on fit more e = cc
-told kind.Pattern (raw.Number z) raw.Nothing on fit more e = absurd fit
-told kind.Pattern (raw.Number z) y on fit more e = absurd fit
-told kind.Pattern (raw.Text text) (raw.Number z) on fit more e = absurd more
-told kind.Pattern (raw.Text text) (raw.Text other) on fit more e = let same : text ≡ other = cc in ap raw.Text same
-told kind.Formatted raw.Nothing (raw.Text text) on fit more e = cc
-told kind.Formatted raw.Nothing (raw.Number z) on fit more e = absurd more
-told kind.Formatted (raw.Text text) raw.Nothing on fit more e = cc
-told kind.Formatted (raw.Number z) raw.Nothing on fit more e = absurd fit
-told kind.Formatted (raw.Number z) y on fit more e = absurd fit
-told kind.Formatted (raw.Text text) (raw.Number z) on fit more e = absurd more
-told kind.Formatted (raw.Text text) (raw.Text other) on fit more e = let same : text ≡ other = cc in ap raw.Text same
-told (kind.KeyOf target) raw.Nothing (raw.Text text) on fit more e = cc
-told (kind.KeyOf target) raw.Nothing (raw.Number z) on fit more e = absurd more
-told (kind.KeyOf target) (raw.Text text) raw.Nothing on fit more e = cc
-told (kind.KeyOf target) (raw.Number z) raw.Nothing on fit more e = absurd fit
-told (kind.KeyOf target) (raw.Number z) y on fit more e = absurd fit
-told (kind.KeyOf target) (raw.Text text) (raw.Number z) on fit more e = absurd more
-told (kind.KeyOf target) (raw.Text text) (raw.Text other) on fit more e = let same : text ≡ other = cc in ap raw.Text same
+told k x y on fit more e = one_field x y (sym (as_plain k x on fit) ∙ e ∙ as_plain k y on more)
 
 -- ---- the fields of a key
 

@@ -1,4 +1,7 @@
+pub mod ApartLaws
 pub mod BuildLemmas
+pub mod CellLaws
+pub mod ChainLaws
 pub mod CheckLemmas
 pub mod ColumnLemmas
 pub mod ConditionLaws
@@ -9,9 +12,12 @@ pub mod KeyLemmas
 pub mod ListLemmas
 pub mod LoadLemmas
 pub mod NumberLaws
+pub mod PackageLaws
 pub mod PlaceLemmas
+pub mod ReferenceLaws
 pub mod RowLemmas
 pub mod RowsLemmas
 pub mod SuitLemmas
 pub mod TableLemmas
 pub mod TopLemmas
+pub mod ValueLaws

@@ -7,6 +7,7 @@ pub mod Held
 pub mod KeyCells
 pub mod Keys
 pub mod Lawful
+pub mod Laws
 pub mod Loaded
 pub mod Package
 pub mod Places

@@ -12,6 +12,7 @@ mod file;
 mod form;
 mod held;
 mod key;
+mod laws;
 mod load;
 mod package;
 mod place;
@@ -33,6 +34,10 @@ pub use cell::{Cell, Row};
 pub use content::Content;
 pub use error::LoadError;
 pub use held::Rows;
+pub use laws::{
+    keys_apart, keys_stand, parents_end, properties_stand, references_stand, source_stands,
+    tables_small, values_stand,
+};
 pub use load::load_content;
 pub use package::Package;
 pub use typed_rows::{
