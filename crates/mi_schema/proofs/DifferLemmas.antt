@@ -1,5 +1,5 @@
 -- No two rows of a table without a fault have one key.
-use Rattle.std.proofs.Common.{◌≡◌, ◌≢◌, ◌&&◌, ◌||◌, append_assoc, ℕ, zero, suc, ◌+◌, not, Bool, true, false, cond, List, [], ◌∷◌, ◌++◌, length, map, get_or, Option, Some, None, refl, sym, ap, subst, ◌∙◌, inl, inr, arith}
+use Rattle.std.proofs.Common.{◌≡◌, ◌≢◌, ◌&&◌, ◌||◌, append_assoc, ℕ, ◌+◌, not, Bool, true, false, cond, List, [], ◌∷◌, ◌++◌, length, map, get_or, refl, sym, ap, subst, ◌∙◌, inl, inr, arith}
 use Rattle.std.specs.List.{All, AllPairs, list_all}
 use Rattle.std.specs.Str.{bytes_eq}
 use Rattle.std.proofs.lemmas.Bool.{cases_Bool}
@@ -12,7 +12,7 @@ use Rattle.mi_schema.specs.declared.column.Kind.{Kind}
 use Rattle.mi_schema.specs.declared.column.Kind.TheVariants as kind
 use Rattle.mi_schema.specs.Lawful.{AreRowsOf}
 use Rattle.mi_schema.specs.Reads.{FitsKind}
-use Rattle.mi_schema.specs.Rows.{key_places, begins_with, rows_in}
+use Rattle.mi_schema.specs.Rows.{key_places, begins_with}
 use Rattle.mi_schema.specs.Suits.{key_cell, key_cells, IsNewKey, KeysDiffer}
 use Rattle.mi_schema.specs.Tables.{Column, Table, tables}
 use Rattle.mi_schema.specs.Values.{Row, value_of, row_of}

@@ -12,7 +12,7 @@ use Rattle.mi_idt.specs.Columns.{is_text, is_int}
 use Rattle.mi_idt.specs.Fields.{fields_of}
 use Rattle.mi_idt.specs.Means.{Shows, IsSpelled, meaning, column_value, raw_row as raw_fields}
 use Rattle.mi_idt.specs.Rows.{cells_of}
-use Rattle.mi_idt.specs.Spells.{SpellsField, SpellsFields, SpellsRow}
+use Rattle.mi_idt.specs.Spells.{SpellsField, SpellsFields}
 use Rattle.mi_schema.specs.declared.column.Kind.{Kind}
 use Rattle.mi_schema.specs.declared.column.Kind.TheVariants as kind
 use Rattle.mi_schema.specs.declared.column.Column.{Column as Listed}

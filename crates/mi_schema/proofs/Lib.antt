@@ -1,3 +1,4 @@
+pub mod BuildLemmas
 pub mod CheckLemmas
 pub mod ColumnLemmas
 pub mod ConditionLaws
@@ -10,6 +11,7 @@ pub mod LoadLemmas
 pub mod NumberLaws
 pub mod PlaceLemmas
 pub mod RowLemmas
+pub mod RowsLemmas
 pub mod SuitLemmas
 pub mod TableLemmas
 pub mod TopLemmas

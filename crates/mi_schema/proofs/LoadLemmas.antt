@@ -1,6 +1,6 @@
 -- Loading one table after the other.
-use Rattle.std.proofs.Common.{◌≡◌, ℕ, ◌+◌, ◌<◌, ◌≤◌, List, [], ◌∷◌, ◌++◌, length, map, take, drop, get_or, refl, sym, ap, subst, ◌∙◌, arith, Option, Some, None, Err}
-use Rattle.std.proofs.lemmas.List.{map-append, length-append, length-map}
+use Rattle.std.proofs.Common.{◌≡◌, ℕ, ◌+◌, ◌<◌, ◌≤◌, List, [], ◌∷◌, ◌++◌, length, map, take, drop, get_or, refl, sym, ap, subst, ◌∙◌, arith, Option, None, Err}
+use Rattle.std.proofs.lemmas.List.{map-append, length-append}
 use Rattle.mi_text.specs.Maps.{Name}
 use Rattle.mi_source.specs.Counts.{Rose}
 use Rattle.mi_source.specs.Paths.{Files}

@@ -4,7 +4,6 @@ use Rattle.std.specs.Prelude.{option_map}
 use Rattle.std.specs.List.{AllZip}
 use Rattle.std.proofs.lemmas.Bool.{cases_Bool}
 use Rattle.mi_text.specs.Maps.{Name}
-use Rattle.mi_text.specs.declared.answers.IdtFault.{IdtFault}
 use Rattle.mi_base.specs.declared.answers.Fault.{Fault}
 use Rattle.mi_base.specs.declared.answers.Fault.TheVariants.{Idt, Columns, Unsupported}
 use Rattle.mi_idt.specs.Cells as raw

@@ -21,3 +21,8 @@ some_condition_in other = None
 -- the condition of a column that allows no null
 abbrev pub condition_in : Option Cell → Tree
 condition_in cell = unwrap_or (some_condition_in cell) (Alone (value.Integer (pos 0)))
+
+-- a value that isn't null, and is such a one
+abbrev pub IsSuch : Option Cell → (Cell → Type 0) → Type 0
+IsSuch None P = ⊥
+IsSuch (Some value) P = P value

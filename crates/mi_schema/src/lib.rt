@@ -1,6 +1,7 @@
 //! The tables of a package, loaded from a folder and checked (Database Tables).
 #![tactic(auto)]
 
+mod build;
 mod cell;
 mod chain;
 mod check;
@@ -10,6 +11,7 @@ mod error;
 mod file;
 mod form;
 mod held;
+mod key;
 mod load;
 mod package;
 mod place;
@@ -20,8 +22,11 @@ mod row;
 mod rule;
 mod seen;
 mod table;
+mod table_row;
+mod table_rows;
 mod tables;
 mod text;
+mod typed;
 mod typed_rows;
 
 pub use cell::{Cell, Row};

@@ -9,6 +9,9 @@ use crate::typed_rows::{
 use indexmap::IndexMap;
 use mi_base::Text;
 
+/// The key of a row of Upgrade: UpgradeCode, VersionMin, VersionMax, Language and Attributes (Upgrade table).
+pub type UpgradeKey = (Text, Option<Text>, Option<Text>, Option<Text>, i32);
+
 /// The rows of the known tables by their keys, in file order (Database Tables). A key of several columns is a tuple.
 #[derive(Drop)]
 pub struct Package {
@@ -32,6 +35,6 @@ pub struct Package {
     pub launch_condition: IndexMap<Text, LaunchConditionRow>,
     pub custom_action: IndexMap<Text, CustomActionRow>,
     pub install_execute_sequence: IndexMap<Text, InstallExecuteSequenceRow>,
-    pub upgrade: IndexMap<(Text, Option<Text>, Option<Text>, Option<Text>, i32), UpgradeRow>,
+    pub upgrade: IndexMap<UpgradeKey, UpgradeRow>,
     pub summary_information: IndexMap<i32, SummaryInformationRow>,
 }

@@ -116,7 +116,7 @@ fn misspelled(alloc: Global, table: &str, why: IdtFault) -> LoadError
 }
 
 /// A table without rows.
-fn no_rows(alloc: Global) -> Rows
+pub fn no_rows(alloc: Global) -> Rows
     ensures { rows_as result ≡ [] }
 {
     Rows {
