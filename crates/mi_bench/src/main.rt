@@ -6,7 +6,7 @@ mod tables;
 mod words;
 
 use mi_idt::read_table;
-use mi_schema::load_content;
+use mi_schema::Package;
 use mi_source::MemSource;
 use packages::package;
 use std::alloc::Global;
@@ -38,7 +38,7 @@ fn time_reading<R: Print + Clock>(rt: &R, alloc: Global, bytes: &[u8]) -> io::Re
 // Loads the package, and writes whether it was loaded and the time that it took.
 fn time_loading<R: Print + Clock>(rt: &R, alloc: Global, source: &mut MemSource) -> io::Result<()> {
     let start = Instant::now(rt)?;
-    let answer = match load_content(alloc, source, "pkg") {
+    let answer = match Package::load(alloc, source, "pkg") {
         Ok(_) => "loaded",
         Err(_) => "refused",
     };

@@ -3,7 +3,7 @@
 use crate::packages::package;
 use crate::tables::table;
 use mi_idt::read_table;
-use mi_schema::load_content;
+use mi_schema::Package;
 use std::test::Fail;
 
 #[test]
@@ -21,6 +21,6 @@ fn the_table_has_its_rows(rt: HostRuntime) -> Result<(), Fail> {
 #[test]
 fn the_package_is_loaded(rt: HostRuntime) -> Result<(), Fail> {
     let (mut source, _) = package(rt.alloc(), 3)?;
-    assert!(rt; load_content(rt.alloc(), &mut source, "pkg").is_ok());
+    assert!(rt; Package::load(rt.alloc(), &mut source, "pkg").is_ok());
     Ok(())
 }

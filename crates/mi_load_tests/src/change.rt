@@ -3,7 +3,7 @@
 use crate::base::{Base, TABLES};
 use mi_base::{Cause, Kind, Settled, Texts};
 use mi_report::{Outcome, report};
-use mi_schema::{LoadError, load_content};
+use mi_schema::{LoadError, Package};
 use mi_source::MemSource;
 use std::alloc::Global;
 use std::test::Fail;
@@ -153,7 +153,7 @@ fn words_of(alloc: Global, error: LoadError) -> Result<String, Fail> {
 
 /// What loading the folder `pkg` answers: `Ok`, or the words of its fault.
 pub fn answer_of(alloc: Global, source: &mut MemSource) -> Result<String, Fail> {
-    match load_content(alloc, source, "pkg") {
+    match Package::load(alloc, source, "pkg") {
         Ok(_) => Ok(String::from_str(alloc, "Ok")?),
         Err(error) => words_of(alloc, error),
     }

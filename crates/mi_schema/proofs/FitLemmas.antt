@@ -12,7 +12,7 @@ use Rattle.mi_idt.specs.Columns.{is_text, is_int}
 use Rattle.mi_idt.specs.Fields.{fields_of}
 use Rattle.mi_idt.specs.Means.{Shows, IsSpelled, meaning, column_value, raw_row as raw_fields}
 use Rattle.mi_idt.specs.Rows.{cells_of}
-use Rattle.mi_idt.specs.Spells.{SpellsField, SpellsFields, SpellsRow}
+use Rattle.mi_idt.specs.Spells.{SpellsField, SpellsFields}
 use Rattle.mi_schema.specs.declared.column.Kind.{Kind}
 use Rattle.mi_schema.specs.declared.column.Kind.TheVariants as kind
 use Rattle.mi_schema.specs.declared.column.Column.{Column as Listed}
@@ -29,11 +29,11 @@ AllFit [] row = Unit {0}
 AllFit (k ∷ known) [] = ⊥
 AllFit (k ∷ known) (x ∷ row) = FitsKind k.kind x × AllFit known row
 
-front : (a b : Bool) → (a && b) ≡ true → a ≡ true
+pub front : (a b : Bool) → (a && b) ≡ true → a ≡ true
 front true b e = refl
 front false b e = cc
 
-back : (a b : Bool) → (a && b) ≡ true → b ≡ true
+pub back : (a b : Bool) → (a && b) ≡ true → b ≡ true
 back true b e = e
 back false b e = cc
 
@@ -62,7 +62,7 @@ fits_one kind.Code c field (Number z) is spells = not_both c.letter is spells.0
 fits_one (kind.KeyOf target) c field (Text t) is spells = tt
 fits_one (kind.KeyOf target) c field (Number z) is spells = not_both c.letter is spells.0
 
-fits_all : (known : List Column) (columns : List ColumnValue) (fields : List (List ℕ)) (row : List Cell) → begins_with known columns ≡ true → SpellsFields columns fields row → AllFit known row
+pub fits_all : (known : List Column) (columns : List ColumnValue) (fields : List (List ℕ)) (row : List Cell) → begins_with known columns ≡ true → SpellsFields columns fields row → AllFit known row
 fits_all [] columns fields row is spells = tt
 fits_all (k ∷ known) [] fields row is spells = cc
 fits_all (k ∷ known) (c ∷ columns) [] row is spells = absurd spells

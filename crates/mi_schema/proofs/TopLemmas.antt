@@ -1,5 +1,5 @@
 -- The checks of a whole package, one after the other.
-use Rattle.std.proofs.Common.{◌≡◌, ℕ, ◌≤◌, Option, Some, None, refl, sym, ap, subst, ◌∙◌, arith}
+use Rattle.std.proofs.Common.{◌≡◌, ℕ, ◌≤◌, Option, None, sym, ap, ◌∙◌}
 use Rattle.mi_text.specs.Maps.{Name}
 use Rattle.mi_source.specs.Counts.{Rose}
 use Rattle.mi_source.specs.Paths.{Files}

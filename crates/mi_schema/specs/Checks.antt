@@ -1,7 +1,7 @@
 -- The first fault of a package, and its rows. (Database Tables; the order of the checks is this project's own.)
 use Rattle.std.specs.Prelude.{ℕ, suc, pos, ◌+◌, ◌/◌, ◌%◌, ◌==◌, ◌&&◌, ◌||◌, not, Bool, true, if◌then◌else◌, List, [], ◌∷◌, ◌++◌, length, map, find, codes, Option, Some, None, is_none, is_some, option_map, option_and_then, unwrap_or, bit_and}
 use Rattle.std.specs.Ordering.{int_eq}
-use Rattle.std.specs.List.{list_any, slice_index_or}
+use Rattle.std.specs.List.{slice_index_or}
 use Rattle.std.specs.Str.{bytes_eq}
 use Rattle.std.specs.FinMap.{get}
 use Rattle.mi_text.specs.Maps.{Name, same_name}
@@ -15,7 +15,6 @@ use Rattle.mi_dirs.specs.Order.{parent_in}
 use Rattle.mi_dirs.specs.Places.{first_row}
 use Rattle.mi_dirs.specs.Faults.{numbers}
 use Rattle.mi_schema.specs.declared.cell.Cell.{Cell}
-use Rattle.mi_schema.specs.declared.cell.Cell.TheVariants as cell
 use Rattle.mi_schema.specs.declared.column.Kind.{Kind}
 use Rattle.mi_schema.specs.declared.column.Kind.TheVariants as kind
 use Rattle.mi_schema.specs.declared.column.Rule.{Rule}

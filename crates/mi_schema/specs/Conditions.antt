@@ -1,5 +1,5 @@
 -- Conditions as values of a table (Conditional Statement Syntax).
-use Rattle.std.specs.Prelude.{◌≡◌, ℕ, ◌+◌, nat_lt, if◌then◌else◌, List, [], ◌∷◌, Option, Some, None, Result, Ok, Err}
+use Rattle.std.specs.Prelude.{ℕ, ◌+◌, nat_lt, if◌then◌else◌, List, [], ◌∷◌, Option, Some, None, Result, Ok, Err}
 use Rattle.mi_cond.specs.Tree.{Tree}
 use Rattle.mi_cond.specs.declared.error.CondFault.{CondFault}
 use Rattle.mi_cond.specs.declared.error.CondFault.TheVariants.{Syntax, TooDeep}

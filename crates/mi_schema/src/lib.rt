@@ -1,6 +1,7 @@
 //! The tables of a package, loaded from a folder and checked (Database Tables).
 #![tactic(auto)]
 
+mod build;
 mod cell;
 mod chain;
 mod check;
@@ -10,7 +11,10 @@ mod error;
 mod file;
 mod form;
 mod held;
+mod key;
+mod laws;
 mod load;
+mod package;
 mod place;
 mod property;
 mod read;
@@ -19,11 +23,26 @@ mod row;
 mod rule;
 mod seen;
 mod table;
+mod table_row;
+mod table_rows;
 mod tables;
 mod text;
+mod typed;
+mod typed_rows;
 
 pub use cell::{Cell, Row};
 pub use content::Content;
 pub use error::LoadError;
 pub use held::Rows;
+pub use laws::{
+    keys_apart, keys_stand, parents_end, properties_stand, references_stand, source_stands,
+    tables_small, values_stand,
+};
 pub use load::load_content;
+pub use package::Package;
+pub use typed_rows::{
+    ComponentRow, ConditionRow, CreateFolderRow, CustomActionRow, DirectoryRow, DuplicateFileRow,
+    EnvironmentRow, FeatureComponentsRow, FeatureRow, FileRow, InstallExecuteSequenceRow,
+    LaunchConditionRow, MsiFileHashRow, PropertyRow, RegistryRow, RemoveFileRow, RemoveRegistryRow,
+    ShortcutRow, SummaryInformationRow, UpgradeRow,
+};

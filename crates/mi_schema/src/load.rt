@@ -1,21 +1,25 @@
 //! Loading the tables of a package.
 
-ghost use Rattle.std.specs.Prelude.{◌≡◌, ◌≤◌, IfOk, length, map, vec_len};
+ghost use Rattle.std.specs.Prelude.{◌≡◌, ◌≤◌, IfOk, None, length, map, vec_len};
 ghost use Rattle.mi_source.specs.Counts.{Rose};
 ghost use Rattle.mi_schema.specs.Answers.{Answers, IsCounted};
 ghost use Rattle.mi_schema.specs.Described.{table_as};
 ghost use Rattle.mi_schema.specs.Held.{content_as};
+ghost use Rattle.mi_schema.specs.Lawful.{AreTables, IsLawful};
+ghost use Rattle.mi_schema.specs.Package.{IsPackage};
 ghost use Rattle.mi_schema.specs.Read.{rows_as};
 ghost use Rattle.mi_schema.specs.Tables.{tables};
 ghost use Rattle.mi_base.specs.declared.answers.Fault.TheVariants as faults;
 ghost use Rattle.mi_schema.specs.Reads.{Refuses};
-ghost use Rattle.mi_schema.specs.Checks.{rows_of, content_of, tables_fault, missing_table, missing_fault, load_fault};
+ghost use Rattle.mi_schema.specs.Checks.{rows_of, content_of, tables_fault, missing_table, missing_fault, content_fault, load_fault};
 
+use crate::build::build;
 use crate::check::check_content;
 use crate::column::Layout;
 use crate::content::Content;
 use crate::error::LoadError;
 use crate::held::Rows;
+use crate::package::Package;
 use crate::table::{is_there, load_table, path_of};
 use crate::tables::tables;
 use mi_base::{Fault, Text};
@@ -32,6 +36,7 @@ fn load_each<S: Source>(
     ensures value { S.told → Answers (Rose (S.faults src.old) (S.faults src.new)) (tables_fault (S.files src.old) folder.now (map table_as layouts.now))
         (λ held. map rows_as held.items ≡ map (rows_of (S.files src.old) folder.now) (map table_as layouts.now)) result }
     ensures as_many { IfOk result (λ held. vec_len held ≡ length layouts.now) }
+    ensures are_tables { IfOk result (λ held. AreTables (map table_as layouts.now) (map rows_as held.items)) }
     ensures counted { IsCounted (Rose (S.faults src.old) (S.faults src.new)) result }
     ensures stays { S.files src.new ≡ S.files src.old }
     ensures counts { S.faults src.old ≤ S.faults src.new }
@@ -48,6 +53,7 @@ fn load_each<S: Source>(
 fn load_tables<S: Source>(alloc: Global, src: &mut S, folder: &str) -> Result<Content, LoadError>
     ensures value { S.told → Answers (Rose (S.faults src.old) (S.faults src.new)) (tables_fault (S.files src.old) folder.now tables)
         (λ content. content_as content ≡ content_of (S.files src.old) folder.now) result }
+    ensures are_tables { IfOk result (λ content. AreTables tables (content_as content)) }
     ensures counted { IsCounted (Rose (S.faults src.old) (S.faults src.new)) result }
     ensures stays { S.files src.new ≡ S.files src.old }
     ensures counts { S.faults src.old ≤ S.faults src.new }
@@ -103,6 +109,8 @@ pub fn load_content<S: Source>(
 ) -> Result<Content, LoadError>
     ensures value { S.told → Answers (Rose (S.faults src.old) (S.faults src.new)) (load_fault (S.files src.old) folder.now)
         (λ content. content_as content ≡ content_of (S.files src.old) folder.now) result }
+    ensures are_tables { IfOk result (λ content. AreTables tables (content_as content)) }
+    ensures right { IfOk result (λ content. content_fault (content_as content) ≡ None) }
     ensures counted { IsCounted (Rose (S.faults src.old) (S.faults src.new)) result }
     ensures stays { S.files src.new ≡ S.files src.old }
     ensures counts { S.faults src.old ≤ S.faults src.new }
@@ -111,4 +119,21 @@ pub fn load_content<S: Source>(
     let content = load_tables(alloc, src, folder)?;
     check_content(alloc, &content)?;
     Ok(content)
+}
+
+impl Package {
+    /// Loads the package of a folder: the rows of every known table, or the first fault (Database Tables). Memory or the
+    /// source may fail.
+    pub fn load<S: Source>(alloc: Global, src: &mut S, folder: &str) -> Result<Package, LoadError>
+        ensures value { S.told → Answers (Rose (S.faults src.old) (S.faults src.new)) (load_fault (S.files src.old) folder.now)
+            (λ p. IsPackage p (content_of (S.files src.old) folder.now)) result }
+        ensures lawful { IfOk result IsLawful }
+        ensures counted { IsCounted (Rose (S.faults src.old) (S.faults src.new)) result }
+        ensures stays { S.files src.new ≡ S.files src.old }
+        ensures counts { S.faults src.old ≤ S.faults src.new }
+    {
+        let content = load_content(alloc, src, folder)?;
+        let package = build(alloc, content)?;
+        Ok(package)
+    }
 }

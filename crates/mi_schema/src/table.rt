@@ -8,6 +8,7 @@ ghost use Rattle.mi_source.specs.Counts.{Rose};
 ghost use Rattle.mi_idt.specs.Means.{IsSpelled, meaning, column_value};
 ghost use Rattle.mi_schema.specs.Answers.{Answers, IsCounted};
 ghost use Rattle.mi_schema.specs.Described.{column_as, table_as};
+ghost use Rattle.mi_schema.specs.Lawful.{AreRowsOf};
 ghost use Rattle.mi_schema.specs.Reads.{Refuses};
 ghost use Rattle.mi_schema.specs.Rows.{is_of_class, begins_with, key_places, has_columns, rows_in, value_fault, table_fault, table_rows};
 ghost use Rattle.mi_schema.specs.Checks.{table_path, bytes_of, rows_of};
@@ -115,7 +116,7 @@ fn misspelled(alloc: Global, table: &str, why: IdtFault) -> LoadError
 }
 
 /// A table without rows.
-fn no_rows(alloc: Global) -> Rows
+pub fn no_rows(alloc: Global) -> Rows
     ensures { rows_as result ≡ [] }
 {
     Rows {
@@ -183,6 +184,7 @@ pub fn load_table<S: Source>(
 ) -> Result<Rows, LoadError>
     ensures value { S.told → Answers (Rose (S.faults src.old) (S.faults src.new)) (table_fault (table_as layout.now) (bytes_of (S.files src.old) folder.now (table_as layout.now)))
         (λ held. rows_as held ≡ rows_of (S.files src.old) folder.now (table_as layout.now)) result }
+    ensures are_rows { IfOk result (λ held. AreRowsOf (table_as layout.now) (rows_as held)) }
     ensures counted { IsCounted (Rose (S.faults src.old) (S.faults src.new)) result }
     ensures stays { S.files src.new ≡ S.files src.old }
     ensures counts { S.faults src.old ≤ S.faults src.new }

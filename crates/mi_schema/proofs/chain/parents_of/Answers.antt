@@ -1,6 +1,5 @@
 use Rattle.mi_schema.proofs.CheckLemmas.{parents_more}
 use Rattle.std.proofs.Common.{ap, ◌∙◌}
-use Rattle.mi_schema.specs.Values.{Row}
 use Rattle.mi_schema.specs.Read.{rows_as}
 use Rattle.mi_schema.proofs.CheckLemmas.{parent_in_table}
 use Rattle.mi_schema.proofs.chain.parents_of.Goals as goal

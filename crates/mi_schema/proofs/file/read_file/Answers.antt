@@ -1,4 +1,4 @@
-use Rattle.std.proofs.Common.{◌≡◌, ◌++◌, ◌<◌, List, ℕ, ap, sym, ◌∙◌, length, take, drop, arith}
+use Rattle.std.proofs.Common.{◌≡◌, ◌++◌, List, ℕ, ap, ◌∙◌, length, take, drop, arith}
 use Rattle.std.specs.FinMap.{get}
 use Rattle.mi_source.specs.Paths.{Files, bytes_or_none}
 use Rattle.mi_source.specs.declared.source.TheConstants.{PIECE}

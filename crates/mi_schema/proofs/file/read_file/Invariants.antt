@@ -1,6 +1,4 @@
-use Rattle.std.proofs.Common.{◌≡◌, ◌≤◌, ◌+◌, ◌-◌, length, take}
-use Rattle.std.specs.FinMap.{get}
-use Rattle.mi_source.specs.Paths.{bytes_or_none}
+use Rattle.std.proofs.Common.{◌-◌, length}
 use Rattle.mi_schema.specs.Files.{ReadSoFar}
 use Rattle.mi_schema.proofs.file.read_file.Given as goal
 

@@ -1,4 +1,4 @@
-use Rattle.std.proofs.Common.{◌∙◌, ◌-◌, ℕ, List, get_or, ap, sym, subst, arith}
+use Rattle.std.proofs.Common.{◌∙◌, arith}
 use Rattle.mi_schema.proofs.CheckLemmas.{low_step}
 use Rattle.mi_schema.proofs.form.low_bits.Goals as goal
 

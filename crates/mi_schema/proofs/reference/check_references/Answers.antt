@@ -1,13 +1,11 @@
-use Rattle.std.proofs.Common.{◌≡◌, ◌+◌, ◌<◌, List, [], ◌∷◌, drop, map, length, get_or, sym, ap, subst, ◌∙◌, arith, add-one}
-use Rattle.std.proofs.Math.Seq.{drop-cons}
+use Rattle.std.proofs.Common.{◌≡◌, List, map, length, sym, ap, ◌∙◌, arith}
 use Rattle.std.proofs.lemmas.List.{length-map}
 use Rattle.std.proofs.lemmas.Result.{err_from_is_err_and}
-use Rattle.mi_schema.specs.Checks.{references_fault, rows_reference}
+use Rattle.mi_schema.specs.Checks.{references_fault}
 use Rattle.mi_schema.specs.Described.{table_as}
 use Rattle.mi_schema.specs.Held.{content_as}
 use Rattle.mi_schema.specs.Read.{rows_as}
-use Rattle.mi_schema.specs.Tables.{Table, tables}
-use Rattle.mi_schema.specs.Values.{Row}
+use Rattle.mi_schema.specs.Tables.{Table}
 use Rattle.mi_schema.proofs.CheckLemmas.{tables_refer_on, tables_refer_not, content_next}
 use Rattle.mi_schema.proofs.ListLemmas.{map_next}
 use Rattle.mi_schema.proofs.LoadLemmas.{tables_long}

@@ -1,10 +1,8 @@
-use Rattle.std.proofs.Common.{◌≡◌, [], List, ℕ, Option, Some, None, map, sym, ap, subst, ◌∙◌, arith}
+use Rattle.std.proofs.Common.{List, ℕ, Option, Some, map, subst, ◌∙◌, arith}
 use Rattle.std.proofs.lemmas.List.{length-map}
-use Rattle.std.specs.Prelude.{unwrap_or}
 use Rattle.mi_idt.specs.Means.{Shows, cell_at, meaning}
 use Rattle.mi_schema.specs.Described.{column_as}
-use Rattle.mi_schema.specs.Read.{raw_row}
-use Rattle.mi_schema.proofs.FitLemmas.{AllFit, row_fits, columns_there, key_of_text, key_of_none}
+use Rattle.mi_schema.proofs.FitLemmas.{row_fits, columns_there, key_of_text, key_of_none}
 use Rattle.mi_schema.proofs.row.key_of.Goals as goal
 
 pub field-requires-clause-column_in_range : goal.field-requires-clause-column_in_range

@@ -1,0 +1,5 @@
+use Rattle.mi_schema.proofs.PackageLaws.{parents_end}
+use Rattle.mi_schema.proofs.laws.parents_end.Goals as goal
+
+pub returns : goal.returns
+returns c = parents_end c.args.loaded.now c.requires.lawful

@@ -1,0 +1,5 @@
+use Rattle.mi_schema.proofs.PackageLaws.{references_stand}
+use Rattle.mi_schema.proofs.laws.references_stand.Goals as goal
+
+pub returns : goal.returns
+returns c = references_stand c.args.loaded.now c.requires.lawful

@@ -1,0 +1,5 @@
+use Rattle.mi_schema.proofs.PackageLaws.{source_stands}
+use Rattle.mi_schema.proofs.laws.source_stands.Goals as goal
+
+pub returns : goal.returns
+returns c = source_stands c.args.loaded.now c.requires.lawful

@@ -1,0 +1,227 @@
+-- What holds of every lawful package, for those who read it. (Database Tables.)
+use Rattle.std.specs.Prelude.{◌≡◌, ◌≢◌, ◌⊎◌, ℕ, ℤ, zero, suc, pos, negsuc, ◌≤◌, ◌≤ℤ◌, ◌==◌, ◌/◌, ◌%◌, not, Bool, true, false, List, [], length, find, unwrap_or, codes, bit_and, Option, Some, None, is_some, IfSome, if◌then◌else◌, All, AllPairs, Contains}
+use Rattle.std.specs.Map.{keys_of}
+use Rattle.std.specs.Ordering.{int_eq}
+use Rattle.mi_text.specs.Maps.{Name}
+use Rattle.mi_text.specs.PropertyNames.{is_property_name}
+use Rattle.mi_text.specs.Version.{version_of}
+use Rattle.mi_text.specs.declared.guid.Guid.{Guid}
+use Rattle.mi_idt.specs.Fields.{number_on}
+use Rattle.mi_cond.specs.Texts.{IsRead}
+use Rattle.mi_schema.specs.declared.package.Package.{Package}
+use Rattle.mi_schema.specs.declared.typed_rows.ComponentRow.{ComponentRow}
+use Rattle.mi_schema.specs.declared.typed_rows.DirectoryRow.{DirectoryRow}
+use Rattle.mi_schema.specs.declared.typed_rows.FileRow.{FileRow}
+use Rattle.mi_schema.specs.declared.typed_rows.PropertyRow.{PropertyRow}
+use Rattle.mi_schema.specs.declared.typed_rows.SummaryInformationRow.{SummaryInformationRow}
+use Rattle.mi_schema.specs.Checks.{companion_of}
+use Rattle.mi_schema.specs.Texts.{is_decimal, is_name, is_default_dir, are_languages, is_language, is_product_code, is_value_of}
+use Rattle.mi_schema.specs.Values.{bits_of, lacks, is_root_below}
+
+-- ---- words
+
+-- of each row, whatever its key
+abbrev pub EachRow : {K R : Type 0} → List (K × R) → (R → Type 0) → Type 0
+EachRow entries P = All (λ e. P e.1) entries
+
+-- a key of one of these rows
+abbrev pub IsKeyOf : {K R : Type 0} → List (K × R) → K → Type 0
+IsKeyOf entries key = Contains (keys_of entries) key
+
+-- no two of these rows have one key
+abbrev pub HaveOwnKeys : {K R : Type 0} → List (K × R) → Type 0
+HaveOwnKeys entries = AllPairs (λ a b. a.0 ≢ b.0) entries
+
+abbrev pub IsWithin : ℤ → ℤ → ℤ → Type 0
+IsWithin low high z = (low ≤ℤ z) × (z ≤ℤ high)
+
+-- ---- keys
+
+-- the key of each row is what it has in its key columns; that of LaunchCondition reads as its condition
+pub record KeysStand (p : Package) : Type 0 where
+  pub component : All (λ e. e.0 ≡ e.1.component) p.component.entries
+  pub condition : All (λ e. e.0 ≡ (e.1.feature, e.1.level)) p.condition.entries
+  pub create_folder : All (λ e. e.0 ≡ (e.1.directory, e.1.component)) p.create_folder.entries
+  pub custom_action : All (λ e. e.0 ≡ e.1.action) p.custom_action.entries
+  pub directory : All (λ e. e.0 ≡ e.1.directory) p.directory.entries
+  pub duplicate_file : All (λ e. e.0 ≡ e.1.file_key) p.duplicate_file.entries
+  pub environment : All (λ e. e.0 ≡ e.1.environment) p.environment.entries
+  pub feature : All (λ e. e.0 ≡ e.1.feature) p.feature.entries
+  pub feature_components : All (λ e. e.0 ≡ (e.1.feature, e.1.component)) p.feature_components.entries
+  pub file : All (λ e. e.0 ≡ e.1.file) p.file.entries
+  pub install_execute_sequence : All (λ e. e.0 ≡ e.1.action) p.install_execute_sequence.entries
+  pub launch_condition : All (λ e. IsRead e.0 e.1.condition) p.launch_condition.entries
+  pub msi_file_hash : All (λ e. e.0 ≡ e.1.file) p.msi_file_hash.entries
+  pub property : All (λ e. e.0 ≡ e.1.property) p.property.entries
+  pub registry : All (λ e. e.0 ≡ e.1.registry) p.registry.entries
+  pub remove_file : All (λ e. e.0 ≡ e.1.file_key) p.remove_file.entries
+  pub remove_registry : All (λ e. e.0 ≡ e.1.remove_registry) p.remove_registry.entries
+  pub shortcut : All (λ e. e.0 ≡ e.1.shortcut) p.shortcut.entries
+  pub summary_information : All (λ e. e.0 ≡ e.1.property_id) p.summary_information.entries
+  pub upgrade : All (λ e. e.0 ≡ (e.1.upgrade_code, e.1.version_min, e.1.version_max, e.1.language, e.1.attributes)) p.upgrade.entries
+
+-- no two rows of a table have one key
+pub record KeysApart (p : Package) : Type 0 where
+  pub component : HaveOwnKeys p.component.entries
+  pub condition : HaveOwnKeys p.condition.entries
+  pub create_folder : HaveOwnKeys p.create_folder.entries
+  pub custom_action : HaveOwnKeys p.custom_action.entries
+  pub directory : HaveOwnKeys p.directory.entries
+  pub duplicate_file : HaveOwnKeys p.duplicate_file.entries
+  pub environment : HaveOwnKeys p.environment.entries
+  pub feature : HaveOwnKeys p.feature.entries
+  pub feature_components : HaveOwnKeys p.feature_components.entries
+  pub file : HaveOwnKeys p.file.entries
+  pub install_execute_sequence : HaveOwnKeys p.install_execute_sequence.entries
+  pub launch_condition : HaveOwnKeys p.launch_condition.entries
+  pub msi_file_hash : HaveOwnKeys p.msi_file_hash.entries
+  pub property : HaveOwnKeys p.property.entries
+  pub registry : HaveOwnKeys p.registry.entries
+  pub remove_file : HaveOwnKeys p.remove_file.entries
+  pub remove_registry : HaveOwnKeys p.remove_registry.entries
+  pub shortcut : HaveOwnKeys p.shortcut.entries
+  pub summary_information : HaveOwnKeys p.summary_information.entries
+  pub upgrade : HaveOwnKeys p.upgrade.entries
+
+-- ---- sizes
+
+-- at most 65,535 rows
+abbrev pub AreFew : {E : Type 0} → List E → Type 0
+AreFew entries = length entries ≤ 65535
+
+pub record TablesSmall (p : Package) : Type 0 where
+  pub component : AreFew p.component.entries
+  pub condition : AreFew p.condition.entries
+  pub create_folder : AreFew p.create_folder.entries
+  pub custom_action : AreFew p.custom_action.entries
+  pub directory : AreFew p.directory.entries
+  pub duplicate_file : AreFew p.duplicate_file.entries
+  pub environment : AreFew p.environment.entries
+  pub feature : AreFew p.feature.entries
+  pub feature_components : AreFew p.feature_components.entries
+  pub file : AreFew p.file.entries
+  pub install_execute_sequence : AreFew p.install_execute_sequence.entries
+  pub launch_condition : AreFew p.launch_condition.entries
+  pub msi_file_hash : AreFew p.msi_file_hash.entries
+  pub property : AreFew p.property.entries
+  pub registry : AreFew p.registry.entries
+  pub remove_file : AreFew p.remove_file.entries
+  pub remove_registry : AreFew p.remove_registry.entries
+  pub shortcut : AreFew p.shortcut.entries
+  pub summary_information : AreFew p.summary_information.entries
+  pub upgrade : AreFew p.upgrade.entries
+
+-- ---- references
+
+-- the keys that a component's key path is one of: values of the registry where attribute 4 is set, else files (Component table, KeyPath)
+abbrev pub key_paths : Package → ComponentRow → List Name
+key_paths p row = if lacks 4 row.attributes then keys_of p.file.entries else keys_of p.registry.entries
+
+-- an action that sets a directory (Custom Action Type 35)
+abbrev pub sets_directory : ℤ → Bool
+sets_directory kind = bit_and (bits_of kind) 63 == 35
+
+-- each row that is named is there
+pub record ReferencesStand (p : Package) : Type 0 where
+  pub component_directory : EachRow p.component.entries (λ r. IsKeyOf p.directory.entries r.directory)
+  pub component_key_path : EachRow p.component.entries (λ r. IfSome r.key_path (Contains (key_paths p r)))
+  pub condition_feature : EachRow p.condition.entries (λ r. IsKeyOf p.feature.entries r.feature)
+  pub create_folder_directory : EachRow p.create_folder.entries (λ r. IsKeyOf p.directory.entries r.directory)
+  pub create_folder_component : EachRow p.create_folder.entries (λ r. IsKeyOf p.component.entries r.component)
+  pub custom_action_source : EachRow p.custom_action.entries (λ r. sets_directory r.kind ≡ true → (dir : Name) × (r.source ≡ Some dir) × IsKeyOf p.directory.entries dir)
+  pub directory_parent : EachRow p.directory.entries (λ r. IfSome r.directory_parent (IsKeyOf p.directory.entries))
+  pub duplicate_file_component : EachRow p.duplicate_file.entries (λ r. IsKeyOf p.component.entries r.component)
+  pub duplicate_file_file : EachRow p.duplicate_file.entries (λ r. IsKeyOf p.file.entries r.file)
+  pub environment_component : EachRow p.environment.entries (λ r. IsKeyOf p.component.entries r.component)
+  pub feature_parent : EachRow p.feature.entries (λ r. IfSome r.feature_parent (IsKeyOf p.feature.entries))
+  pub feature_components_feature : EachRow p.feature_components.entries (λ r. IsKeyOf p.feature.entries r.feature)
+  pub feature_components_component : EachRow p.feature_components.entries (λ r. IsKeyOf p.component.entries r.component)
+  pub file_component : EachRow p.file.entries (λ r. IsKeyOf p.component.entries r.component)
+  pub msi_file_hash_file : EachRow p.msi_file_hash.entries (λ r. IsKeyOf p.file.entries r.file)
+  pub registry_component : EachRow p.registry.entries (λ r. IsKeyOf p.component.entries r.component)
+  pub remove_file_component : EachRow p.remove_file.entries (λ r. IsKeyOf p.component.entries r.component)
+  pub remove_registry_component : EachRow p.remove_registry.entries (λ r. IsKeyOf p.component.entries r.component)
+  pub shortcut_directory : EachRow p.shortcut.entries (λ r. IsKeyOf p.directory.entries r.directory)
+  pub shortcut_component : EachRow p.shortcut.entries (λ r. IsKeyOf p.component.entries r.component)
+
+-- ---- chains of parents
+
+-- from this row on, parent by parent, a row without one is reached in at most so many steps
+abbrev pub EndsWithin : {R : Type 0} → (R → Option Name) → List (Name × R) → ℕ → R → Type 0
+EndsWithin {R} parent entries zero row = parent row ≡ None
+EndsWithin {R} parent entries (suc n) row = (parent row ≡ None) ⊎ ((key : Name) × (next : R) × (parent row ≡ Some key) × Contains entries (key, next) × EndsWithin parent entries n next)
+
+abbrev pub ChainsEnd : {R : Type 0} → (R → Option Name) → List (Name × R) → Type 0
+ChainsEnd parent entries = EachRow entries (EndsWithin parent entries (length entries))
+
+-- a root row has no parent
+abbrev pub parent_of_directory : DirectoryRow → Option Name
+parent_of_directory row = if is_root_below row.directory row.directory_parent then None else row.directory_parent
+
+-- of Directory, of Feature, and of File, where a companion's parent is the file that its version names
+pub record ParentsEnd (p : Package) : Type 0 where
+  pub directory : ChainsEnd parent_of_directory p.directory.entries
+  pub feature : ChainsEnd (λ r. r.feature_parent) p.feature.entries
+  pub file : ChainsEnd (λ r. companion_of r.version) p.file.entries
+
+-- ---- properties
+
+-- the property is there, and its value passes
+abbrev pub HasProperty : Package → Name → (List ℕ → Type 0) → Type 0
+HasProperty p name P = (row : PropertyRow) × Contains p.property.entries (name, row) × P row.value
+
+pub record PropertiesStand (p : Package) : Type 0 where
+  pub manufacturer : HasProperty p (codes "Manufacturer") (λ value. Unit {0})
+  pub product_code : HasProperty p (codes "ProductCode") (λ value. is_product_code value ≡ true)
+  pub product_language : HasProperty p (codes "ProductLanguage") (λ value. is_language value ≡ true)
+  pub product_name : HasProperty p (codes "ProductName") (λ value. Unit {0})
+  pub product_version : HasProperty p (codes "ProductVersion") (λ value. is_some (version_of value) ≡ true)
+
+-- ---- values
+
+-- no two rows have this code
+abbrev pub HasOtherCode : Option Guid → Option Guid → Type 0
+HasOtherCode a b = IfSome a (λ code. b ≢ Some code)
+
+-- the rules that values meet, table by table
+pub record ValuesStand (p : Package) : Type 0 where
+  pub component_id : AllPairs (λ a b. HasOtherCode a.1.component_id b.1.component_id) p.component.entries
+  pub component_attributes : EachRow p.component.entries (λ r. lacks 97 r.attributes ≡ true)
+  pub directory_one_root : AllPairs (λ a b. is_root_below a.1.directory a.1.directory_parent ≡ true → is_root_below b.1.directory b.1.directory_parent ≡ false) p.directory.entries
+  pub directory_default_dir : EachRow p.directory.entries (λ r. (is_root_below r.directory r.directory_parent ≡ true) ⊎ (is_default_dir r.default_dir ≡ true))
+  pub duplicate_file_name : EachRow p.duplicate_file.entries (λ r. IfSome r.dest_name (λ name. is_name false name ≡ true))
+  pub file_name : EachRow p.file.entries (λ r. is_name false r.file_name ≡ true)
+  pub file_size : EachRow p.file.entries (λ r. IsWithin (pos 0) (pos 2147483647) r.file_size)
+  pub file_version : EachRow p.file.entries (λ r. IfSome (companion_of r.version) (IsKeyOf p.file.entries))
+  pub file_language : EachRow p.file.entries (λ r. IfSome r.language (λ text. are_languages text ≡ true))
+  pub property_name : EachRow p.property.entries (λ r. is_property_name r.property ≡ true)
+  pub property_value : EachRow p.property.entries (λ r. is_value_of r.property r.value ≡ true)
+  pub registry_root : EachRow p.registry.entries (λ r. IsWithin (negsuc 0) (pos 3) r.root)
+  pub remove_file_name : EachRow p.remove_file.entries (λ r. IfSome r.file_name (λ name. is_name true name ≡ true))
+  pub remove_file_mode : EachRow p.remove_file.entries (λ r. IsWithin (pos 1) (pos 3) r.install_mode)
+  pub remove_registry_root : EachRow p.remove_registry.entries (λ r. IsWithin (negsuc 0) (pos 3) r.root)
+  pub shortcut_name : EachRow p.shortcut.entries (λ r. is_name false r.name ≡ true)
+  pub shortcut_hotkey : EachRow p.shortcut.entries (λ r. IfSome r.hotkey (IsWithin (pos 0) (pos 65535)))
+  pub shortcut_icon_index : EachRow p.shortcut.entries (λ r. IfSome r.icon_index (IsWithin (negsuc 32766) (pos 32767)))
+  pub shortcut_show_cmd : EachRow p.shortcut.entries (λ r. IfSome r.show_cmd (IsWithin (pos 0) (pos 65535)))
+  pub word_count : EachRow p.summary_information.entries (λ r. r.property_id ≡ pos 15 → is_decimal (unwrap_or r.value []) ≡ true)
+
+-- ---- the form of the source files (Word Count Summary property; File table, Attributes)
+
+abbrev pub number_of_property : {K : Type 0} → Option (K × SummaryInformationRow) → ℕ
+number_of_property None = 0
+number_of_property (Some e) = number_on 0 (unwrap_or e.1.value [])
+
+-- property 15, and 0 where it isn't there
+abbrev pub word_count : Package → ℕ
+word_count p = number_of_property (find (λ e. int_eq e.1.property_id (pos 15)) p.summary_information.entries)
+
+-- attributes that are null are 0
+abbrev pub has_attributes : FileRow → ℕ → Bool
+has_attributes row bits = not (lacks bits (unwrap_or row.attributes (pos 0)))
+
+-- no file is compressed: none has attribute 16384, and each has 8192 where bit 1 of the word count is set; bit 0 says short names
+pub record SourceStands (p : Package) : Type 0 where
+  pub short_names : p.short_names ≡ (word_count p % 2 == 1)
+  pub not_compressed : EachRow p.file.entries (λ r. has_attributes r 16384 ≡ false)
+  pub as_files : ((word_count p / 2) % 2 == 1) ≡ true → EachRow p.file.entries (λ r. has_attributes r 8192 ≡ true)
