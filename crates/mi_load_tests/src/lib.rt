@@ -15,3 +15,5 @@ mod export_tests;
 mod order_tests;
 #[cfg(test)]
 mod row_tests;
+#[cfg(test)]
+mod typed_tests;
