@@ -1,14 +1,10 @@
 //! Times a public call on an input that it makes itself, for the scripts under `bench/`.
 #![tactic(auto)]
 
-mod packages;
 mod tables;
 mod words;
 
 use mi_idt::read_table;
-use mi_schema::Package;
-use mi_source::MemSource;
-use packages::package;
 use std::alloc::Global;
 use std::rt::{Clock, Env};
 use std::time::Instant;
@@ -17,7 +13,7 @@ use tables::table;
 use words::{Call, Request, request_of};
 
 /// What is written where the words are no request.
-const USAGE: &str = "usage: mi_bench (make_table|read_table|make_package|load_package) ROWS WIDTH";
+const USAGE: &str = "usage: mi_bench (make_table|read_table) ROWS WIDTH";
 
 // The words behind the program's name.
 fn words_of<R: Env + AllocGlobal>(rt: &R) -> io::Result<Vec<String>> {
@@ -35,48 +31,12 @@ fn time_reading<R: Print + Clock>(rt: &R, alloc: Global, bytes: &[u8]) -> io::Re
     println!(rt; "{rows} rows {microseconds} microseconds")
 }
 
-// Loads the package, and writes whether it was loaded and the time that it took.
-fn time_loading<R: Print + Clock>(rt: &R, alloc: Global, source: &mut MemSource) -> io::Result<()> {
-    let start = Instant::now(rt)?;
-    let answer = match Package::load(alloc, source, "pkg") {
-        Ok(_) => "loaded",
-        Err(_) => "refused",
-    };
-    let microseconds = start.elapsed(rt)?.as_micros();
-    println!(rt; "{answer} {microseconds} microseconds")
-}
-
-fn with_table<R: Print + Clock>(
-    rt: &R,
-    alloc: Global,
-    request: Request,
-    reads: bool,
-) -> io::Result<()> {
+fn carry_out<R: Print + Clock>(rt: &R, alloc: Global, request: Request) -> io::Result<()> {
     let bytes = table(alloc, request.rows, request.width)?;
     println!(rt; "{} bytes", bytes.len())?;
-    if reads {
-        return time_reading(rt, alloc, &bytes);
-    }
-    Ok(())
-}
-
-fn with_package<R: Print + Clock>(rt: &R, alloc: Global, rows: u32, loads: bool) -> io::Result<()> {
-    let Ok((mut source, size)) = package(alloc, rows) else {
-        return Err(io::ErrorKind::OutOfMemory.into());
-    };
-    println!(rt; "{size} bytes")?;
-    if loads {
-        return time_loading(rt, alloc, &mut source);
-    }
-    Ok(())
-}
-
-fn carry_out<R: Print + Clock>(rt: &R, alloc: Global, request: Request) -> io::Result<()> {
     match request.call {
-        Call::MakeTable => with_table(rt, alloc, request, false),
-        Call::ReadTable => with_table(rt, alloc, request, true),
-        Call::MakePackage => with_package(rt, alloc, request.rows, false),
-        Call::LoadPackage => with_package(rt, alloc, request.rows, true),
+        Call::MakeTable => Ok(()),
+        Call::ReadTable => time_reading(rt, alloc, &bytes),
     }
 }
 

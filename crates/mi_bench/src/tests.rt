@@ -1,9 +1,7 @@
 //! The input that is made is the table that is meant.
 
-use crate::packages::package;
 use crate::tables::table;
 use mi_idt::read_table;
-use mi_schema::Package;
 use std::test::Fail;
 
 #[test]
@@ -15,12 +13,5 @@ fn the_table_has_its_rows(rt: HostRuntime) -> Result<(), Fail> {
     );
     let table = read_table(rt.alloc(), &bytes)?;
     assert_eq!(rt; table.rows.len(), 2);
-    Ok(())
-}
-
-#[test]
-fn the_package_is_loaded(rt: HostRuntime) -> Result<(), Fail> {
-    let (mut source, _) = package(rt.alloc(), 3)?;
-    assert!(rt; Package::load(rt.alloc(), &mut source, "pkg").is_ok());
     Ok(())
 }

@@ -6,13 +6,9 @@ pub enum Call {
     /// Nothing, so that its memory is told apart from that of the call.
     MakeTable,
     ReadTable,
-    /// Nothing, as for a table.
-    MakePackage,
-    LoadPackage,
 }
 
-/// A call, and the input that is made for it: the rows of a table, or of each table of a package, and the width of a text
-/// in each row of a table.
+/// A call, and the input that is made for it.
 #[derive(Clone, Copy, Debug, PartialEq, Eq)]
 pub struct Request {
     pub call: Call,
@@ -24,8 +20,6 @@ fn call_of(word: &str) -> Option<Call> {
     match word {
         "make_table" => Some(Call::MakeTable),
         "read_table" => Some(Call::ReadTable),
-        "make_package" => Some(Call::MakePackage),
-        "load_package" => Some(Call::LoadPackage),
         _ => None,
     }
 }
