@@ -1,10 +1,14 @@
 //! Times a public call on an input that it makes itself, for the scripts under `bench/`.
 #![tactic(auto)]
 
+mod package;
+mod samples;
 mod tables;
 mod words;
 
 use mi_idt::read_table;
+use mi_schema::Package;
+use package::{FOLDER, MadePackage, package};
 use std::alloc::Global;
 use std::rt::{Clock, Env};
 use std::time::Instant;
@@ -31,12 +35,82 @@ fn time_reading<R: Print + Clock>(rt: &R, alloc: Global, bytes: &[u8]) -> io::Re
     println!(rt; "{rows} rows {microseconds} microseconds")
 }
 
-fn carry_out<R: Print + Clock>(rt: &R, alloc: Global, request: Request) -> io::Result<()> {
-    let bytes = table(alloc, request.rows, request.width)?;
+fn carry_out_table<R: Print + Clock>(
+    rt: &R,
+    alloc: Global,
+    call: Call,
+    rows: u32,
+    width: usize,
+) -> io::Result<()> {
+    let bytes = table(alloc, rows, width)?;
     println!(rt; "{} bytes", bytes.len())?;
-    match request.call {
-        Call::MakeTable => Ok(()),
-        Call::ReadTable => time_reading(rt, alloc, &bytes),
+    match call {
+        Call::Make => Ok(()),
+        Call::Read => time_reading(rt, alloc, &bytes),
+    }
+}
+
+// How many rows were loaded.
+fn rows_in(loaded: &Package) -> usize {
+    let tables = [
+        loaded.component.len(),
+        loaded.condition.len(),
+        loaded.create_folder.len(),
+        loaded.custom_action.len(),
+        loaded.directory.len(),
+        loaded.duplicate_file.len(),
+        loaded.environment.len(),
+        loaded.feature.len(),
+        loaded.feature_components.len(),
+        loaded.file.len(),
+        loaded.install_execute_sequence.len(),
+        loaded.launch_condition.len(),
+        loaded.msi_file_hash.len(),
+        loaded.property.len(),
+        loaded.registry.len(),
+        loaded.remove_file.len(),
+        loaded.remove_registry.len(),
+        loaded.shortcut.len(),
+        loaded.summary_information.len(),
+        loaded.upgrade.len(),
+    ];
+    tables
+        .iter()
+        .fold(0usize, |sum, rows| sum.saturating_add(*rows))
+}
+
+// Loads the package, and writes how many rows were loaded and the time that it took. A package that is refused has no time.
+fn time_loading<R: Print + Clock>(rt: &R, alloc: Global, made: MadePackage) -> io::Result<()> {
+    let mut source = made.source;
+    let start = Instant::now(rt)?;
+    let loaded = Package::load(alloc, &mut source, FOLDER);
+    let microseconds = start.elapsed(rt)?.as_micros();
+    match loaded {
+        Ok(package) => println!(rt; "{} rows {microseconds} microseconds", rows_in(&package)),
+        Err(error) => println!(rt; "refused: {error:?}"),
+    }
+}
+
+fn carry_out_package<R: Print + Clock>(
+    rt: &R,
+    alloc: Global,
+    call: Call,
+    rows: u32,
+) -> io::Result<()> {
+    let Ok(made) = package(alloc, rows) else {
+        return Err(io::ErrorKind::OutOfMemory.into());
+    };
+    println!(rt; "{} bytes", made.bytes)?;
+    match call {
+        Call::Make => Ok(()),
+        Call::Read => time_loading(rt, alloc, made),
+    }
+}
+
+fn carry_out<R: Print + Clock>(rt: &R, alloc: Global, request: Request) -> io::Result<()> {
+    match request {
+        Request::Table { call, rows, width } => carry_out_table(rt, alloc, call, rows, width),
+        Request::Package { call, rows } => carry_out_package(rt, alloc, call, rows),
     }
 }
 

@@ -4,34 +4,50 @@
 #[derive(Clone, Copy, Debug, PartialEq, Eq)]
 pub enum Call {
     /// Nothing, so that its memory is told apart from that of the call.
-    MakeTable,
-    ReadTable,
+    Make,
+    /// It is read.
+    Read,
 }
 
-/// A call, and the input that is made for it.
+/// An input that is made, and what is done with it.
 #[derive(Clone, Copy, Debug, PartialEq, Eq)]
-pub struct Request {
-    pub call: Call,
-    pub rows: u32,
-    pub width: usize,
+pub enum Request {
+    /// A table of so many rows, each with a text of `width` bytes.
+    Table { call: Call, rows: u32, width: usize },
+    /// A package with so many rows in each known table.
+    Package { call: Call, rows: u32 },
 }
 
-fn call_of(word: &str) -> Option<Call> {
-    match word {
-        "make_table" => Some(Call::MakeTable),
-        "read_table" => Some(Call::ReadTable),
-        _ => None,
-    }
+fn table_of(word: &str, rows: &str, width: &str) -> Option<Request> {
+    let call = match word {
+        "make_table" => Call::Make,
+        "read_table" => Call::Read,
+        _ => return None,
+    };
+    Some(Request::Table {
+        call,
+        rows: rows.parse::<u32>().ok()?,
+        width: width.parse::<usize>().ok()?,
+    })
+}
+
+fn package_of(word: &str, rows: &str) -> Option<Request> {
+    let call = match word {
+        "make_package" => Call::Make,
+        "load_package" => Call::Read,
+        _ => return None,
+    };
+    Some(Request::Package {
+        call,
+        rows: rows.parse::<u32>().ok()?,
+    })
 }
 
 /// The request that the words are, if they are one.
 pub fn request_of(words: &[String]) -> Option<Request> {
-    let [call, rows, width] = words else {
-        return None;
-    };
-    Some(Request {
-        call: call_of(call.as_str())?,
-        rows: rows.parse::<u32>().ok()?,
-        width: width.parse::<usize>().ok()?,
-    })
+    match words {
+        [word, rows] => package_of(word.as_str(), rows.as_str()),
+        [word, rows, width] => table_of(word.as_str(), rows.as_str(), width.as_str()),
+        _ => None,
+    }
 }

@@ -1,26 +1,21 @@
 -- What was done before the rest of a run.
-use Rattle.std.proofs.Common.{◌≡◌, ◌⊎◌, inl, inr, ⊎_elim, ℕ, ◌≤◌, Bool, List, Option, None, Some, Result, Ok, refl, sym, ap, subst, ◌∙◌, arith}
+use Rattle.std.proofs.Common.{◌≡◌, inl, inr, ⊎_elim, ℕ, Bool, List, Option, Ok, sym, ap, subst, ◌∙◌}
 use Rattle.std.specs.Prelude.{IsNone}
 use Rattle.mi_text.specs.declared.answers.Settled.{Settled}
 use Rattle.mi_volume.specs.Maps.{Map}
-use Rattle.mi_volume.specs.State.{State, Images, GoesOn, Stays, Rose, Passes}
-use Rattle.mi_volume.proofs.Moments.{weaker, joined, rose_before}
-use Rattle.mi_undo.specs.Stands.{StandsFor, outside}
+use Rattle.mi_volume.specs.State.{State, Passes}
+use Rattle.mi_volume.proofs.Moments.{rose_before}
 use Rattle.mi_undo.specs.Keeps.{IsFree}
-use Rattle.mi_undo.specs.Answers.{IsFreeUnlessRose}
 use Rattle.mi_base.specs.declared.answers.Cause.{Cause}
 use Rattle.mi_base.specs.declared.answers.Cause.TheVariants.{BadWords, VolumeFault, BadRollback, BadImage, SourceFault, Table}
-use Rattle.mi_base.specs.declared.answers.Place.{Place}
-use Rattle.mi_base.specs.declared.answers.Place.TheVariants.{InRollback, InCommit}
 use Rattle.mi_base.specs.declared.answers.Pause.{Pause}
 use Rattle.mi_base.specs.declared.answers.Kind.{Kind}
 use Rattle.mi_base.specs.declared.answers.Kind.TheVariants.{Done, Listed, Recovered, Refused, Suspended, NoMemory}
-use Rattle.mi_engine.specs.Words.{Command, Install, Products, Recover}
-use Rattle.mi_engine.specs.Outcome.{Outcome, map_after}
-use Rattle.mi_engine.specs.Outcome as outcome
+use Rattle.mi_model.specs.Words.{Command}
+use Rattle.mi_model.specs.Outcome.{Outcome, map_after}
 use Rattle.mi_engine.specs.Calls.{Fails}
-use Rattle.mi_engine.specs.Ends.{BelowCount, MayCommit, Allowed, AtExit, Ends, Paused}
-use Rattle.mi_engine.specs.Answers.{AnswersCommand, IsDone, Caused, MayPause, Cleans, walks, Tells, log_of, IsLog}
+use Rattle.mi_engine.specs.Ends.{Ends}
+use Rattle.mi_engine.specs.Answers.{IsDone, Caused, MayPause, Cleans, walks, Tells, IsLog}
 use Rattle.mi_engine.specs.Replies.{Serves}
 use Rattle.mi_engine.specs.Looks.{Looks}
 use Rattle.mi_engine.proofs.EndLemmas.{paused_before, then_ends, looks_go, free_then}

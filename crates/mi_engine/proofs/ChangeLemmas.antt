@@ -16,8 +16,8 @@ use Rattle.mi_volume.specs.Maps.{bytes_or_none}
 use Rattle.mi_volume.specs.State.{State, Passes}
 use Rattle.mi_undo.specs.Names.{is_inside}
 use Rattle.mi_undo.specs.Area.{AreOutside}
-use Rattle.mi_engine.specs.Built.{Row}
-use Rattle.mi_engine.specs.After.{after, planned}
+use Rattle.mi_model.specs.Built.{Row}
+use Rattle.mi_model.specs.After.{after, planned}
 use Rattle.mi_engine.specs.Calls.{Overlays, or_else, first_under}
 use Rattle.mi_engine.specs.Changes.{holds, is_change, changes_of, names_in, laid, NothingInside}
 use Rattle.mi_engine.specs.Looks.{Looks}

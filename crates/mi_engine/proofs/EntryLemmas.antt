@@ -3,11 +3,11 @@ use Rattle.std.proofs.Common.{◌≡◌, ℕ, Bool, true, false, ◌&&◌, List,
 use Rattle.std.specs.Prelude.{not, codes, nat_eq}
 use Rattle.std.specs.List.{starts_with}
 use Rattle.mi_text.specs.Fold.{folded}
-use Rattle.mi_base.specs.Limits.{fits, is_key, is_value_name, is_short, is_folded, has_no_zero}
+use Rattle.mi_base.specs.Limits.{fits, is_key, is_value_name, is_short, has_no_zero}
 use Rattle.mi_base.specs.declared.entry.Entry.TheVariants.{Key, Value}
 use Rattle.mi_base.specs.declared.entry.RegValue.TheVariants.{Text}
 use Rattle.mi_base.proofs.FoldLemmas.{key-folded, is_folded-folded}
-use Rattle.mi_engine.specs.Built.{is_built_row, is_plain_value, stands_for_itself}
+use Rattle.mi_model.specs.Built.{is_built_row, is_plain_value, stands_for_itself}
 
 pub key_fits : (key : List ℕ) → is_key key ≡ true → fits (Key 2 key) ≡ true
 unfolding fits

@@ -4,13 +4,12 @@ mod ChangeLemmas
 mod EndLemmas
 mod EntryLemmas
 mod FallLemmas
-mod FileLemmas
+mod FewLemmas
 mod LoadLemmas
 mod LookLemmas
 mod PieceLemmas
 mod PlanLemmas
 mod QuietLemmas
-mod RegistryLemmas
 mod ReplyLemmas
 mod ResultLemmas
 mod RowLemmas
@@ -18,4 +17,5 @@ mod RunLemmas
 mod ServeLemmas
 mod TopLemmas
 mod TreeLemmas
+mod UnbuiltLemmas
 mod VolumeLemmas

@@ -4,7 +4,7 @@ use Rattle.std.specs.Prelude.{min}
 use Rattle.std.proofs.lemmas.Bool.{cases_lt}
 use Rattle.std.proofs.lemmas.List.{take_all}
 use Rattle.std.proofs.Math.Seq.{take-add}
-use Rattle.mi_engine.proofs.FileLemmas.{take_own}
+use Rattle.mi_text.proofs.PieceLemmas.{take_own}
 
 pub piece_of : (m k n : ℕ) (rest : List ℕ) → length rest ≤ n → m ≡ min (length (take n rest)) k → take m (take n rest) ≡ take k rest
 piece_of m k n rest long is =

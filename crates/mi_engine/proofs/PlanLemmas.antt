@@ -21,8 +21,8 @@ use Rattle.mi_engine.specs.Changes.{NothingInside}
 use Rattle.mi_engine.specs.Looks.{Looks}
 use Rattle.mi_undo.specs.Names.{is_inside}
 use Rattle.mi_base.specs.Names.{key_name, value_name}
-use Rattle.mi_engine.specs.Built.{Row}
-use Rattle.mi_engine.specs.After.{is_new, key_entry, value_entry, path_of, keys_of, values_of, planned, after, ends_from}
+use Rattle.mi_model.specs.Built.{Row}
+use Rattle.mi_model.specs.After.{is_new, key_entry, value_entry, path_of, keys_of, values_of, planned, after, ends_from}
 use Rattle.mi_engine.specs.Calls.{or_else, first_under, Adds, Overlays, Fails, IsVolumeStop}
 use Rattle.mi_engine.specs.declared.stop.Stop.{Stop}
 use Rattle.mi_engine.specs.declared.stop.Stop.TheVariants.{NoMemory, Refuse}

@@ -1,25 +1,17 @@
 -- Answers of a run that wrote nothing to its settled volume.
-use Rattle.std.proofs.Common.{◌≡◌, ◌⊎◌, inl, inr, ⊎_elim, ℕ, Bool, false, true, not, cond, List, None, Result, Ok, Err, refl, sym, ap, subst, ◌∙◌}
-use Rattle.std.specs.Prelude.{IsNone}
-use Rattle.std.specs.FinMap.{get}
+use Rattle.std.proofs.Common.{◌≡◌, ◌⊎◌, inl, inr, ⊎_elim, ℕ, List, Ok, refl, sym, subst}
 use Rattle.mi_text.specs.declared.answers.Settled.{Settled}
 use Rattle.mi_text.specs.declared.answers.Settled.TheVariants.{Clean}
-use Rattle.mi_text.proofs.MapLemmas.{same}
 use Rattle.mi_volume.specs.Maps.{Map}
-use Rattle.mi_volume.specs.State.{State, Images, GoesOn, Stays, Rose}
+use Rattle.mi_volume.specs.State.{State}
 use Rattle.mi_volume.proofs.Moments.{weaker}
-use Rattle.mi_undo.specs.Names.{is_inside}
 use Rattle.mi_undo.specs.Stands.{StandsFor, outside}
-use Rattle.mi_undo.specs.Keeps.{Each, IsFree}
-use Rattle.mi_undo.proofs.StandsLemmas.{get-outside, stands_itself, clean_same}
-use Rattle.mi_undo.proofs.ClearLemmas.{image_stays}
-use Rattle.mi_base.specs.declared.answers.Cause.{Cause}
+use Rattle.mi_undo.specs.Keeps.{IsFree}
 use Rattle.mi_base.specs.declared.answers.Cause.TheVariants.{BadWords, VolumeFault, BadRollback, BadImage, SourceFault, Table}
-use Rattle.mi_base.specs.declared.answers.Pause.{Pause}
 use Rattle.mi_base.specs.declared.answers.Kind.{Kind}
 use Rattle.mi_base.specs.declared.answers.Kind.TheVariants.{Done, Listed, Recovered, Refused, Suspended, NoMemory}
-use Rattle.mi_engine.specs.Words.{Command, Install, Products, Recover}
-use Rattle.mi_engine.specs.Outcome.{Outcome, map_after}
+use Rattle.mi_model.specs.Words.{Command, Install, Products, Recover}
+use Rattle.mi_model.specs.Outcome.{Outcome, map_after}
 use Rattle.mi_engine.specs.Calls.{Fails}
 use Rattle.mi_engine.specs.Ends.{BelowCount, Allowed, AtExit, Reads, Ends}
 use Rattle.mi_engine.specs.Answers.{AnswersCommand, Caused, MayPause, Cleans, walks, log_of, IsLog}

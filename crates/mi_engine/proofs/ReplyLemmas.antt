@@ -6,8 +6,8 @@ use Rattle.mi_text.specs.declared.answers.Settled.TheVariants.{Clean}
 use Rattle.mi_base.specs.declared.answers.Cause.TheVariants.{BadWords, VolumeFault, BadRollback, BadImage, SourceFault, Table}
 use Rattle.mi_base.specs.declared.answers.Kind.{Kind}
 use Rattle.mi_base.specs.declared.answers.Kind.TheVariants.{Done, Listed, Recovered, Refused, Suspended, NoMemory}
-use Rattle.mi_report.specs.Lines.{recovered_line, result_line}
-use Rattle.mi_report.specs.Report.{last_line}
+use Rattle.mi_model.specs.Lines.{recovered_line, result_line}
+use Rattle.mi_model.specs.Report.{last_line}
 use Rattle.mi_engine.specs.declared.reply.Reply.{Reply}
 use Rattle.mi_engine.specs.Ends.{IsWriteKind}
 use Rattle.mi_engine.specs.Answers.{Tells, log_of}

@@ -1,38 +1,37 @@
 -- What a run leaves on any volume, by how it ends.
-use Rattle.std.proofs.Common.{◌≡◌, ◌≢◌, ◌⊎◌, inl, inr, ⊎_elim, ℕ, ◌≤◌, ◌-◌, ◌^◌, ◌<◌, Bool, false, true, not, cond, List, Option, None, Some, Result, Ok, Err, refl, sym, ap, subst, ◌∙◌, arith}
+use Rattle.std.proofs.Common.{◌≡◌, ◌⊎◌, inl, inr, ⊎_elim, ℕ, false, true, not, cond, List, Option, None, Result, Ok, Err, refl, sym, ap, subst, ◌∙◌, arith}
 use Rattle.std.specs.Prelude.{IsNone, IsSome}
 use Rattle.std.specs.FinMap.{get}
 use Rattle.mi_text.specs.declared.answers.Settled.{Settled}
 use Rattle.mi_text.specs.declared.answers.Settled.TheVariants.{Clean}
 use Rattle.mi_text.specs.Maps.{Name}
 use Rattle.mi_volume.specs.Maps.{Map}
-use Rattle.mi_volume.specs.State.{State, Images, GoesOn, Stays, Rose, Passes, NothingDirty}
+use Rattle.mi_volume.specs.State.{State, GoesOn, Rose, Passes, NothingDirty}
 use Rattle.mi_volume.proofs.Moments.{started, weaker, joined}
 use Rattle.mi_source.specs.Paths.{Files}
 use Rattle.mi_source.specs.Counts as counts
 use Rattle.mi_undo.specs.Names.{is_inside}
 use Rattle.mi_undo.specs.Notes.{Note, note_of}
 use Rattle.mi_undo.specs.Stands.{StandsFor, stands, settled, noted, outside}
-use Rattle.mi_undo.specs.Keeps.{Each, IsFree}
+use Rattle.mi_undo.specs.Keeps.{Each}
 use Rattle.mi_undo.specs.Answers.{IfBad, IfFull}
 use Rattle.mi_undo.specs.declared.fault.UndoError.{UndoError}
 use Rattle.mi_undo.specs.declared.fault.UndoError.TheVariants as undo
 use Rattle.mi_undo.proofs.StandsLemmas.{get-outside, clean_same}
-use Rattle.mi_base.specs.Machine.{Machine, machine_of}
+use Rattle.mi_base.specs.Machine.{machine_of}
 use Rattle.mi_base.specs.declared.answers.Cause.{Cause}
 use Rattle.mi_base.specs.declared.answers.Cause.TheVariants.{BadWords, VolumeFault, BadRollback, BadImage, SourceFault, Table}
-use Rattle.mi_base.specs.declared.answers.Pause.{Pause}
 use Rattle.mi_base.specs.declared.answers.Place.{Place}
 use Rattle.mi_base.specs.declared.answers.Place.TheVariants.{InRollback, InCommit}
 use Rattle.mi_base.specs.declared.answers.Kind.{Kind}
 use Rattle.mi_base.specs.declared.answers.Kind.TheVariants.{Done, Listed, Recovered, Refused, Suspended, NoMemory}
 use Rattle.mi_engine.specs.declared.reply.Reply.{Reply}
-use Rattle.mi_engine.specs.Words.{Command, Install, Products, Recover, Installs}
-use Rattle.mi_engine.specs.Outcome.{Outcome, kind_of, map_after, of_machine, of_former, of_words}
-use Rattle.mi_engine.specs.Outcome as outcome
+use Rattle.mi_model.specs.Words.{Command, Install, Products, Recover, Installs}
+use Rattle.mi_model.specs.Outcome.{Outcome, kind_of, map_after, of_machine, of_former, of_words}
+use Rattle.mi_model.specs.Outcome as outcome
 use Rattle.mi_engine.specs.Calls.{Fails}
-use Rattle.mi_engine.specs.Ends.{BelowCount, MayCommit, Allowed, AtExit, Reads, Ends, Paused}
-use Rattle.mi_engine.specs.Answers.{IsBefore, AnswersCommand, AnswersWords, IsDone, Caused, MayPause, Completes, SameCount, MayStand, UnnotedStay, ReadsAfter, Cleans, walks, Tells, log_of, IsLog}
+use Rattle.mi_engine.specs.Ends.{BelowCount, Allowed, AtExit, Reads, Ends, Paused}
+use Rattle.mi_engine.specs.Answers.{IsBefore, AnswersCommand, AnswersWords, Caused, MayPause, Completes, SameCount, MayStand, UnnotedStay, ReadsAfter, Cleans, walks, log_of, IsLog}
 use Rattle.mi_engine.specs.Endings.{kind_unsettled}
 use Rattle.mi_engine.specs.Replies.{log_in, Replies, Serves, Runs}
 use Rattle.mi_engine.proofs.BeforeLemmas.{fails_before, pauses_before, caused_from, log_from, cleans_from}

@@ -1,37 +1,36 @@
 -- What a command leaves on a settled volume, by how it ends.
-use Rattle.std.proofs.Common.{◌≡◌, ◌⊎◌, inl, inr, ⊎_elim, ℕ, ◌-◌, ◌^◌, ◌<◌, ◌≤◌, arith, Bool, false, true, List, ◌++◌, Result, Ok, Err, refl, sym, ap, subst, ◌∙◌}
+use Rattle.std.proofs.Common.{◌≡◌, inl, inr, ⊎_elim, ℕ, ◌-◌, ◌^◌, ◌<◌, ◌≤◌, arith, false, true, List, Option, Some, None, Result, Ok, Err, refl, sym, ap, subst, ◌∙◌}
 use Rattle.std.specs.Prelude.{IsNone, IsOkAnd}
 use Rattle.mi_text.specs.declared.answers.Settled.{Settled}
-use Rattle.mi_text.specs.declared.answers.Settled.TheVariants.{Clean}
 use Rattle.mi_text.specs.Maps.{Name}
 use Rattle.mi_volume.specs.Maps.{Map}
-use Rattle.mi_volume.specs.State.{State, Images, GoesOn, Stays, Rose, Passes}
+use Rattle.mi_volume.specs.State.{State, Rose}
 use Rattle.mi_source.specs.Paths.{Files}
-use Rattle.mi_volume.proofs.Moments.{started}
 use Rattle.mi_undo.specs.Keeps.{IsFree}
 use Rattle.mi_undo.specs.Answers.{IsFreeUnlessRose}
 use Rattle.mi_base.specs.Machine.{Machine, machine_of}
 use Rattle.mi_base.specs.declared.answers.Fault.{Fault}
-use Rattle.mi_base.specs.declared.answers.Cause.{Cause}
 use Rattle.mi_base.specs.declared.answers.Cause.TheVariants.{BadWords, VolumeFault, BadRollback, BadImage, SourceFault, Table}
-use Rattle.mi_base.specs.declared.answers.Pause.{Pause}
 use Rattle.mi_base.specs.declared.answers.Kind.{Kind}
 use Rattle.mi_base.specs.declared.answers.Kind.TheVariants.{Done, Listed, Recovered, Refused, Suspended, NoMemory}
 use Rattle.mi_image.specs.Items.{Items, machine_over, ImageOf}
 use Rattle.mi_image.specs.declared.fault.ImageError.{ImageError}
 use Rattle.mi_image.specs.declared.fault.ImageError.TheVariants as scan
-use Rattle.mi_report.specs.Listings.{products_text_of}
+use Rattle.mi_model.specs.Listings.{products_text_of}
 use Rattle.mi_engine.specs.declared.stop.Stop.{Stop}
 use Rattle.mi_engine.specs.declared.stop.Stop.TheVariants as stop
 use Rattle.mi_engine.specs.declared.reply.Reply.{Reply}
-use Rattle.mi_engine.specs.Built.{Row}
-use Rattle.mi_engine.specs.After.{after}
-use Rattle.mi_engine.specs.Words.{Command, Install, Products, Recover}
-use Rattle.mi_engine.specs.Outcome.{Outcome, map_after, of_package, of_command, of_machine}
-use Rattle.mi_engine.specs.Outcome as outcome
+use Rattle.mi_model.specs.Built.{Row}
+use Rattle.mi_model.specs.After.{after}
+use Rattle.mi_model.specs.Words.{Command, Install, Products, Recover}
+use Rattle.mi_schema.specs.Checks.{load_fault, content_of}
+use Rattle.mi_model.specs.Plan.{planned_rows, made_by}
+use Rattle.mi_model.specs.Outcome.{Outcome, map_after, of_loaded, of_package, of_command, of_machine}
+use Rattle.mi_model.specs.Outcome as outcome
 use Rattle.mi_engine.specs.Calls.{Fails, CausedStop, IsSourceStop}
+use Rattle.mi_engine.specs.Rows.{unless_fault, rows_of, of_rows}
 use Rattle.mi_engine.specs.Ends.{BelowCount, Ends, WriteCaused, IsWriteKind}
-use Rattle.mi_engine.specs.Answers.{AnswersCommand, IsDone, Caused, MayPause, Cleans, walks, Tells, log_of, IsLog}
+use Rattle.mi_engine.specs.Answers.{AnswersCommand, Caused, MayPause, Cleans, walks, log_of, IsLog}
 use Rattle.mi_engine.specs.Endings.{kind_unscanned, kind_unloaded}
 use Rattle.mi_engine.specs.Looks.{Looks}
 use Rattle.mi_engine.specs.Replies.{log_in, Replies, Lists, WriteLogs, Serves}
@@ -112,11 +111,20 @@ module _ (volume source : Type 0) (s : State) (files : Files) (found : Settled) 
 
 -- ---- a package
 
+-- what a package comes to is what its rows come to
+pub package_is : (files : Files) (folder : Name) (F : Map) (m : Machine) → of_rows F (rows_of files folder) ≡ of_package files folder F m
+package_is files folder F m = by_fault (load_fault files folder) (planned_rows (content_of files folder))
+  where
+    by_fault : (o : Option Fault) (r : Result (List Row) Fault) → of_rows F (unless_fault o r) ≡ of_loaded o (made_by F r)
+    by_fault (Some fault) r = refl
+    by_fault None (Ok rows) = refl
+    by_fault None (Err fault) = refl
+
 module _ (volume source : Type 0) (files : Files) (folder : List ℕ) (found : Settled) (source_fails : Type 0) where
-  load_caused : (s : State) (loaded : Result (List Row) Fault) (e : Stop) → (source → CausedStop source_fails loaded e) → IsSourceStop source_fails e → Caused volume source (of_package s.held loaded) (Fails s s) source_fails (MayPause s s) (kind_unloaded e)
+  load_caused : (s : State) (loaded : Result (List Row) Fault) (e : Stop) → (source → CausedStop source_fails loaded e) → IsSourceStop source_fails e → Caused volume source (of_rows s.held loaded) (Fails s s) source_fails (MayPause s s) (kind_unloaded e)
   load_caused s loaded stop.NoMemory caused is = tt
   load_caused s loaded (stop.Refuse SourceFault) caused is = is
-  load_caused s loaded (stop.Refuse (Table fault)) caused is = λ v src. ap (of_package s.held) (caused src)
+  load_caused s loaded (stop.Refuse (Table fault)) caused is = λ v src. ap (of_rows s.held) (caused src)
   load_caused s loaded (stop.Refuse (BadWords place)) caused is = absurd is
   load_caused s loaded (stop.Refuse VolumeFault) caused is = absurd is
   load_caused s loaded (stop.Refuse (BadRollback name)) caused is = absurd is
@@ -140,14 +148,14 @@ module _ (volume source : Type 0) (files : Files) (folder : List ℕ) (found : S
   load_log o (stop.Refuse (BadRollback name)) is = absurd is
   load_log o (stop.Refuse (BadImage name)) is = absurd is
 
-  pub unloaded_serves : (s : State) (loaded : Result (List Row) Fault) (e : Stop) (r : Reply) → (volume → IsFree s) → (source → CausedStop source_fails loaded e) → IsSourceStop source_fails e → Replies true found (kind_unloaded e) r → Serves volume source s s (of_package s.held loaded) (Install folder) (λ x. x ≡ found) source_fails r.kind (log_in r)
+  pub unloaded_serves : (s : State) (loaded : Result (List Row) Fault) (e : Stop) (r : Reply) → (volume → IsFree s) → (source → CausedStop source_fails loaded e) → IsSourceStop source_fails e → Replies true found (kind_unloaded e) r → Serves volume source s s (of_rows s.held loaded) (Install folder) (λ x. x ≡ found) source_fails r.kind (log_in r)
   unloaded_serves s loaded e r free caused is replies =
       replied volume source s s o (Install folder) (λ x. x ≡ found) source_fails free looks (kind_unloaded e) (log_of true found (kind_unloaded e)) r
       (quiet_serves volume source s s o (Install folder) (λ x. x ≡ found) source_fails free looks (kind_unloaded e) (log_of true found (kind_unloaded e)) (quiet e) (load_caused s loaded e caused is) (load_answers e is) (load_log o e is))
       replies
     where
       o : Outcome
-      o = of_package s.held loaded
+      o = of_rows s.held loaded
 
       looks : volume → Looks s s
       looks v = looks_none s
@@ -158,10 +166,10 @@ module _ (volume source : Type 0) (files : Files) (folder : List ℕ) (found : S
 
   -- the rows of a loaded package were written
   module _ (s u : State) (loaded : Result (List Row) Fault) (rows : List Row) (is_loaded : source → loaded ≡ Ok rows) where
-    makes : source → of_package s.held loaded ≡ outcome.Done (after rows s.held)
-    makes src = ap (of_package s.held) (is_loaded src)
+    makes : source → of_rows s.held loaded ≡ outcome.Done (after rows s.held)
+    makes src = ap (of_rows s.held) (is_loaded src)
 
-    write_caused : s.faults ≤ u.faults → (kind : Kind) → (IsNone s.capacity → WriteCaused s.faults u.faults kind) → IsWriteKind kind → Caused volume source (of_package s.held loaded) (Fails s u) source_fails (MayPause s u) kind
+    write_caused : s.faults ≤ u.faults → (kind : Kind) → (IsNone s.capacity → WriteCaused s.faults u.faults kind) → IsWriteKind kind → Caused volume source (of_rows s.held loaded) (Fails s u) source_fails (MayPause s u) kind
     write_caused le Done caused is = λ v src. (after rows s.held, makes src)
     write_caused le Listed caused is = absurd is
     write_caused le (Recovered settled) caused is = absurd is
@@ -211,11 +219,11 @@ module _ (volume source : Type 0) (files : Files) (folder : List ℕ) (found : S
     write_log o (Suspended pause) bytes is log = log
     write_log o NoMemory bytes is log = log
 
-    pub write_serves : s.faults ≤ u.faults → (kind : Kind) (bytes : List ℕ) → (volume → Ends s.faults s u s.held (after rows s.held) kind) → (volume → kind ≡ Done → IsFreeUnlessRose s u) → (IsNone s.capacity → WriteCaused s.faults u.faults kind) → IsWriteKind kind → WriteLogs found kind bytes → Serves volume source s u (of_package s.held loaded) (Install folder) (λ x. x ≡ found) source_fails kind bytes
+    pub write_serves : s.faults ≤ u.faults → (kind : Kind) (bytes : List ℕ) → (volume → Ends s.faults s u s.held (after rows s.held) kind) → (volume → kind ≡ Done → IsFreeUnlessRose s u) → (IsNone s.capacity → WriteCaused s.faults u.faults kind) → IsWriteKind kind → WriteLogs found kind bytes → Serves volume source s u (of_rows s.held loaded) (Install folder) (λ x. x ≡ found) source_fails kind bytes
     write_serves le kind bytes ends free caused is log = record {
       ends = λ v src. subst (λ (A : Map). Ends s.faults s u s.held A kind) (sym (ap (map_after s.held) (makes src))) (ends v);
       cleans = λ v. write_cleans kind (free v) is;
       caused = write_caused le kind caused is;
       answers = write_answers kind is;
-      log = write_log (of_package s.held loaded) kind bytes is log;
+      log = write_log (of_rows s.held loaded) kind bytes is log;
     }

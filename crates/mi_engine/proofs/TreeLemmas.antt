@@ -1,7 +1,6 @@
 -- The map that the program's tree of names means.
-use Rattle.std.proofs.Common.{◌≡◌, ℕ, Bool, true, false, cond, T, ◌&&◌, List, [], ◌∷◌, ◌++◌, map, Option, Some, None, refl, sym, ap, subst, ◌∙◌}
-use Rattle.std.specs.Prelude.{reverse}
-use Rattle.std.specs.Ordering.{nat_cmp, is_lt, eq_by_cmp}
+use Rattle.std.proofs.Common.{◌≡◌, ℕ, Bool, true, false, cond, T, ◌&&◌, List, [], ◌∷◌, ◌++◌, map, Option, Some, refl, sym, ap, subst, ◌∙◌}
+use Rattle.std.specs.Ordering.{is_lt}
 use Rattle.std.specs.declared.cmp.Ordering.TheVariants.{Less}
 use Rattle.std.specs.List.{AllByRecursion}
 use Rattle.std.specs.List.Sorted.{IsStrictlySortedBy}
@@ -10,13 +9,13 @@ use Rattle.std.proofs.lemmas.Map.Keys.{sorted_head, sorted_tail}
 use Rattle.std.specs.FinMap.Entries.{below_all}
 use Rattle.std.specs.Cmp.{eq_by_cmp_equiv}
 use Rattle.std.specs.Cmp.Lexicographic.{nat_list_cmp_total}
-use Rattle.std.specs.FinMap.{entries, is_sorted, get, insert, from_entries, find, get-from_entries, get-entries}
+use Rattle.std.specs.FinMap.{entries, is_sorted, get, insert, from_entries, find, get-from_entries}
 use Rattle.std.specs.BTreeMap.{BTreeMap, is_at}
 use Rattle.std.specs.BTreeMap as tree
 use Rattle.std.specs.Map.{lookup, KeepsOthers, IsKeyTest, AreApart}
 use Rattle.mi_text.specs.Maps.{Name, Map, name_cmp, same_name, set_to}
 use Rattle.mi_text.proofs.MapLemmas.{entries-from_entries, names_total, from_same, same, get-set_to}
-use Rattle.mi_engine.specs.Collected.{collected}
+use Rattle.mi_model.specs.Collected.{collected}
 use Rattle.mi_engine.specs.Calls.{map_of}
 
 abbrev pub at_name : Name → Name → Bool

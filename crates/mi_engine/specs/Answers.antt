@@ -4,7 +4,7 @@ use Rattle.std.specs.FinMap.{get}
 use Rattle.mi_text.specs.declared.answers.Settled.{Settled}
 use Rattle.mi_text.specs.declared.answers.Settled.TheVariants.{Clean}
 use Rattle.mi_volume.specs.Maps.{Map}
-use Rattle.mi_volume.specs.State.{State, Stays, StaysDirty}
+use Rattle.mi_volume.specs.State.{State}
 use Rattle.mi_undo.specs.Names.{is_inside}
 use Rattle.mi_undo.specs.Notes.{Note, note_of}
 use Rattle.mi_undo.specs.Stands.{StandsFor, noted, outside}
@@ -15,10 +15,10 @@ use Rattle.mi_base.specs.declared.answers.Cause.TheVariants.{BadWords, VolumeFau
 use Rattle.mi_base.specs.declared.answers.Pause.{Pause}
 use Rattle.mi_base.specs.declared.answers.Kind.{Kind}
 use Rattle.mi_base.specs.declared.answers.Kind.TheVariants.{Done, Listed, Recovered, Refused, Suspended, NoMemory}
-use Rattle.mi_report.specs.Report.{report_of}
-use Rattle.mi_engine.specs.Words.{Command, Install, Products, Recover}
-use Rattle.mi_engine.specs.Outcome.{Outcome, kind_of}
-use Rattle.mi_engine.specs.Outcome as outcome
+use Rattle.mi_model.specs.Report.{report_of}
+use Rattle.mi_model.specs.Words.{Command, Install, Products, Recover}
+use Rattle.mi_model.specs.Outcome.{Outcome, kind_of}
+use Rattle.mi_model.specs.Outcome as outcome
 use Rattle.mi_engine.specs.Ends.{MayCommit, Paused}
 
 -- ---- which answers the words allow, whatever the devices tell
@@ -138,7 +138,7 @@ walks (Err place) = false
 
 -- the log of an answer, without begun actions
 abbrev pub log_of : Bool → Settled → Kind → List ℕ
-log_of says settled kind = report_of (record { kind = kind; settled = settled; walks = says; begun = [] }) 0
+log_of says settled kind = report_of kind settled says [] 0
 
 abbrev pub RefusalTells : (Settled → Type 0) → Cause → Settled → Type 0
 RefusalTells found (BadWords place) settled = settled ≡ Clean

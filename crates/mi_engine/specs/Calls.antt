@@ -1,16 +1,14 @@
 -- What the steps of a run answer.
-use Rattle.std.specs.Prelude.{◌≡◌, ℕ, Bool, true, false, List, Option, None, Some, IsNone, Result, Ok, Err, Vec}
+use Rattle.std.specs.Prelude.{◌≡◌, ℕ, List, Option, None, Some, IsNone, Result, Ok, Err, Vec}
 use Rattle.std.specs.declared.alloc.Global.{Global}
 use Rattle.std.specs.FinMap.{get, from_entries, find}
 use Rattle.mi_text.specs.Maps.{Name, Map, name_cmp}
 use Rattle.mi_volume.specs.State.{State, Rose}
-use Rattle.mi_source.specs.declared.fault.SrcFault.{SrcFault}
-use Rattle.mi_source.specs.declared.fault.SrcFault.TheVariants.{NoMemory as source_memory, Failed as source_failed}
+use Rattle.mi_schema.specs.declared.error.LoadError.{LoadError}
+use Rattle.mi_schema.specs.declared.error.LoadError.TheVariants as load
 use Rattle.mi_base.specs.declared.answers.Fault.{Fault}
-use Rattle.mi_base.specs.declared.answers.Fault.TheVariants.{MissingTable}
-use Rattle.mi_base.specs.declared.answers.Cause.{Cause}
 use Rattle.mi_base.specs.declared.answers.Cause.TheVariants.{VolumeFault, SourceFault, Table}
-use Rattle.mi_engine.specs.Built.{Row}
+use Rattle.mi_model.specs.Built.{Row}
 use Rattle.mi_engine.specs.declared.stop.Stop.{Stop}
 use Rattle.mi_engine.specs.declared.stop.Stop.TheVariants.{NoMemory, Refuse}
 
@@ -22,10 +20,11 @@ map_of es = from_entries es
 abbrev pub Fails : State → State → Type 0
 Fails old new = IsNone old.capacity → Rose old new
 
--- a stop of a step over a source
-abbrev pub stop_of : SrcFault → Stop
-stop_of source_memory = NoMemory
-stop_of source_failed = Refuse SourceFault
+-- the stop of a package that isn't loaded
+abbrev pub stop_of : LoadError → Stop
+stop_of load.NoMemory = NoMemory
+stop_of load.Source = Refuse SourceFault
+stop_of (load.Table fault) = Refuse (Table fault)
 
 -- why the package isn't loaded
 abbrev pub CausedStop : Type 0 → Result (List Row) Fault → Stop → Type 0
@@ -45,6 +44,12 @@ IsSourceStop source (Refuse SourceFault) = source
 IsSourceStop source (Refuse (Table fault)) = Unit {0}
 IsSourceStop source (Refuse other) = ⊥
 
+-- a refusal of this fault, or want of memory
+abbrev pub Refuses : Fault → Stop → Type 0
+Refuses fault NoMemory = Unit {0}
+Refuses fault (Refuse (Table found)) = found ≡ fault
+Refuses fault (Refuse other) = ⊥
+
 -- over a volume a step stops for want of memory, or where the count rose
 abbrev pub IsVolumeStop : Type 0 → Stop → Type 0
 IsVolumeStop volume NoMemory = Unit {0}
@@ -59,20 +64,6 @@ or_else (Some x) y = Some x
 -- these names have the records of the plan, and the others what they had
 abbrev pub Overlays : Map (List ℕ) → Map (List ℕ) → Map (List ℕ) → Type 0
 Overlays plan old new = (q : Name) → get new q ≡ or_else (get plan q) (get old q)
-
--- over a source a reading step stops for want of memory, or where the count rose
-abbrev pub IsDeviceStop : Type 0 → Stop → Type 0
-IsDeviceStop source NoMemory = Unit {0}
-IsDeviceStop source (Refuse SourceFault) = source
-IsDeviceStop source (Refuse other) = ⊥
-
--- goes on where a table is there, and else refuses by its name
-abbrev pub Requires : {T : Type 0} → Type 0 → Bool → Name → Result T Stop → Type 0
-Requires source missing table (Ok x) = missing ≡ false
-Requires source missing table (Err NoMemory) = Unit {0}
-Requires source missing table (Err (Refuse SourceFault)) = source
-Requires source missing table (Err (Refuse (Table fault))) = (missing ≡ true) × (fault ≡ MissingTable table)
-Requires source missing table (Err (Refuse other)) = ⊥
 
 -- the first value under a name
 abbrev pub first_under : {X : Type 0} → Name → List (Name × X) → Option X

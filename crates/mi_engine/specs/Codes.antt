@@ -1,5 +1,5 @@
 -- The status of an answer. (This project's own.)
-use Rattle.std.specs.Prelude.{ℕ, Bool, true, false, if◌then◌else◌}
+use Rattle.std.specs.Prelude.{ℕ, Bool, if◌then◌else◌}
 use Rattle.mi_base.specs.declared.answers.Cause.{Cause}
 use Rattle.mi_base.specs.declared.answers.Cause.TheVariants.{BadWords, VolumeFault, BadRollback, BadImage, SourceFault, Table}
 use Rattle.mi_base.specs.declared.answers.Place.{Place}

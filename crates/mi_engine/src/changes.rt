@@ -6,14 +6,14 @@ ghost use Rattle.std.specs.FinMap.{get, entries};
 ghost use Rattle.mi_volume.specs.Maps.{bytes_or_none};
 ghost use Rattle.mi_volume.specs.State.{Passes};
 ghost use Rattle.mi_undo.specs.Area.{AreOutside};
-ghost use Rattle.mi_engine.specs.After.{planned};
+ghost use Rattle.mi_model.specs.After.{planned};
 ghost use Rattle.mi_engine.specs.Calls.{map_of, Fails, IsVolumeStop};
 ghost use Rattle.mi_engine.specs.Changes.{holds, changes_of, names_in, NothingInside};
 ghost use Rattle.mi_engine.specs.Looks.{Looks};
 
 use crate::piece::piece_at;
 use crate::plan::{Plan, plan_rows};
-use crate::rows::RegistryRow;
+use crate::rows::PlainRow;
 use crate::stop::Stop;
 use mi_base::{Bytes, Name, NoMemory};
 use mi_volume::{PIECE, Volume};
@@ -94,7 +94,7 @@ fn changes<V: Volume>(alloc: Global, vol: &mut V, plan: Plan) -> Result<Vec<(Nam
 pub fn pending<V: Volume>(
     alloc: Global,
     vol: &mut V,
-    rows: &[RegistryRow],
+    rows: &[PlainRow],
 ) -> Result<Vec<(Name, Bytes)>, Stop>
     ensures changes { V.told → IfOk result (λ es. es.items ≡ changes_of (V.state vol.old).held (entries (planned rows.now (V.state vol.old).held))) }
     ensures outside { IfOk result (λ es. AreOutside (names_in es.items)) }

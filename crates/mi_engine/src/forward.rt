@@ -5,7 +5,7 @@ ghost use Rattle.mi_volume.specs.State.{Passes};
 ghost use Rattle.mi_undo.specs.Keeps.{IsFree};
 ghost use Rattle.mi_undo.specs.Area.{AreOutside};
 ghost use Rattle.mi_undo.specs.Answers.{IsFreeUnlessRose};
-ghost use Rattle.mi_engine.specs.After.{after};
+ghost use Rattle.mi_model.specs.After.{after};
 ghost use Rattle.mi_engine.specs.Changes.{laid, names_in};
 ghost use Rattle.mi_engine.specs.Ends.{Ends, WriteCaused, IsWriteKind};
 ghost use Rattle.mi_engine.specs.Falls.{unknown};
@@ -13,7 +13,7 @@ ghost use Rattle.mi_engine.specs.Falls.{unknown};
 use crate::carry::make_changes;
 use crate::changes::{names_of, pending};
 use crate::fall::{fall_back, give_up};
-use crate::rows::RegistryRow;
+use crate::rows::PlainRow;
 use crate::stop::Stop;
 use mi_base::{Bytes, Cause, Kind, Name, Pause, Place};
 use mi_undo::{CommitFault, Refused, begin};
@@ -73,7 +73,7 @@ fn suspended_in_commit(first: u64, second: u64) -> Kind
 
 /// Writes the rows to a settled volume through the rollback area: all of them, or none. Where no
 /// name changes, nothing is written.
-pub fn write_rows<V: Volume>(alloc: Global, vol: &mut V, rows: &[RegistryRow]) -> Kind
+pub fn write_rows<V: Volume>(alloc: Global, vol: &mut V, rows: &[PlainRow]) -> Kind
     requires free { V.told → IsFree (V.state vol.old) }
     ensures ends { V.told → Ends (V.state vol.old).faults (V.state vol.old) (V.state vol.new) (V.state vol.old).held (after rows.now (V.state vol.old).held) result }
     ensures free { V.told → result ≡ Kind.Done → IsFreeUnlessRose (V.state vol.old) (V.state vol.new) }

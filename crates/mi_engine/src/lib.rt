@@ -5,16 +5,14 @@ mod answer;
 mod carry;
 mod changes;
 mod code;
-mod columns;
 mod ending;
 mod fall;
-mod file;
 mod forward;
 mod load;
 mod obey;
 mod piece;
 mod plan;
-mod registry;
+mod planned;
 mod reply;
 mod rows;
 mod serve;
@@ -25,12 +23,3 @@ mod words;
 pub use answer::Answer;
 pub use code::answer_code;
 pub use top::run;
-
-#[cfg(test)]
-mod command_tests;
-#[cfg(test)]
-mod forward_tests;
-#[cfg(test)]
-mod stop_tests;
-#[cfg(test)]
-mod tests;

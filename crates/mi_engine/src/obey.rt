@@ -5,12 +5,12 @@ ghost use Rattle.mi_volume.specs.State.{Passes};
 ghost use Rattle.mi_source.specs.Counts.{Rose};
 ghost use Rattle.mi_undo.specs.Keeps.{IsFree};
 ghost use Rattle.mi_undo.specs.Answers.{IsFreeUnlessRose};
+ghost use Rattle.mi_base.specs.Machine.{Machine};
 ghost use Rattle.mi_image.specs.Items.{machine_over};
-ghost use Rattle.mi_engine.specs.Words.{Install, Installs};
+ghost use Rattle.mi_model.specs.Words.{Install, Installs};
 ghost use Rattle.mi_engine.specs.Asked.{asked};
-ghost use Rattle.mi_engine.specs.Package.{package_of};
-ghost use Rattle.mi_engine.specs.After.{after};
-ghost use Rattle.mi_engine.specs.Outcome.{of_command, of_package};
+ghost use Rattle.mi_model.specs.After.{after};
+ghost use Rattle.mi_model.specs.Outcome.{of_command, of_package};
 ghost use Rattle.mi_engine.specs.Ends.{Ends, WriteCaused, IsWriteKind};
 ghost use Rattle.mi_engine.specs.Replies.{Serves, Lists, WriteLogs, log_in};
 
@@ -18,7 +18,7 @@ use crate::ending::unloaded;
 use crate::forward::write_rows;
 use crate::load::load;
 use crate::reply::{Reply, front_of, logged, out_of_memory, written};
-use crate::rows::RegistryRow;
+use crate::rows::PlainRow;
 use crate::words::Command;
 use mi_base::{Kind, Settled};
 use mi_image::Image;
@@ -49,7 +49,7 @@ pub fn obey<S: Source, V: Volume>(
     }
 }
 
-/// Installs the package of a folder on a settled volume.
+/// Installs the package of a folder on a settled volume. What is built so far writes the same rows on every machine.
 fn install<S: Source, V: Volume>(
     alloc: Global,
     folder: &str,
@@ -58,7 +58,7 @@ fn install<S: Source, V: Volume>(
     vol: &mut V,
 ) -> Reply
     requires free { V.told → IsFree (V.state vol.old) }
-    ensures serves { Serves V.told S.told (V.state vol.old) (V.state vol.new) (of_package (V.state vol.old).held (package_of (S.files src.old) folder.now)) (Install folder.now) (λ s. s ≡ settled) (Rose (S.faults src.old) (S.faults src.new)) result.kind (log_in result) }
+    ensures serves { (m : Machine) → Serves V.told S.told (V.state vol.old) (V.state vol.new) (of_package (S.files src.old) folder.now (V.state vol.old).held m) (Install folder.now) (λ s. s ≡ settled) (Rose (S.faults src.old) (S.faults src.new)) result.kind (log_in result) }
     ensures passes { Passes (V.state vol.old) (V.state vol.new) }
     ensures counts { S.faults src.old ≤ S.faults src.new }
 {
@@ -69,7 +69,7 @@ fn install<S: Source, V: Volume>(
 }
 
 /// Writes the rows of a package to a settled volume.
-fn carry_out<V: Volume>(alloc: Global, rows: &[RegistryRow], settled: Settled, vol: &mut V) -> Reply
+fn carry_out<V: Volume>(alloc: Global, rows: &[PlainRow], settled: Settled, vol: &mut V) -> Reply
     requires free { V.told → IsFree (V.state vol.old) }
     ensures writes { V.told → Ends (V.state vol.old).faults (V.state vol.old) (V.state vol.new) (V.state vol.old).held (after rows.now (V.state vol.old).held) result.kind }
     ensures free { V.told → result.kind ≡ Kind.Done → IsFreeUnlessRose (V.state vol.old) (V.state vol.new) }

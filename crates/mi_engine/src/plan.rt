@@ -4,13 +4,13 @@ ghost use Rattle.std.specs.Prelude.{◌≡◌, ◌∷◌, [], ◌++◌, ◌<◌,
 ghost use Rattle.std.specs.FinMap.{get};
 ghost use Rattle.mi_base.specs.Limits.{is_key};
 ghost use Rattle.mi_volume.specs.State.{Passes};
-ghost use Rattle.mi_engine.specs.After.{is_new, key_entry, value_entry, path_of, planned};
-ghost use Rattle.mi_engine.specs.Built.{Row};
+ghost use Rattle.mi_model.specs.After.{is_new, key_entry, value_entry, path_of, planned};
+ghost use Rattle.mi_model.specs.Built.{Row};
 ghost use Rattle.mi_engine.specs.Calls.{map_of, Fails, IsVolumeStop, Adds};
 ghost use Rattle.mi_engine.specs.Changes.{NothingInside};
 ghost use Rattle.mi_engine.specs.Looks.{Looks};
 
-use crate::rows::RegistryRow;
+use crate::rows::PlainRow;
 use crate::stop::Stop;
 use mi_base::{Bytes, Cause, EncError, Entry, Name, RegValue, Text, ValueKey, enc_entry, fold};
 use mi_volume::Volume;
@@ -38,7 +38,7 @@ fn key_record(alloc: Global, key: &str) -> Result<(Name, Bytes), Stop>
 }
 
 /// The name and the record of the value that a row writes.
-fn value_record(alloc: Global, row: &RegistryRow) -> Result<(Name, Bytes), Stop>
+fn value_record(alloc: Global, row: &PlainRow) -> Result<(Name, Bytes), Stop>
     ensures record { IfOk result (λ e. e ≡ value_entry row.now) }
     ensures stopped { IfErr result (λ stop. stop ≡ Stop.NoMemory) }
 {
@@ -102,7 +102,7 @@ fn plan_row<V: Volume>(
     alloc: Global,
     vol: &mut V,
     plan: &mut Plan,
-    row: &RegistryRow,
+    row: &PlainRow,
 ) -> Result<(), Stop>
     ensures plans { V.told → OnOk result ((rows : List Row) → map_of plan.old.entries ≡ planned rows (V.state vol.old).held → map_of plan.new.entries ≡ planned (rows ++ row.now ∷ []) (V.state vol.old).held) }
     ensures outside { NothingInside (map_of plan.old.entries) → OnOk result (NothingInside (map_of plan.new.entries)) }
@@ -117,7 +117,7 @@ fn plan_row<V: Volume>(
 }
 
 /// Plans what all rows write, in this order.
-pub fn plan_rows<V: Volume>(alloc: Global, vol: &mut V, rows: &[RegistryRow]) -> Result<Plan, Stop>
+pub fn plan_rows<V: Volume>(alloc: Global, vol: &mut V, rows: &[PlainRow]) -> Result<Plan, Stop>
     ensures plans { V.told → IfOk result (λ plan. map_of plan.entries ≡ planned rows.now (V.state vol.old).held) }
     ensures outside { IfOk result (λ plan. NothingInside (map_of plan.entries)) }
     ensures looks { V.told → Looks (V.state vol.old) (V.state vol.new) }

@@ -1,7 +1,7 @@
 //! What a command answers, with its log.
 
 ghost use Rattle.std.specs.Prelude.{◌≡◌, [], ◌∷◌, ◌++◌, Bool, IfOk, codes};
-ghost use Rattle.mi_report.specs.Lines.{recovered_line, result_line, spaced, place_words};
+ghost use Rattle.mi_model.specs.Lines.{recovered_line, result_line, spaced, place_words};
 ghost use Rattle.mi_text.specs.declared.answers.Settled.TheVariants.{Clean};
 ghost use Rattle.mi_engine.specs.Ends.{IsWriteKind};
 ghost use Rattle.mi_engine.specs.Answers.{log_of};

@@ -1,29 +1,29 @@
-//! Rows of the table Registry.
+//! What a row of Registry writes.
 
-ghost use Rattle.std.specs.Prelude.{◌≡◌, ◌==◌, ◌||◌, ◌∷◌, not, ℤ, codes, nat_eq, nat_lt, ◌^◌, length, true, IfOk};
+ghost use Rattle.std.specs.Prelude.{◌≡◌, ◌==◌, ◌||◌, not, codes, nat_eq, length, true};
 ghost use Rattle.std.specs.List.{list_any, list_all, slice_split, starts_with};
 ghost use Rattle.mi_base.specs.Limits.{is_key, is_value_name, has_no_zero, is_short};
-ghost use Rattle.mi_idt.specs.Cells.{Cell};
-ghost use Rattle.mi_idt.specs.Means.{Shows};
-ghost use Rattle.mi_idt.specs.Spells.{SpellsInteger};
-ghost use Rattle.mi_engine.specs.Built.{stands_for_itself, is_plain_value, is_built_row, is_two};
-ghost use Rattle.mi_engine.specs.Rows.{FitsClass, row_in};
-ghost use Rattle.mi_engine.specs.declared.columns.Class.TheVariants.{Text as TextClass, Integer as IntegerClass};
+ghost use Rattle.mi_model.specs.Built.{stands_for_itself, is_plain_value, is_built_row};
+ghost use Rattle.mi_model.specs.Plan.{keyed};
 
 use mi_base::Text;
+use mi_schema::RegistryRow;
 use std::marker::Model;
 
-/// What a row of the table Registry writes under HKEY_LOCAL_MACHINE (Registry table).
-#[derive(Debug, Drop)]
-pub struct RegistryRow {
+/// HKEY_LOCAL_MACHINE as a root (Registry table).
+const LOCAL_MACHINE: i32 = 2;
+
+/// What a row of Registry writes under HKEY_LOCAL_MACHINE: a plain text (Registry table).
+#[derive(Drop)]
+pub struct PlainRow {
     key: Text,
     name: Text,
     value: Text,
 }
 
-impl Model for RegistryRow {
+impl Model for PlainRow {
     ghost use Rattle.std.specs.Prelude.{◌≡◌, true};
-    ghost use Rattle.mi_engine.specs.Built.{Row, is_built_row};
+    ghost use Rattle.mi_model.specs.Built.{Row, is_built_row};
 
     ghost Value = { Row };
 
@@ -32,7 +32,7 @@ impl Model for RegistryRow {
     ghost invariant = { λ r. is_built_row r.key r.name r.value ≡ true };
 }
 
-impl RegistryRow {
+impl PlainRow {
     /// The key, as it is shown.
     pub fn key(&self) -> &str
         ensures key { result.now ≡ self.now.key }
@@ -148,35 +148,23 @@ fn is_built(key: &str, name: &str, value: &str) -> bool
     key_stands && name_stands && value_stands
 }
 
-/// Whether the digits spell 2.
-fn spells_two(digits: &[u8]) -> bool
-    ensures { (z : ℤ) → SpellsInteger 2147483647 digits.now z → result ≡ is_two z }
+/// What a row writes, behind its key, or None where it isn't built.
+pub fn written_by(row: RegistryRow) -> Option<(Text, PlainRow)>
+    ensures { result ≡ keyed row }
 {
-    for (i, digit) in digits.iter().enumerate() {
-        if *digit != b'0' {
-            return *digit == b'2' && i + 1 == digits.len();
-        }
-    }
-    false
-}
-
-/// What a row writes, by its fields, or None where it isn't built.
-pub fn row_from(
-    root: Option<Text>,
-    key: Option<Text>,
-    name: Option<Text>,
-    value: Option<Text>,
-) -> Option<RegistryRow>
-    ensures { (a b c d : Cell) → Shows root a → FitsClass IntegerClass a → Shows key b → FitsClass TextClass b → Shows name c → FitsClass TextClass c
-        → Shows value d → FitsClass TextClass d → result ≡ row_in a b c d }
-{
-    let root = root?;
-    let key = key?;
+    let RegistryRow {
+        registry,
+        root,
+        key,
+        name,
+        value,
+        component: _,
+    } = row;
     let name = name?;
     let value = value?;
-    let under_machine = spells_two(root.as_bytes());
-    if under_machine && is_built(key.as_str(), name.as_str(), value.as_str()) {
-        return Some(RegistryRow { key, name, value });
+    let built = is_built(key.as_str(), name.as_str(), value.as_str());
+    if root == LOCAL_MACHINE && built {
+        return Some((registry, PlainRow { key, name, value }));
     }
     None
 }

@@ -4,7 +4,7 @@ ghost use Rattle.std.specs.Prelude.{◌≡◌};
 ghost use Rattle.mi_engine.specs.declared.stop.Stop.TheVariants.{NoMemory as no_memory};
 
 use mi_base::{Cause, NoMemory};
-use mi_source::SrcFault;
+use mi_schema::LoadError;
 use mi_undo::OpFault;
 use mi_volume::{Failed, VolFault};
 use std::alloc::{AllocError, AllocFailed};
@@ -40,16 +40,17 @@ impl<T: Drop> From<AllocFailed<T>> for Stop {
     }
 }
 
-impl From<SrcFault> for Stop {
+impl From<LoadError> for Stop {
     ghost use Rattle.std.specs.Prelude.{◌≡◌};
     ghost use Rattle.mi_engine.specs.Calls.{stop_of};
 
-    ghost from_gives = { λ fault e. e ≡ stop_of fault };
+    ghost from_gives = { λ error e. e ≡ stop_of error };
 
-    fn from(fault: SrcFault) -> Stop {
-        match fault {
-            SrcFault::NoMemory => Stop::NoMemory,
-            SrcFault::Failed => Stop::Refuse(Cause::SourceFault),
+    fn from(error: LoadError) -> Stop {
+        match error {
+            LoadError::NoMemory => Stop::NoMemory,
+            LoadError::Source => Stop::Refuse(Cause::SourceFault),
+            LoadError::Table(fault) => Stop::Refuse(Cause::Table(fault)),
         }
     }
 }

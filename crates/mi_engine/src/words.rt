@@ -3,7 +3,7 @@
 ghost use Rattle.std.specs.Prelude.{◌≡◌, Ok, Err, MatchResult};
 ghost use Rattle.std.specs.Str.{bytes_eq};
 ghost use Rattle.mi_text.specs.Fold.{folded};
-ghost use Rattle.mi_engine.specs.Words.{texts_of, command_of, install_in, alone};
+ghost use Rattle.mi_model.specs.Words.{texts_of, command_of, install_in, alone};
 ghost use Rattle.mi_engine.specs.Asked.{asked};
 ghost use Rattle.mi_engine.specs.Answers.{walks};
 

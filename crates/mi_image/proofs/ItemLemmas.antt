@@ -64,7 +64,7 @@ right_set m new n o is right may q i at =
 pub none_right : AreRight (items_of [])
 none_right q i at = let none = get-empty {X = Item} name_cmp q in absurd cc
 
-abbrev key_cmp : Key → Key → Ordering
+abbrev pub key_cmp : Key → Key → Ordering
 key_cmp a b = slice_cmp nat_cmp a.items b.items
 
 below : (k : Key) (es : List (Key × Item)) → AllByRecursion (λ y. key_cmp k y ≡ Less) (map (λ e. e.0) es) → T (below_all name_cmp k.items (map pair_of es))

@@ -1,3 +1,4 @@
+pub mod FrontLemmas
 pub mod ItemLemmas
 pub mod ListLemmas
 pub mod LookLemmas
@@ -7,4 +8,5 @@ pub mod PrefixLemmas
 pub mod RankLemmas
 pub mod ReadLemmas
 pub mod ScanLemmas
+pub mod SystemLemmas
 pub mod UnderLemmas

@@ -1,5 +1,5 @@
 -- The lists of an image are those of its machine.
-use Rattle.std.proofs.Common.{◌≡◌, ℕ, ◌+◌, ◌<◌, Bool, true, false, cond, eqb, T, ◌&&◌, ◌||◌, ◌⊎◌, inl, inr, ⊎_elim, List, [], ◌∷◌, ◌++◌, map, drop, Option, Some, None, Result, Ok, Err, IfOk, Vec, Bor, refl, sym, ap, ◌∙◌, append_assoc, arith}
+use Rattle.std.proofs.Common.{◌≡◌, ℕ, suc, ◌+◌, ◌-◌, ◌<◌, ◌≤◌, Bool, true, false, cond, eqb, T, ◌&&◌, ◌||◌, ◌⊎◌, inl, inr, ⊎_elim, List, [], ◌∷◌, ◌++◌, map, drop, length, Option, Some, None, Result, Ok, Err, IfOk, Vec, Bor, refl, sym, ap, subst, ◌∙◌, append_assoc, arith}
 use Rattle.std.specs.Prelude.{filter, nat_eq, codes, min}
 use Rattle.std.specs.declared.alloc.Global.{Global}
 use Rattle.std.specs.Str.{bytes_eq}
@@ -9,13 +9,15 @@ use Rattle.std.specs.BTreeMap.{BTreeMap}
 use Rattle.std.specs.BTreeMap as tree
 use Rattle.std.specs.List.{starts_with, filter_map, cons_option, AllByRecursion}
 use Rattle.std.specs.FinMap as fin
-use Rattle.std.specs.FinMap.{get, entries, is_sorted, get-entries, entries_sorted}
+use Rattle.std.specs.FinMap.{entries, is_sorted, get-entries, entries_sorted}
 use Rattle.std.specs.FinMap.Entries.{below_all}
-use Rattle.std.proofs.lemmas.Bool.{eqb-true, ltb-true}
+use Rattle.std.proofs.lemmas.Bool.{eqb-true, leb-true, ltb-true}
+use Rattle.std.proofs.lemmas.List.{length-append, map-append}
+use Rattle.std.proofs.lemmas.Slice.Eq.{bytes_eq-Decides}
 use Rattle.mi_text.specs.Fold.{folded}
 use Rattle.mi_text.specs.Guid.{guid_text}
 use Rattle.mi_text.specs.Path.{is_folder_path}
-use Rattle.mi_text.specs.Maps.{Name, Map, name_cmp, same_name}
+use Rattle.mi_text.specs.Maps.{Name, Map, name_cmp}
 use Rattle.mi_text.proofs.ByteLemmas.{both}
 use Rattle.mi_text.proofs.MapLemmas.{same_itself, entries-map_values}
 use Rattle.mi_base.specs.declared.entry.Client.{Client}
@@ -23,17 +25,19 @@ use Rattle.mi_base.specs.declared.entry.RegValue.{RegValue}
 use Rattle.mi_base.specs.declared.entry.ValueKey.{ValueKey}
 use Rattle.mi_base.specs.declared.entry.Entry.{Entry}
 use Rattle.mi_base.specs.declared.entry.Entry.TheVariants as entry
-use Rattle.mi_base.specs.Limits.{fits}
+use Rattle.mi_base.specs.Limits.{fits, is_key}
 use Rattle.mi_base.specs.Names.{file_name, value_name, client_name, product_name}
 use Rattle.mi_base.specs.Machine.{Machine, as_client, as_product}
 use Rattle.mi_image.specs.declared.item.Item.{Item}
 use Rattle.mi_image.specs.declared.item.Item.TheVariants.{Head, Whole}
 use Rattle.mi_image.specs.Items.{Items, pair_of, items_of, entry_over, machine_over, MayStand, AreRight}
 use Rattle.mi_image.specs.Lists.{picked, products_of, clients_of, clients_with, with_component, file_below, files_under, value_below, values_under}
+use Rattle.mi_image.specs.Fronts.{value_front, begins_within}
 use Rattle.mi_image.specs.Picks.{product_in, client_in, client_with, file_in, value_in}
 use Rattle.mi_image.proofs.ItemLemmas.{entries-items}
 use Rattle.mi_image.proofs.LookupLemmas.{by_item}
-use Rattle.mi_image.proofs.PrefixLemmas.{starts_append}
+use Rattle.mi_image.proofs.PrefixLemmas.{starts_append, starts_is}
+use Rattle.mi_image.proofs.FrontLemmas.{one_length, begins_at_key, begins_below_key}
 use Rattle.mi_image.proofs.ScanLemmas.{head_first, apart}
 
 true_of : (b : Bool) → T b → b ≡ true
@@ -49,7 +53,7 @@ each_found P (e ∷ es) sorted h =
       each_found P es parts.1 (λ q x at. h q x (ap (λ (b : Bool). cond b (Some e.1) (fin.find name_cmp q es)) (apart e.0 q (head_first e.0 q es x parts.0 at)) ∙ at)),
     )
 
-each_right : (items : Items) → AreRight items → AllByRecursion (λ e. MayStand e.0 e.1) (entries items)
+pub each_right : (items : Items) → AreRight items → AllByRecursion (λ e. MayStand e.0 e.1) (entries items)
 each_right items right = each_found MayStand (entries items) (true_of _ (entries_sorted items)) (λ q i at. right q i (get-entries items q ∙ at))
 
 -- one entry by one: those that pass the test give what is picked of them, and the others nothing
@@ -211,39 +215,67 @@ value_root : (k : ValueKey) (v : RegValue) → fits (entry.Value k v) ≡ true �
 unfolding fits
 value_root k v fit = ltb-true k.root 4 (both _ _ (both _ _ (both _ _ (both _ _ fit).0).0).0).0
 
-value_begins : (root : ℕ) (key name : List ℕ) → (rest : List ℕ) × (value_name root key name ≡ (118 ∷ 47 ∷ (48 + root) ∷ []) ++ rest)
+value_folded : (k : ValueKey) (v : RegValue) → fits (entry.Value k v) ≡ true → folded k.key ≡ k.key
+unfolding fits
+value_folded k v fit = (bytes_eq-Decides (folded k.key) k.key).0 (both _ _ (both _ _ (both _ _ fit).0).0).1
+
+value_short : (k : ValueKey) (v : RegValue) → fits (entry.Value k v) ≡ true → length k.key ≤ 500
+unfolding fits is_key
+value_short k v fit = leb-true (length k.key) 500 (both _ _ (both _ _ (both _ _ (both _ _ (both _ _ (both _ _ fit).0).0).0).1).0).0
+
+-- how the name of a value begins, and how it goes on
+value_begins : (k : ValueKey) (v : RegValue) (q : Name) → MayStand q (Whole (entry.Value k v)) → q ≡ value_front k.root (length k.key) (k.key ++ folded k.shown)
 unfolding value_name
-value_begins root key name = (drop 3 (value_name root key name), refl)
+value_begins k v q may = sym may.named ∙ ap (λ (key : List ℕ). value_front k.root (length key) (key ++ folded k.shown)) (value_folded k v may.right)
 
-pub values_are : (held files : Map (List ℕ)) (items : Items) (root : ℕ) (key fold_key front : List ℕ) → fold_key ≡ folded key → front ≡ folded key ++ 92 ∷ [] → AreRight items
-    → filter_map (value_in root fold_key front) (map (λ e. e.1) (filter (λ e. starts_with nat_eq e.0 (118 ∷ 47 ∷ (48 + min root 9) ∷ [])) (entries items))) ≡ values_under (machine_over held files items) root key
-unfolding values_under
-values_are held files items root key fold_key front key_is front_is right = list_is held files items (λ e. starts_with nat_eq e.0 (118 ∷ 47 ∷ (48 + min root 9) ∷ [])) (value_in root fold_key front) (value_below root key) right picks
+-- the value of a key, or of a key below it, stands at a name that begins so
+value_there : (k : ValueKey) (v : RegValue) (q : Name) (key front : List ℕ) → MayStand q (Whole (entry.Value k v)) → front ≡ key ++ 92 ∷ [] → (bytes_eq k.key key || starts_with nat_eq k.key front) ≡ true → begins_within k.root key front (500 - length key) q ≡ true
+value_there k v q key front may front_is inside = elim (bytes_eq k.key key) as (λ b. bytes_eq k.key key ≡ b → (b || starts_with nat_eq k.key front) ≡ true → begins_within k.root key front (500 - length key) q ≡ true) [
+  | true ↦ λ b h. begins_at_key k.root key front (folded k.shown) (500 - length key) q (value_begins k v q may ∙ ap (λ (own : List ℕ). value_front k.root (length own) (own ++ folded k.shown)) ((bytes_eq-Decides k.key key).0 b))
+  | false ↦ λ b h. longer (starts_is k.key front h)
+] refl inside
   where
+    longer : k.key ≡ front ++ drop (length front) k.key → begins_within k.root key front (500 - length key) q ≡ true
+    longer is =
+        let size : length k.key ≡ length key + 1 + length (drop (length front) k.key) = ap length is ∙ length-append front (drop (length front) k.key) ∙ ap (λ (n : ℕ). n + length (drop (length front) k.key)) (ap length front_is ∙ length-append key (92 ∷ [])) in
+        begins_below_key k.root key front (drop (length front) k.key ++ folded k.shown) (500 - length key) (length (drop (length front) k.key)) (length k.key) q (omega (arith, size)) (omega (arith, size, value_short k v may.right))
+        (value_begins k v q may ∙ ap (λ (own : List ℕ). value_front k.root (length k.key) (own ++ folded k.shown)) is ∙ ap (value_front k.root (length k.key)) (append_assoc front (drop (length front) k.key) (folded k.shown)))
+
+pub values_are : (held files : Map (List ℕ)) (items : Items) (root : ℕ) (key fold_key front : List ℕ) → fold_key ≡ folded key → front ≡ fold_key ++ 92 ∷ [] → AreRight items
+    → filter_map (value_in root fold_key front) (map (λ e. e.1) (filter (λ e. begins_within (min root 9) fold_key front (500 - length fold_key) e.0) (entries items))) ≡ values_under (machine_over held files items) root key
+unfolding values_under
+values_are held files items root key fold_key front key_is front_is right = list_is held files items (λ e. begins e.0) (value_in root fold_key front) (value_below root key) right picks
+  where
+    begins : Name → Bool
+    begins q = begins_within (min root 9) fold_key front (500 - length fold_key) q
+
     same : (i : Item) → value_in root fold_key front i ≡ value_in root (folded key) (folded key ++ 92 ∷ []) i
-    same i = ap (λ (k : List ℕ). value_in root k front i) key_is ∙ ap (λ (f : List ℕ). value_in root (folded key) f i) front_is
+    same i = ap (λ (k : List ℕ). value_in root k front i) key_is ∙ ap (λ (f : List ℕ). value_in root (folded key) f i) (front_is ∙ ap (λ (k : List ℕ). k ++ 92 ∷ []) key_is)
 
-    by_root : (q : Name) (k : ValueKey) (inside : Bool) → value_name k.root k.key k.shown ≡ q → k.root < 4 → (b : Bool) → eqb k.root root ≡ b → (cond (b && inside) (Some k) None ≡ None) ⊎ (starts_with nat_eq q (118 ∷ 47 ∷ (48 + min root 9) ∷ []) ≡ true)
-    by_root q k inside named small true is =
+    by_key : (q : Name) (k : ValueKey) (v : RegValue) → MayStand q (Whole (entry.Value k v)) → min root 9 ≡ k.root → (b : Bool) → (bytes_eq k.key fold_key || starts_with nat_eq k.key front) ≡ b → (cond b (Some k) None ≡ None) ⊎ (begins q ≡ true)
+    by_key q k v may low true inside = inr (subst (λ (n : ℕ). begins_within n fold_key front (500 - length fold_key) q ≡ true) (sym low) (value_there k v q fold_key front may front_is inside))
+    by_key q k v may low false outside = inl refl
+
+    by_root : (q : Name) (k : ValueKey) (v : RegValue) → MayStand q (Whole (entry.Value k v)) → (b : Bool) → eqb k.root root ≡ b → (cond (b && (bytes_eq k.key fold_key || starts_with nat_eq k.key front)) (Some k) None ≡ None) ⊎ (begins q ≡ true)
+    by_root q k v may true is =
         let number : k.root ≡ root = eqb-true k.root root is in
-        let low : min root 9 ≡ k.root = omega (arith, number, small) in
-        let rest = value_begins k.root k.key k.shown in
-        inr (begins_so q (value_name k.root k.key k.shown) (118 ∷ 47 ∷ (48 + min root 9) ∷ []) rest.0 named (rest.1 ∙ ap (λ (n : ℕ). (118 ∷ 47 ∷ (48 + n) ∷ []) ++ rest.0) (sym low)))
-    by_root q k inside named small false other = inl refl
+        let low : min root 9 ≡ k.root = omega (arith, number, value_root k v may.right) in
+        by_key q k v may low (bytes_eq k.key fold_key || starts_with nat_eq k.key front) refl
+    by_root q k v may false other = inl refl
 
-    picks : (q : Name) (i : Item) → MayStand q i → cond (starts_with nat_eq q (118 ∷ 47 ∷ (48 + min root 9) ∷ [])) (value_in root fold_key front i) None ≡ value_below root key (entry_over held files i)
+    picks : (q : Name) (i : Item) → MayStand q i → cond (begins q) (value_in root fold_key front i) None ≡ value_below root key (entry_over held files i)
     picks q (Whole (entry.Value k v)) may =
-        where_begins (starts_with nat_eq q (118 ∷ 47 ∷ (48 + min root 9) ∷ [])) (value_in root fold_key front (Whole (entry.Value k v))) (value_below root key (entry.Value k v)) (same (Whole (entry.Value k v)))
-        (by_root q k (bytes_eq k.key fold_key || starts_with nat_eq k.key front) may.named (value_root k v may.right) (eqb k.root root) refl)
-    picks q (Head h content) may = no_other (starts_with nat_eq q (118 ∷ 47 ∷ (48 + min root 9) ∷ []))
+        where_begins (begins q) (value_in root fold_key front (Whole (entry.Value k v))) (value_below root key (entry.Value k v)) (same (Whole (entry.Value k v)))
+        (by_root q k v may (eqb k.root root) refl)
+    picks q (Head h content) may = no_other (begins q)
     picks q (Whole (entry.File f)) may = let clash : false ≡ true = may.split in absurd cc
-    picks q (Whole (entry.Folder t)) may = no_other (starts_with nat_eq q (118 ∷ 47 ∷ (48 + min root 9) ∷ []))
-    picks q (Whole (entry.Key r t)) may = no_other (starts_with nat_eq q (118 ∷ 47 ∷ (48 + min root 9) ∷ []))
-    picks q (Whole (entry.Shortcut s)) may = no_other (starts_with nat_eq q (118 ∷ 47 ∷ (48 + min root 9) ∷ []))
-    picks q (Whole (entry.Variable v)) may = no_other (starts_with nat_eq q (118 ∷ 47 ∷ (48 + min root 9) ∷ []))
-    picks q (Whole (entry.Client c)) may = no_other (starts_with nat_eq q (118 ∷ 47 ∷ (48 + min root 9) ∷ []))
-    picks q (Whole (entry.Product p)) may = no_other (starts_with nat_eq q (118 ∷ 47 ∷ (48 + min root 9) ∷ []))
-    picks q (Whole (entry.System p t)) may = no_other (starts_with nat_eq q (118 ∷ 47 ∷ (48 + min root 9) ∷ []))
+    picks q (Whole (entry.Folder t)) may = no_other (begins q)
+    picks q (Whole (entry.Key r t)) may = no_other (begins q)
+    picks q (Whole (entry.Shortcut s)) may = no_other (begins q)
+    picks q (Whole (entry.Variable v)) may = no_other (begins q)
+    picks q (Whole (entry.Client c)) may = no_other (begins q)
+    picks q (Whole (entry.Product p)) may = no_other (begins q)
+    picks q (Whole (entry.System p t)) may = no_other (begins q)
 
 -- ---- what is found of a tree
 
@@ -263,3 +295,30 @@ pub found_in : {E : Type 0} → (r : Result (Vec (Bor Item) Global) E) (m : BTre
     → IfOk r (λ found. map (λ i. i.now) found.items ≡ map (λ e. e.1) (filter (λ e. starts_with nat_eq e.0 front) (entries image)))
 found_in r m image front is found ordered = ok_both r _ _ _ (λ v at sorted. at ∙ paired front m.entries
     ∙ ap (λ es. map (λ (e : Name × Item). e.1) (filter (λ e. starts_with nat_eq e.0 front) es)) (sym (entries-items m sorted) ∙ ap entries is)) found ordered
+
+-- ---- what is found length by length
+
+none_longer : (image : Items) (root : ℕ) (key front : List ℕ) (n k : ℕ) → n ≡ k → map (λ (e : Name × Item). e.1) (filter (λ (e : Name × Item). begins_within root key front n e.0) (entries image)) ≡ map (λ (e : Name × Item). e.1) (filter (λ (e : Name × Item). begins_within root key front k e.0) (entries image))
+none_longer image root key front n k same = ap (λ (m : ℕ). map (λ (e : Name × Item). e.1) (filter (λ (e : Name × Item). begins_within root key front m e.0) (entries image))) same
+
+pub found_at_key : (image : Items) (found : List (Bor Item)) (root : ℕ) (key front name : List ℕ) → name ≡ value_front root (length key) key
+    → map (λ i. i.now) found ≡ map (λ e. e.1) (filter (λ e. starts_with nat_eq e.0 name) (entries image)) → map (λ i. i.now) found ≡ map (λ e. e.1) (filter (λ e. begins_within root key front 0 e.0) (entries image))
+unfolding begins_within
+found_at_key image found root key front name is at = at ∙ ap (λ (f : Name). map (λ (e : Name × Item). e.1) (filter (λ (e : Name × Item). starts_with nat_eq e.0 f) (entries image))) is
+
+pub found_longer : (image : Items) (found new more : List (Bor Item)) (root : ℕ) (key front name : List ℕ) (n size : ℕ) → size ≡ length key + n + 1 → n < 500 - length key → name ≡ value_front root size front
+    → map (λ i. i.now) found ≡ map (λ e. e.1) (filter (λ e. begins_within root key front n e.0) (entries image))
+    → map (λ i. i.now) more ≡ map (λ e. e.1) (filter (λ e. starts_with nat_eq e.0 name) (entries image)) → new ≡ found ++ more
+    → map (λ i. i.now) new ≡ map (λ e. e.1) (filter (λ e. begins_within root key front (n + 1) e.0) (entries image))
+found_longer image found new more root key front name n size size_is within name_is so_far at grown =
+    let second : Name × Item → Item = λ e. e.1 in
+    let shorter : List (Name × Item) = filter (λ e. begins_within root key front n e.0) (entries image) in
+    let longer : List (Name × Item) = filter (λ e. starts_with nat_eq e.0 (value_front root size front)) (entries image) in
+    let here : map (λ (i : Bor Item). i.now) more ≡ map second longer = at ∙ ap (λ (f : Name). map second (filter (λ (e : Name × Item). starts_with nat_eq e.0 f) (entries image))) name_is in
+    ap (map (λ (i : Bor Item). i.now)) grown
+    ∙ map-append (λ (i : Bor Item). i.now) found more
+    ∙ ap (λ (is : List Item). is ++ map (λ (i : Bor Item). i.now) more) so_far
+    ∙ ap (λ (is : List Item). map second shorter ++ is) here
+    ∙ sym (map-append second shorter longer)
+    ∙ ap (map second) (sym (one_length root key front n size (entries image) (omega (arith, size_is)) (omega (arith, size_is, within)) (true_of _ (entries_sorted image))))
+    ∙ none_longer image root key front (suc n) (n + 1) (omega arith)

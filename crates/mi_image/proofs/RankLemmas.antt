@@ -40,13 +40,13 @@ rank_below (suc n) (b ∷ bs) are =
     let small : b + 1 ≤ 256 = omega (arith, head_below b bs are) in
     omega (arith, rank_below n bs (both _ _ are).1, mul-le-mul_left (weight n) small)
 
-less_is : (x y : ℕ) → nat_cmp x y ≡ Less → x < y
+pub less_is : (x y : ℕ) → nat_cmp x y ≡ Less → x < y
 less_is x y is = elim (ltb x y) as (λ b. ltb x y ≡ b → cond b Less (cond (eqb x y) Equal Greater) ≡ Less → x < y) [
   | true ↦ λ b h. ltb-true x y b
   | false ↦ λ b h. elim (eqb x y) as (λ t. cond t Equal Greater ≡ Less → x < y) [ true ↦ λ i. absurd cc | false ↦ λ i. absurd cc ] h
 ] refl is
 
-first_or_rest : (o r : Ordering) → ordering_then o r ≡ Less → (o ≡ Less) ⊎ ((o ≡ Equal) × (r ≡ Less))
+pub first_or_rest : (o r : Ordering) → ordering_then o r ≡ Less → (o ≡ Less) ⊎ ((o ≡ Equal) × (r ≡ Less))
 first_or_rest Less r is = inl refl
 first_or_rest Equal r is = inr (refl, is)
 first_or_rest Greater r is = absurd cc

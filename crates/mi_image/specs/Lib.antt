@@ -1,4 +1,5 @@
 pub mod Faults
+pub mod Fronts
 pub mod Items
 pub mod Lists
 pub mod Lookups

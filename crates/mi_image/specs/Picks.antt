@@ -1,9 +1,8 @@
 -- What the lists pick of an item.
-use Rattle.std.specs.Prelude.{ℕ, ◌==◌, ◌&&◌, if◌then◌else◌, List, Option, Some, None}
+use Rattle.std.specs.Prelude.{ℕ, List, Option, Some, None}
 use Rattle.mi_base.specs.declared.entry.Client.{Client}
 use Rattle.mi_base.specs.declared.entry.Product.{Product}
 use Rattle.mi_base.specs.declared.entry.ValueKey.{ValueKey}
-use Rattle.mi_base.specs.declared.entry.Entry.TheVariants as entry
 use Rattle.mi_base.specs.Machine.{as_client, as_product}
 use Rattle.mi_image.specs.declared.item.Item.{Item}
 use Rattle.mi_image.specs.declared.item.Item.TheVariants.{Head, Whole}

@@ -2,8 +2,9 @@
 
 ghost use Rattle.std.specs.Prelude.{◌≡◌, List, ℕ, IfOk, OnOk, OnErr, map, filter, nat_eq};
 ghost use Rattle.std.specs.Option.{option_copied};
-ghost use Rattle.std.specs.List.{starts_with};
+ghost use Rattle.std.specs.List.{list_any, starts_with};
 ghost use Rattle.std.specs.FinMap as tree;
+ghost use Rattle.mi_base.specs.System.{is_system_property};
 ghost use Rattle.mi_image.specs.Items.{MayStand, AreRight};
 ghost use Rattle.mi_image.specs.Lookups.{IsComposed};
 
@@ -54,6 +55,16 @@ impl Image {
     {
         let items = &self.items;
         items.get(name?.as_slice())
+    }
+
+    /// Whether a property of the system is held, which takes no memory: their names are the last.
+    pub(crate) fn has_system(&self) -> bool
+        ensures { result ≡ list_any is_system_property (tree.keys self.now) }
+    {
+        match self.items.keys().next_back() {
+            Some(name) => name.as_slice().starts_with(b"y/"),
+            None => false,
+        }
     }
 
     /// What stands at the names that begin with some bytes, in byte order.

@@ -13,6 +13,7 @@ mod names;
 mod pick;
 mod reading;
 mod scan;
+mod system;
 mod under;
 
 pub use fault::ImageError;

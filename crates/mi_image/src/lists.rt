@@ -1,15 +1,22 @@
-//! Lists of what an image holds, in byte order of the volume's names. Each costs one search in the ordered
-//! names, and what stands below the names where the list begins.
+//! Lists of what an image holds, in byte order of the volume's names. Each costs one search in the ordered names
+//! and what is listed; the values below a key cost one search for each length of a key.
 
-ghost use Rattle.std.specs.Prelude.{◌≡◌, List, ℕ, IfOk};
+ghost use Rattle.std.specs.Prelude.{◌≡◌, ◌<◌, ◌-◌, List, ℕ, IfOk, filter, length, map};
 ghost use Rattle.mi_text.specs.Maps.{Map};
-ghost use Rattle.mi_image.specs.Items.{machine_over};
+ghost use Rattle.std.specs.FinMap.{entries};
+ghost use Rattle.mi_image.specs.Fronts.{begins_within};
+ghost use Rattle.mi_image.specs.Items.{machine_over, AreRight};
 ghost use Rattle.mi_image.specs.Lists.{products_of, clients_of, clients_with, files_under, values_under};
 
 use crate::image::Image;
+use crate::item::Item;
+use crate::names::value_front;
 use crate::pick::{ClientsOf, EachClient, EachFile, EachProduct, ValuesIn, pick_all};
 use mi_base::{Client, Guid, NoMemory, PathText, Product, Text, ValueKey, fold};
 use std::alloc::Global;
+
+/// The length of the longest registry key, in bytes.
+const KEY_LIMIT: usize = 500;
 
 impl Image {
     /// The installed products, by code (this project's own).
@@ -52,6 +59,29 @@ impl Image {
         pick_all(alloc, items.as_slice(), &EachFile)
     }
 
+    // What stands at the names of the values of a key, and of the keys that are longer and begin with `front`. A
+    // value's name begins with the length of its key, so each length is a search of its own.
+    fn under_key(
+        &self,
+        alloc: Global,
+        root: u8,
+        key: &str,
+        front: &str,
+    ) -> Result<Vec<&Item>, NoMemory>
+        requires { root < 10 }
+        ensures found { IfOk result (λ found. map (λ i. i.now) found.items ≡ map (λ e. e.1) (filter (λ e. begins_within root key.now front.now (500 - length key.now) e.0) (entries self.now))) }
+        ensures right { IfOk result (λ found. AreRight self.now) }
+    {
+        let name = value_front(alloc, root, key.len(), key)?;
+        let mut found = self.under(alloc, name.as_slice())?;
+        for more in 0..KEY_LIMIT.saturating_sub(key.len()) {
+            let name = value_front(alloc, root, key.len() + more + 1, front)?;
+            let items = self.under(alloc, name.as_slice())?;
+            found.extend_from_slice(items.as_slice())?;
+        }
+        Ok(found)
+    }
+
     /// Where the values of a registry key and of the keys below it stand (Registry table).
     pub fn values_below(
         &self,
@@ -64,14 +94,13 @@ impl Image {
         let key = fold(alloc, key)?;
         let mut front = Text::copy_of(alloc, key.as_str())?;
         front.push_str("\\")?;
-        // No value has a greater root than 3.
-        let kind = [b'v', b'/', b'0' + root.min(9)];
-        let items = self.under(alloc, &kind)?;
         let values = ValuesIn {
             root,
             key: key.as_str(),
             front: front.as_str(),
         };
+        // No value has a greater root than 3.
+        let items = self.under_key(alloc, root.min(9), values.key, values.front)?;
         pick_all(alloc, items.as_slice(), &values)
     }
 }

@@ -22,7 +22,7 @@ use mi_base::{Client, Entry, FileHead, Guid, PathText, Product, RegValue, Shortc
 
 impl Image {
     // The entry that stands whole at a composed name.
-    fn whole_at(&self, name: Option<NameBuffer>) -> Option<&Entry>
+    pub(crate) fn whole_at(&self, name: Option<NameBuffer>) -> Option<&Entry>
         ensures { (q : List ℕ) → IsComposed q name → option_copied result ≡ whole_of (get self.now q) }
     {
         match self.at(name)? {

@@ -1,12 +1,14 @@
 //! The names of entries, composed without memory.
 
-ghost use Rattle.std.specs.Prelude.{◌≡◌, ◌<◌, ◌+◌, ◌++◌, length, MatchOption};
+ghost use Rattle.std.specs.Prelude.{◌≡◌, ◌<◌, ◌+◌, ◌++◌, ◌∷◌, codes, length, IfOk, MatchOption};
 ghost use Rattle.mi_text.specs.Fold.{folded};
 ghost use Rattle.mi_base.specs.Names.{four_digits, file_name, folder_name, key_name, value_name, shortcut_name, variable_name, client_name, product_name, system_name};
+ghost use Rattle.mi_image.specs.Fronts.{value_front};
 ghost use Rattle.mi_image.specs.Lookups.{IsComposed};
 
 use crate::buffer::NameBuffer;
-use mi_base::{Guid, PathText};
+use mi_base::{Guid, NoMemory, PathText};
+use std::alloc::Global;
 
 // Some bytes, and a text that is folded.
 fn folded_behind(front: &[u8], text: &str) -> Option<NameBuffer>
@@ -65,6 +67,32 @@ fn digit(number: usize) -> u8
     b'0' + number as u8
 }
 
+// How the names of values begin, up to their keys, which have `size` bytes.
+fn value_kind(root: u8, size: usize) -> [u8; 7]
+    requires { root < 10 }
+    ensures { result ≡ codes "v/" ++ (48 + root) ∷ four_digits size }
+{
+    [
+        b'v',
+        b'/',
+        digit(usize::from(root)),
+        digit(size / 1000 % 10),
+        digit(size / 100 % 10),
+        digit(size / 10 % 10),
+        digit(size % 10),
+    ]
+}
+
+/// How the names of values begin whose key has `size` bytes and begins so.
+pub fn value_front(alloc: Global, root: u8, size: usize, front: &str) -> Result<Vec<u8>, NoMemory>
+    requires { root < 10 }
+    ensures { IfOk result (λ name. name.items ≡ value_front root size front.now) }
+{
+    let mut name = Vec::from_slice(alloc, &value_kind(root, size))?;
+    name.extend_from_slice(front.as_bytes())?;
+    Ok(name)
+}
+
 #[tactic(auto, unfolding(mi_base::specs::Names::value_name))]
 pub fn value_name(root: u8, key: &str, name: &str) -> Option<NameBuffer>
     ensures { IsComposed (value_name root key.now name.now) result }
@@ -72,17 +100,7 @@ pub fn value_name(root: u8, key: &str, name: &str) -> Option<NameBuffer>
     if root > 3 {
         return None;
     }
-    let length = key.len();
-    let front = [
-        b'v',
-        b'/',
-        b'0' + root,
-        digit(length / 1000 % 10),
-        digit(length / 100 % 10),
-        digit(length / 10 % 10),
-        digit(length % 10),
-    ];
-    let mut buffer = folded_behind(&front, key)?;
+    let mut buffer = folded_behind(&value_kind(root, key.len()), key)?;
     if buffer.push_folded(name) {
         Some(buffer)
     } else {

@@ -1,7 +1,7 @@
 //! One volume with an entry of every kind, and one bad name of each kind. The records are written out by hand.
 
 use crate::{Content, Image, ImageError};
-use mi_base::{Guid, Name, PathText};
+use mi_base::{Guid, Name, PathText, Text};
 use mi_volume::{Fails, MemVolume, PIECE, Volume};
 use std::alloc::Global;
 use std::test::Fail;
@@ -87,6 +87,75 @@ fn variables_clients_and_products_are_found(rt: HostRuntime) -> Result<(), Fail>
     assert_eq!(rt; image.products(alloc)?.len(), 1);
     assert_eq!(rt; image.clients(alloc)?.len(), 1);
     assert_eq!(rt; image.clients_of(alloc, product)?.len(), 0);
+    Ok(())
+}
+
+#[test]
+fn a_held_property_of_the_system_stands_alone(rt: HostRuntime) -> Result<(), Fail> {
+    let image = scanned(rt.alloc(), &MACHINE)?;
+    assert_eq!(rt; image.system("VersionNT"), Some("601"));
+    assert!(rt; image.system("TempFolder").is_none());
+    Ok(())
+}
+
+#[test]
+fn where_no_property_of_the_system_is_held_the_defaults_are_read(
+    rt: HostRuntime,
+) -> Result<(), Fail> {
+    let image = scanned(rt.alloc(), &MACHINE[..9])?;
+    assert_eq!(rt; image.system("VersionNT"), Some("603"));
+    assert_eq!(rt; image.system("TempFolder"), Some("C:\\Temp\\"));
+    assert!(rt; image.system("versionNT").is_none());
+    Ok(())
+}
+
+/// The keys of the values of a key and of the keys below it, each with a bar behind it.
+fn keys_below(alloc: Global, image: &Image, root: u8, key: &str) -> Result<Text, Fail> {
+    let mut keys = Text::copy_of(alloc, "")?;
+    for value in &image.values_below(alloc, root, key)? {
+        keys.push_str(value.key.as_str())?;
+        keys.push_str("|")?;
+    }
+    Ok(keys)
+}
+
+#[test]
+fn values_below_a_key_come_by_the_length_of_their_keys(rt: HostRuntime) -> Result<(), Fail> {
+    let alloc = rt.alloc();
+    let record = b"\0\0\0\x03Ver\x01\0\0\0\x011".as_slice();
+    let names = [
+        ("v/10001aver", record),
+        ("v/20001aver", record),
+        ("v/20002abver", record),
+        ("v/20003a\\cver", record),
+        ("v/20005a\\b\\cver", record),
+    ];
+    let image = scanned(alloc, &names)?;
+    assert_eq!(rt;
+        keys_below(alloc, &image, 2, "A")?.as_str(),
+        "a|a\\c|a\\b\\c|"
+    );
+    assert_eq!(rt; keys_below(alloc, &image, 2, "a\\b")?.as_str(), "a\\b\\c|");
+    assert_eq!(rt; keys_below(alloc, &image, 200, "a")?.as_str(), "");
+    Ok(())
+}
+
+#[test]
+fn files_below_a_folder_are_listed(rt: HostRuntime) -> Result<(), Fail> {
+    let alloc = rt.alloc();
+    let image = scanned(alloc, &MACHINE)?;
+    assert_eq!(rt;
+        image
+            .files_below(alloc, &PathText::folder(alloc, "c:\\")?)?
+            .len(),
+        1
+    );
+    assert_eq!(rt;
+        image
+            .files_below(alloc, &PathText::folder(alloc, "c:\\sub")?)?
+            .len(),
+        0
+    );
     Ok(())
 }
 

@@ -6,8 +6,8 @@ ghost use Rattle.std.specs.List.{flat_map};
 ghost use Rattle.mi_text.specs.Guid.{guid_text};
 ghost use Rattle.mi_text.specs.Maps.{Map};
 ghost use Rattle.mi_image.specs.Items.{machine_over};
-ghost use Rattle.mi_report.specs.Lines.{shown, spaced};
-ghost use Rattle.mi_report.specs.Listings.{version_text, features_text, product_line, products_text_of, client_line, clients_text_of};
+ghost use Rattle.mi_model.specs.Lines.{shown, spaced};
+ghost use Rattle.mi_model.specs.Listings.{version_text, features_text, product_line, products_text_of, client_line, clients_text_of};
 
 use crate::words::{push_field, push_number, push_shown, push_text};
 use mi_base::{Bytes, Client, Guid, NoMemory, Product, Text, Version};
@@ -31,7 +31,7 @@ fn push_part(alloc: Global, out: &mut Vec<u8>, part: u16) -> Result<(), NoMemory
 }
 
 // A blank and a version.
-#[tactic(auto, unfolding(crate::specs::Listings::version_text))]
+#[tactic(auto, unfolding(mi_model::specs::Listings::version_text))]
 fn push_version(alloc: Global, out: &mut Vec<u8>, version: Version) -> Result<(), NoMemory>
     ensures { OnOk result (out.new.items ≡ out.old.items ++ spaced (version_text version ∷ [])) }
 {
@@ -53,7 +53,7 @@ fn push_more(out: &mut Vec<u8>, features: &[Text]) -> Result<(), NoMemory>
 }
 
 // A blank and the features.
-#[tactic(auto, unfolding(crate::specs::Listings::features_text))]
+#[tactic(auto, unfolding(mi_model::specs::Listings::features_text))]
 fn push_features(out: &mut Vec<u8>, features: &[Text]) -> Result<(), NoMemory>
     ensures { OnOk result (out.new.items ≡ out.old.items ++ spaced (features_text features.now ∷ [])) }
 {
@@ -82,7 +82,7 @@ pub trait Line {
 impl Line for Product {
     ghost line = { product_line };
 
-    #[tactic(auto, unfolding(crate::specs::Listings::product_line))]
+    #[tactic(auto, unfolding(mi_model::specs::Listings::product_line))]
     fn push_line(&self, alloc: Global, out: &mut Vec<u8>) -> Result<(), NoMemory> {
         push_code(alloc, out, self.code)?;
         push_version(alloc, out, self.version)?;
@@ -97,7 +97,7 @@ impl Line for Product {
 impl Line for Client {
     ghost line = { client_line };
 
-    #[tactic(auto, unfolding(crate::specs::Listings::client_line))]
+    #[tactic(auto, unfolding(mi_model::specs::Listings::client_line))]
     fn push_line(&self, alloc: Global, out: &mut Vec<u8>) -> Result<(), NoMemory> {
         push_code(alloc, out, self.component)?;
         out.push(b' ')?;

@@ -2,8 +2,8 @@
 
 ghost use Rattle.std.specs.Prelude.{◌≡◌, ◌++◌, IfOk, OnOk, take};
 ghost use Rattle.std.specs.List.{flat_map};
-ghost use Rattle.mi_report.specs.Lines.{recovered_line, action_line};
-ghost use Rattle.mi_report.specs.Report.{report_of};
+ghost use Rattle.mi_model.specs.Lines.{recovered_line, action_line};
+ghost use Rattle.mi_model.specs.Report.{report_of};
 
 use crate::outcome::Outcome;
 use crate::words::{push_number, push_result_line, push_shown};
@@ -52,7 +52,7 @@ fn first(names: &[Text], count: u32) -> &[Text]
 
 /// The log of a command, of whose begun actions the first `reached` are written (this project's own).
 pub fn report(alloc: Global, outcome: &Outcome, reached: u32) -> Result<Bytes, NoMemory>
-    ensures { IfOk result (λ bytes. bytes ≡ report_of outcome.now reached) }
+    ensures { IfOk result (λ bytes. bytes ≡ report_of outcome.now.kind outcome.now.settled outcome.now.walks outcome.now.begun reached) }
 {
     let mut out = Vec::new(alloc);
     if outcome.walks {

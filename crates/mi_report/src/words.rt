@@ -2,7 +2,7 @@
 
 ghost use Rattle.std.specs.Prelude.{◌≡◌, ◌++◌, ◌∷◌, [], OnOk, codes};
 ghost use Rattle.std.specs.Fmt.{decimal};
-ghost use Rattle.mi_report.specs.Lines.{shown, spaced, idt_words, fault_words, cause_words, settled_words, place_words, result_words, result_line};
+ghost use Rattle.mi_model.specs.Lines.{shown, spaced, idt_words, fault_words, cause_words, settled_words, place_words, result_words, result_line};
 
 use mi_base::{Cause, Fault, IdtFault, Kind, NoMemory, Place, Settled};
 use std::alloc::Global;

@@ -30,15 +30,11 @@ mod text;
 mod typed;
 mod typed_rows;
 
-pub use cell::{Cell, Row};
-pub use content::Content;
 pub use error::LoadError;
-pub use held::Rows;
 pub use laws::{
     keys_apart, keys_stand, parents_end, properties_stand, references_stand, source_stands,
     tables_small, values_stand,
 };
-pub use load::load_content;
 pub use package::Package;
 pub use typed_rows::{
     ComponentRow, ConditionRow, CreateFolderRow, CustomActionRow, DirectoryRow, DuplicateFileRow,

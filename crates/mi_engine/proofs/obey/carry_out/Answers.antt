@@ -2,7 +2,7 @@ use Rattle.mi_engine.proofs.ReplyLemmas.{write_logs, memory_logs}
 use Rattle.std.proofs.Common.{subst, sym}
 use Rattle.mi_base.specs.declared.answers.Kind.{Kind}
 use Rattle.mi_base.specs.declared.answers.Kind.TheVariants.{NoMemory}
-use Rattle.mi_engine.specs.After.{after}
+use Rattle.mi_model.specs.After.{after}
 use Rattle.mi_engine.specs.Ends.{Ends}
 use Rattle.mi_engine.proofs.QuietLemmas.{quiet_ends}
 use Rattle.mi_engine.proofs.LookLemmas.{looks_none}

@@ -2,7 +2,7 @@ use Rattle.std.proofs.Common.{◌≡◌, ◌∷◌, [], true, Some, List, ℕ, a
 use Rattle.std.specs.Prelude.{filter, is_some}
 use Rattle.std.specs.FinMap.{get}
 use Rattle.mi_text.specs.Maps.{Name}
-use Rattle.mi_engine.specs.After.{is_new, key_entry}
+use Rattle.mi_model.specs.After.{is_new, key_entry}
 use Rattle.mi_engine.specs.Calls.{map_of, Adds}
 use Rattle.mi_engine.proofs.PlanLemmas.{adds_present, adds_new, no_length, unplanned, insert_outside, key_outside}
 use Rattle.mi_engine.proofs.TreeLemmas.{stored, get-map_of}

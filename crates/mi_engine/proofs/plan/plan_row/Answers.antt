@@ -1,5 +1,5 @@
 use Rattle.std.proofs.Common.{Some}
-use Rattle.mi_engine.specs.After.{value_entry}
+use Rattle.mi_model.specs.After.{value_entry}
 use Rattle.mi_engine.specs.Calls.{map_of}
 use Rattle.mi_engine.proofs.TreeLemmas.{stored}
 use Rattle.mi_engine.proofs.PlanLemmas.{planned_row, row_planned, insert_entry, insert_outside, value_outside}

@@ -1,4 +1,4 @@
-use Rattle.std.proofs.Common.{◌≡◌, Bool, Err, ap, subst}
+use Rattle.std.proofs.Common.{Bool, Err, ap, subst}
 use Rattle.mi_source.specs.Counts.{Rose}
 use Rattle.mi_text.specs.declared.answers.Settled.TheVariants.{Clean}
 use Rattle.mi_base.specs.declared.answers.Kind.{Kind}

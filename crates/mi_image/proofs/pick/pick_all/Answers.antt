@@ -1,4 +1,4 @@
-use Rattle.std.proofs.Common.{List, Some, None, Vec, ap, sym, ◌∙◌}
+use Rattle.std.proofs.Common.{Some, None, ap, sym, ◌∙◌}
 use Rattle.std.proofs.lemmas.List.{append-nil}
 use Rattle.mi_image.proofs.PickLemmas.{picked_step}
 use Rattle.mi_image.proofs.pick.pick_all.Goals as goal

@@ -1,6 +1,6 @@
 use Rattle.std.proofs.Common.{◌≡◌, ◌++◌, drop, codes}
 use Rattle.std.specs.List.{flat_map}
-use Rattle.mi_report.specs.Lines.{shown}
+use Rattle.mi_model.specs.Lines.{shown}
 use Rattle.mi_report.proofs.listings.push_more.Given as goal
 
 abbrev pub invariant-loop-feature : goal.invariant-loop-feature

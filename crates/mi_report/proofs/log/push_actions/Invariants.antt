@@ -1,6 +1,6 @@
 use Rattle.std.proofs.Common.{◌≡◌, ◌++◌, drop}
 use Rattle.std.specs.List.{flat_map}
-use Rattle.mi_report.specs.Lines.{action_line}
+use Rattle.mi_model.specs.Lines.{action_line}
 use Rattle.mi_report.proofs.log.push_actions.Given as goal
 
 abbrev pub invariant-loop-name : goal.invariant-loop-name

@@ -1,5 +1,5 @@
 use Rattle.std.proofs.Common.{◌≡◌, ◌++◌, drop}
-use Rattle.mi_report.specs.Lines.{shown}
+use Rattle.mi_model.specs.Lines.{shown}
 use Rattle.mi_report.proofs.words.push_shown.Given as goal
 
 abbrev pub invariant-loop-byte : goal.invariant-loop-byte

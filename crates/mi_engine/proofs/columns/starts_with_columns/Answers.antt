@@ -1,9 +1,0 @@
-use Rattle.std.proofs.Common.{◌<◌, length, map, sym, arith}
-use Rattle.std.proofs.lemmas.List.{length-map}
-use Rattle.mi_idt.specs.Means.{column_value}
-use Rattle.mi_engine.specs.Known.{known_as}
-use Rattle.mi_engine.proofs.RowLemmas.{begins_short}
-use Rattle.mi_engine.proofs.columns.starts_with_columns.Goals as goal
-
-pub returns-then-columns-known : goal.returns-then-columns-known
-returns-then-columns-known c = sym (begins_short (map known_as c.args.known.now) (map column_value c.args.columns.now) (omega (arith, length-map c.args.known.now known_as, length-map c.args.columns.now column_value)))

@@ -1,8 +1,0 @@
-use Rattle.std.proofs.Common.{◌≡◌, map, drop}
-use Rattle.mi_idt.specs.Means.{column_value}
-use Rattle.mi_engine.specs.Known.{known_as}
-use Rattle.mi_engine.specs.Rows.{begins_with}
-use Rattle.mi_engine.proofs.columns.starts_with_columns.Given as goal
-
-abbrev pub invariant-loop-i : goal.invariant-loop-i
-invariant-loop-i l = begins_with (map known_as l.known) (map column_value l.columns) ≡ begins_with (map known_as (drop l.i l.known)) (map column_value (drop l.i l.columns))

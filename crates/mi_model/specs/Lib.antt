@@ -1,0 +1,9 @@
+pub mod After
+pub mod Built
+pub mod Collected
+pub mod Lines
+pub mod Listings
+pub mod Outcome
+pub mod Plan
+pub mod Report
+pub mod Words
