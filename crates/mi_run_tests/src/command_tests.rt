@@ -1,10 +1,10 @@
 //! The commands that write no package, and what a run finds on the volume that is handed in.
 
-use crate::machine::{held, hold, log_of, volume};
-use crate::package::ROW;
+use crate::machine::{AFTER, held, hold, log_of, volume};
+use crate::package::{ROW, package};
 use mi_base::{Bytes, Kind};
 use mi_engine::{Answer, answer_code, run};
-use mi_source::{MemSink, MemSource};
+use mi_source::MemSink;
 use mi_volume::MemVolume;
 use std::alloc::Global;
 use std::test::Fail;
@@ -40,15 +40,17 @@ fn the_products_are_listed(rt: HostRuntime) -> Result<(), Fail> {
     Ok(())
 }
 
-/// What is answered where the log's first write fails.
-fn answer_unlogged(alloc: Global, word: &str, volume: &mut MemVolume) -> Result<Answer, Fail> {
+/// What is answered where the log's first write fails, over the package with one row of Registry.
+fn answer_unlogged(alloc: Global, words: &[&str], volume: &mut MemVolume) -> Result<Answer, Fail> {
     let mut fails = Vec::new(alloc);
     fails.push(0)?;
-    let mut words = Vec::new(alloc);
-    words.push(String::from_str(alloc, word)?)?;
-    let mut source = MemSource::new(alloc, Vec::new(alloc))?;
+    let mut owned = Vec::new(alloc);
+    for word in words {
+        owned.push(String::from_str(alloc, word)?)?;
+    }
+    let mut source = package(alloc, ROW)?;
     let mut sink = MemSink::new(alloc, 1000, fails)?;
-    Ok(run(alloc, words.as_slice(), &mut source, volume, &mut sink, 100))
+    Ok(run(alloc, owned.as_slice(), &mut source, volume, &mut sink, 100))
 }
 
 #[test]
@@ -56,10 +58,22 @@ fn a_listing_that_is_lost_has_a_status_of_its_own(rt: HostRuntime) -> Result<(),
     let alloc = rt.alloc();
     let mut volume = volume(alloc, &[])?;
     hold(alloc, &mut volume, &[PRODUCT])?;
-    let answer = answer_unlogged(alloc, "/products", &mut volume)?;
+    let answer = answer_unlogged(alloc, &["/products"], &mut volume)?;
     assert!(rt; matches!(answer.kind, Kind::Listed));
     assert!(rt; answer.log_lost);
     assert_eq!(rt; answer_code(&answer), 41);
+    Ok(())
+}
+
+#[test]
+fn an_installation_whose_log_is_lost_is_done(rt: HostRuntime) -> Result<(), Fail> {
+    let alloc = rt.alloc();
+    let mut volume = volume(alloc, &[])?;
+    let answer = answer_unlogged(alloc, &["/i", "pkg"], &mut volume)?;
+    assert!(rt; matches!(answer.kind, Kind::Done));
+    assert!(rt; answer.log_lost);
+    assert_eq!(rt; answer_code(&answer), 0);
+    assert_eq!(rt; held(alloc, &mut volume)?.as_slice(), AFTER);
     Ok(())
 }
 
