@@ -7,7 +7,8 @@ mod tables;
 mod words;
 
 use mi_idt::read_table;
-use mi_schema::Package;
+use mi_schema::{LoadError, Package};
+use mi_source::MemSource;
 use package::{FOLDER, MadePackage, package};
 use std::alloc::Global;
 use std::rt::{Clock, Env};
@@ -79,14 +80,19 @@ fn rows_in(loaded: &Package) -> usize {
         .fold(0usize, |sum, rows| sum.saturating_add(*rows))
 }
 
+// Loads the package, counts its rows, and lets it go.
+fn load_rows(alloc: Global, mut source: MemSource) -> Result<usize, LoadError> {
+    let loaded = Package::load(alloc, &mut source, FOLDER)?;
+    Ok(rows_in(&loaded))
+}
+
 // Loads the package, and writes how many rows were loaded and the time that it took. A package that is refused has no time.
 fn time_loading<R: Print + Clock>(rt: &R, alloc: Global, made: MadePackage) -> io::Result<()> {
-    let mut source = made.source;
     let start = Instant::now(rt)?;
-    let loaded = Package::load(alloc, &mut source, FOLDER);
+    let loaded = load_rows(alloc, made.source);
     let microseconds = start.elapsed(rt)?.as_micros();
     match loaded {
-        Ok(package) => println!(rt; "{} rows {microseconds} microseconds", rows_in(&package)),
+        Ok(rows) => println!(rt; "{rows} rows {microseconds} microseconds"),
         Err(error) => println!(rt; "refused: {error:?}"),
     }
 }

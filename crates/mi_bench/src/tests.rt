@@ -1,11 +1,10 @@
 //! The inputs that are made are those that are meant.
 
-use crate::package::{FOLDER, package, text_of};
-use crate::rows_in;
+use crate::load_rows;
+use crate::package::{package, text_of};
 use crate::samples::Sample;
 use crate::tables::table;
 use mi_idt::read_table;
-use mi_schema::Package;
 use std::alloc::Global;
 use std::test::Fail;
 
@@ -37,9 +36,9 @@ fn rows_are_full_and_sparse_in_turn(rt: HostRuntime) -> Result<(), Fail> {
 
 /// How many rows of a package with so many rows in each table are loaded; none where it is refused.
 fn loaded_rows(alloc: Global, rows: u32) -> Result<usize, Fail> {
-    let mut made = package(alloc, rows)?;
-    match Package::load(alloc, &mut made.source, FOLDER) {
-        Ok(loaded) => Ok(rows_in(&loaded)),
+    let made = package(alloc, rows)?;
+    match load_rows(alloc, made.source) {
+        Ok(loaded) => Ok(loaded),
         Err(_) => Ok(0),
     }
 }
