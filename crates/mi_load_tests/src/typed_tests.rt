@@ -2,7 +2,8 @@
 
 use crate::change::{Change, package};
 use mi_base::{Guid, Text};
-use mi_schema::Package;
+use mi_schema::{LoadError, Package};
+use mi_source::MemSource;
 use std::alloc::Global;
 use std::test::Fail;
 
@@ -268,11 +269,17 @@ fn wrong_table(package: &Package) -> &'static str {
     }
 }
 
-/// The first table of the base package after the changes whose row isn't right; empty where each is.
+/// The first table of a package whose row isn't right; empty where each is.
+fn wrong_in(alloc: Global, source: &mut MemSource) -> Result<&'static str, LoadError> {
+    let loaded = Package::load(alloc, source, "pkg")?;
+    Ok(wrong_table(&loaded))
+}
+
+/// The same of the base package after the changes.
 fn first_wrong(alloc: Global) -> Result<&'static str, Fail> {
     let mut source = package(alloc, &CHANGES, Vec::new(alloc))?;
-    match Package::load(alloc, &mut source, "pkg") {
-        Ok(loaded) => Ok(wrong_table(&loaded)),
+    match wrong_in(alloc, &mut source) {
+        Ok(wrong) => Ok(wrong),
         Err(_) => Err("not loaded".into()),
     }
 }
