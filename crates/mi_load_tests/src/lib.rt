@@ -16,4 +16,6 @@ mod order_tests;
 #[cfg(test)]
 mod row_tests;
 #[cfg(test)]
+mod table_tests;
+#[cfg(test)]
 mod typed_tests;
