@@ -15,6 +15,5 @@ pub mod HeadLaws
 pub mod TableLaws
 pub mod ReadLemmas
 pub mod Spelled
-pub mod PlainLemmas
 pub mod WriteLemmas
 pub mod WriteLaws

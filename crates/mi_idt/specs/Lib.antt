@@ -8,7 +8,6 @@ pub mod Spells
 pub mod Written
 pub mod Raw
 pub mod Means
-pub mod Plain
 pub mod Reads
 pub mod Steps
 pub mod Index

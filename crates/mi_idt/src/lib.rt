@@ -9,13 +9,11 @@ mod line;
 mod lines;
 mod names;
 mod number;
-mod plain;
 mod read;
 mod rows;
 mod table;
 mod write;
 
-pub use plain::{PlainError, read_plain};
 pub use read::read_table;
 pub use table::{Column, IdtError, Row, Table};
 pub use write::write_table;

@@ -1,6 +1,6 @@
 //! Vectors of the readers and the writer, worked out by hand from the format.
 
-use crate::{IdtError, PlainError, read_plain, read_table, write_table};
+use crate::{IdtError, read_table, write_table};
 use std::alloc::{AllocError, Global};
 use std::test::Fail;
 
@@ -146,24 +146,5 @@ fn the_written_form_is_strict(rt: HostRuntime) -> Result<(), Fail> {
     let table = read_table(rt.alloc(), LOOSE)?;
     let bytes = write_table(rt.alloc(), &table)?;
     assert_eq!(rt; bytes.as_slice(), WRITTEN);
-    Ok(())
-}
-
-const NOT_PLAIN: [&[u8]; 5] = [
-    b"K\tV\ns72\tl0\n0\tT\tK\na\tb\n",
-    b"K\tV\ns72\tL0\nT\tK\na\t\n",
-    b"K\tV\ns72\tl0\nT\tK\na\t\x19\n",
-    b"K\tV\ns72\tl0\nT\tK\na\t\xc3\xa9\n",
-    b"K\tV\ns72\tl0\nT\tK\na\tb\na\tc\n",
-];
-
-#[test]
-fn the_plain_form_is_read(rt: HostRuntime) -> Result<(), Fail> {
-    let alloc = rt.alloc();
-    let table = read_plain(alloc, b"K\tV\r\ns72\tL0\r\nT\tK\r\na\tb")?;
-    assert_eq!(rt; table.rows.len(), 1);
-    for bytes in NOT_PLAIN {
-        assert!(rt; matches!(read_plain(alloc, bytes), Err(PlainError::NotPlain)));
-    }
     Ok(())
 }
