@@ -12,11 +12,12 @@ use Rattle.std.specs.BTreeMap.{BTreeMap, get_by_text}
 use Rattle.std.specs.BTreeMap as tree
 use Rattle.std.specs.String.{string_cmp}
 use Rattle.std.proofs.lemmas.List.{take_more, length-map, map-append, length-take-le}
-use Rattle.std.proofs.lemmas.Map.Text.{btree_map_updates_text}
-use Rattle.mi_props.proofs.Values.{eq_names}
+use Rattle.std.proofs.lemmas.Map.Text.{btree_map_updates_text, is_eq-slice_cmp}
+use Rattle.std.specs.Cmp.{eq_by_cmp_equiv}
+use Rattle.std.specs.Str.{bytes_eq}
 use Rattle.std.proofs.lemmas.Bool.{cases_Bool}
 use Rattle.mi_text.specs.Maps.{Name, name_cmp, same_name}
-use Rattle.mi_text.proofs.MapLemmas.{from_same}
+use Rattle.mi_text.proofs.MapLemmas.{names_total, from_same}
 use Rattle.mi_dirs.specs.Places.{first_row}
 
 abbrev here : Option ℕ
@@ -100,6 +101,9 @@ find-first_row {X} (e ∷ es) key =
     later (Some n) = refl
 
 -- ---- an index that grows
+
+eq_names : (q k : Name) → same_name q k ≡ bytes_eq k q
+eq_names q k = (eq_by_cmp_equiv names_total).symm q k ∙ is_eq-slice_cmp k q
 
 pub index_more : (m n : BTreeMap (String Global) ℕ) (names : List Name) (key : Name) (row : ℕ) → ((q : Name) → get_by_text m q ≡ first_row (same_name q) names) → length names ≡ row
     → is_some (get_by_text m key) ≡ false → tree.UpdatesBy string_cmp (λ s. slice_cmp nat_cmp key (string_bytes s)) m n (Some row)

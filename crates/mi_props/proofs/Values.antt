@@ -1,41 +1,29 @@
 -- The properties that the program's map means.
-use Rattle.std.proofs.Common.{◌≡◌, Bool, true, false, cond, List, [], ◌∷◌, ◌++◌, map, reverse, Option, Some, None, refl, sym, ap, ◌∙◌}
+use Rattle.std.proofs.Common.{◌≡◌, Bool, true, false, cond, List, [], ◌∷◌, ◌++◌, reverse, Option, Some, None, refl, sym, ap, ◌∙◌}
 use Rattle.std.specs.Prelude.{string_bytes, String}
 use Rattle.std.specs.Option.{option_or}
 use Rattle.std.specs.declared.alloc.Global.{Global}
 use Rattle.std.specs.Ordering.{nat_cmp}
-use Rattle.std.specs.Cmp.{eq_by_cmp_equiv}
 use Rattle.std.specs.Cmp.Lexicographic.{slice_cmp}
-use Rattle.std.specs.Str.{bytes_eq}
 use Rattle.std.specs.FinMap.{get, insert, empty, find, get-from_entries, get-insert, get-empty}
-use Rattle.std.specs.BTreeMap.{BTreeMap, get_by_text, is_at}
+use Rattle.std.specs.BTreeMap.{BTreeMap}
 use Rattle.std.specs.BTreeMap as tree
 use Rattle.std.specs.Map.{lookup}
 use Rattle.std.specs.String.{string_cmp}
 use Rattle.std.proofs.lemmas.List.{reverse-append}
-use Rattle.std.proofs.lemmas.Map.Text.{btree_map_updates_text, is_eq-slice_cmp}
 use Rattle.mi_text.specs.Maps.{Name, name_cmp, same_name}
 use Rattle.mi_text.proofs.MapLemmas.{names_total, same}
-use Rattle.mi_props.specs.Props.{Value, Values, pair_of, values_of, given, first_value, started}
-
-find-pairs : (es : List (String Global × Value)) (q : Name) → find name_cmp q (map pair_of es) ≡ lookup (is_at (λ k. slice_cmp nat_cmp q (string_bytes k))) es
-find-pairs [] q = refl
-find-pairs (e ∷ es) q = ap (cond (is_at (λ k. slice_cmp nat_cmp q (string_bytes k)) e.0) (Some e.1)) (find-pairs es q)
+use Rattle.mi_text.proofs.TreeLemmas.{at_as, get-map_as, stored_as}
+use Rattle.mi_props.specs.Props.{Value, Values, values_of, given, first_value, started}
 
 -- what stands at a name
-pub get-values_of : (es : List (String Global × Value)) (q : Name) → get (values_of es) q ≡ lookup (is_at (λ k. slice_cmp nat_cmp q (string_bytes k))) es
-get-values_of es q = get-from_entries names_total (map pair_of es) q ∙ find-pairs es q
-
-pub eq_names : (q k : Name) → same_name q k ≡ bytes_eq k q
-eq_names q k = (eq_by_cmp_equiv names_total).symm q k ∙ is_eq-slice_cmp k q
+pub get-values_of : (es : List (String Global × Value)) (q : Name) → get (values_of es) q ≡ lookup (at_as string_bytes q) es
+get-values_of es q = get-map_as string_bytes es q
 
 -- maps of the program that differ at one name mean maps that differ there
 pub one_put : (m n : BTreeMap (String Global) Value) (k : Name) (v : Value) → tree.UpdatesBy string_cmp (λ s. slice_cmp nat_cmp k (string_bytes s)) m n (Some v)
     → values_of n.entries ≡ insert (values_of m.entries) k v
-one_put m n k v u = same _ _ (λ q.
-    get-values_of n.entries q ∙ btree_map_updates_text k m n (Some v) u q
-    ∙ ap (λ b. cond b (Some v) (get_by_text m q)) (sym (eq_names q k))
-    ∙ sym (get-insert names_total (values_of m.entries) k v q ∙ ap (cond (same_name q k) (Some v)) (get-values_of m.entries q)))
+one_put m n k v u = stored_as string_bytes m n k (Some v) u
 
 -- one more pair of a list
 given-push : (xs : List (Name × Value)) (k q : Name) (v : Value) → given (xs ++ (k, v) ∷ []) q ≡ cond (same_name q k) (Some v) (given xs q)

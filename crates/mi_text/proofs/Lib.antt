@@ -4,3 +4,4 @@ pub mod MapLemmas
 pub mod NextLemmas
 pub mod PathLemmas
 pub mod PieceLemmas
+pub mod TreeLemmas
