@@ -6,7 +6,6 @@ pub mod CheckLemmas
 pub mod ColumnLemmas
 pub mod ConditionLaws
 pub mod DifferLemmas
-pub mod FileLemmas
 pub mod FitLemmas
 pub mod KeyLemmas
 pub mod ListLemmas
