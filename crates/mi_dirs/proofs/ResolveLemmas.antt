@@ -110,16 +110,30 @@ keys_same g q n [] = refl
 keys_same g q n (r ∷ rs) = ap (λ (o : Option ℕ). let first : Option ℕ = Some 0 in cond (same_name q r.key) first (option_map suc o)) (keys_same g q (suc n) rs)
 
 -- the targets as they are found, with no row changed
-pub found_targets : (ds : List Dir) (ss : List (List ℕ)) (n : ℕ) (found : List (Option (List ℕ))) → n ≡ length ds
+found_targets : (ds : List Dir) (ss : List (List ℕ)) (n : ℕ) (found : List (Option (List ℕ))) → n ≡ length ds
     → ((row : ℕ) → row < length ds → slice_get found row ≡ Some (target_at (with_row_own n None (places_in ds [])) row))
     → (row : ℕ) → row < length ds → slice_get found row ≡ Some (target_at (places_in ds ss) row)
 found_targets ds ss n found is h row lt =
     let past : length (places_in ds ss) ≤ n = omega (arith, length-places_in ds ss) in
     h row lt ∙ ap (λ (t : Option (List ℕ)). Some t) (target_at-sources n None ds ss row ∙ ap (λ (ps : List Place). target_at ps row) (with_none_own None (places_in ds ss) n past))
 
-pub found_fault : (ds : List Dir) (ss : List (List ℕ)) (found : List (Option (List ℕ))) → length found ≡ length ds → ((row : ℕ) → row < length ds → slice_get found row ≡ Some (target_at (places_in ds ss) row))
+found_fault : (ds : List Dir) (ss : List (List ℕ)) (found : List (Option (List ℕ))) → length found ≡ length ds → ((row : ℕ) → row < length ds → slice_get found row ≡ Some (target_at (places_in ds ss) row))
     → path_fault (places_in ds ss) ≡ option_map (λ row. BadPath (row_number row)) (first_row is_none found)
 found_fault ds ss found size h = path_fault_is (places_in ds ss) found (size ∙ sym (length-places_in ds ss)) (λ row lt. h row (subst (λ (n : ℕ). row < n) (length-places_in ds ss) lt))
+
+-- the same of directories that are seen under another name
+pub targets_in : (seen ds : List Dir) (ss : List (List ℕ)) (n : ℕ) (found : List (Option (List ℕ))) → seen ≡ ds → n ≡ length ds → length found ≡ length seen
+    → ((row : ℕ) → row < length seen → slice_get found row ≡ Some (target_at (with_row_own n None (places_in seen [])) row))
+    → (length found ≡ length ds) × ((row : ℕ) → row < length ds → slice_get found row ≡ Some (target_at (places_in ds ss) row))
+targets_in seen ds ss n found same is size h =
+    (size ∙ ap length same, found_targets ds ss n found is (λ row lt. h row (subst (λ (k : ℕ). row < k) (sym (ap length same)) lt) ∙ ap (λ (rs : List Dir). Some (target_at (with_row_own n None (places_in rs [])) row)) same))
+
+-- where each chain ends the first fault is the first target that is refused
+pub fault_found : (g : Given) (ds : List Dir) (ss : List (List ℕ)) (found : List (Option (List ℕ))) → ((row : ℕ) → row < length g.rows → ends_in (row_parent g.rows) (suc (length g.rows)) row ≡ true) → places_in ds ss ≡ places_of g
+    → length found ≡ length ds → ((row : ℕ) → row < length ds → slice_get found row ≡ Some (target_at (places_in ds ss) row))
+    → dir_fault (places_of g) ≡ option_map (λ row. BadPath (row_number row)) (first_row is_none found)
+fault_found g ds ss found ends places size h =
+    ap (λ (o : Option DirFault). option_or o (path_fault (places_of g))) (no_cycle_in g ends) ∙ ap path_fault (sym places) ∙ found_fault ds ss found size h
 
 pub keeps : (g : Given) (ds : List Dir) (ss : List (List ℕ)) (index : BTreeMap (String Global) ℕ) (order : List ℕ) (found : List (Option (List ℕ)))
     → (made : map bare_dir ds ≡ map (bare g.rows g.values g.remembered) g.rows) → places_in ds ss ≡ places_of g → length ss ≡ length g.rows → ((q : Name) → get_by_text index q ≡ row_with g.rows q)

@@ -1,24 +1,18 @@
-use Rattle.std.proofs.Common.{◌≡◌, ℕ, suc, ◌<◌, length, true, List, [], Option, Some, None, sym, ap, subst, ◌∙◌}
-use Rattle.std.specs.Prelude.{slice_get, is_none, option_map}
-use Rattle.std.specs.Option.{option_or}
+use Rattle.std.proofs.Common.{◌≡◌, ℕ, suc, ◌<◌, length, true, List, [], Some, sym, ap, subst, ◌∙◌}
+use Rattle.std.specs.Prelude.{is_none, option_map}
 use Rattle.std.proofs.lemmas.Result.{err_from_is_err_and}
 use Rattle.mi_dirs.specs.declared.dir.Dir.{Dir}
-use Rattle.mi_dirs.specs.declared.fault.DirFault.{DirFault}
 use Rattle.mi_dirs.specs.declared.fault.DirFault.TheVariants.{Cycle, BadPath}
 use Rattle.mi_dirs.specs.Chains.{ends_in}
 use Rattle.mi_dirs.specs.Order.{parent_in, IsOrder, IsFirstEndless}
-use Rattle.mi_dirs.specs.Places.{first_row, target_at, parent_at}
+use Rattle.mi_dirs.specs.Places.{first_row, parent_at}
 use Rattle.mi_dirs.specs.Rows.{given, row_parent, places_of}
-use Rattle.mi_dirs.specs.Faults.{row_number, path_fault, dir_fault, IsEndless}
+use Rattle.mi_dirs.specs.Faults.{row_number, dir_fault, IsEndless}
 use Rattle.mi_dirs.specs.Answers.{IfCycle}
-use Rattle.mi_dirs.specs.Views.{places_in, with_row_own}
+use Rattle.mi_dirs.specs.Views.{places_in}
 use Rattle.mi_dirs.proofs.DirLemmas.{places_same}
-use Rattle.mi_dirs.proofs.ResolveLemmas.{seen_rows, row_order, row_ends, row_endless, cycle_is, cycle_endless, no_cycle_in, faults_on, dirs_order, dirs_ends, found_targets, found_fault, keeps}
+use Rattle.mi_dirs.proofs.ResolveLemmas.{seen_rows, row_order, row_ends, row_endless, cycle_is, cycle_endless, faults_on, dirs_order, dirs_ends, targets_in, fault_found, keeps}
 use Rattle.mi_dirs.proofs.dirs.resolve.Goals as goal
-
--- the targets as they are found with no row changed
-abbrev Seen : List Dir → ℕ → List (Option (List ℕ)) → Type 0
-Seen ds n found = (length found ≡ length ds) × ((row : ℕ) → row < length ds → slice_get found row ≡ Some (target_at (with_row_own n None (places_in ds [])) row))
 
 pub order_of-requires : goal.order_of-requires
 order_of-requires c = seen_rows c.args.rows.now c.in_ok-parents.parents.items c.deref.result.now c.deref.ensures.value c.in_ok-parents.ensures
@@ -48,106 +42,59 @@ returns-in_err-order-clause-endless c =
 pub sources_of-requires-clause-order : goal.sources_of-requires-clause-order
 sources_of-requires-clause-order c =
     let rows = c.args.rows.now in
-    let parents = c.in_ok-parents.parents.items in
-    let seen = c.deref.result.now in
-    let order = c.in_ok-order.order.items in
-    let in_order : IsOrder (row_parent rows) (length rows) order = row_order rows parents seen c.deref.ensures.value c.in_ok-parents.ensures order c.in_ok-order.ensures.order in
-    let ends : (row : ℕ) → row < length rows → ends_in (row_parent rows) (suc (length rows)) row ≡ true = row_ends rows parents seen c.deref.ensures.value c.in_ok-parents.ensures c.in_ok-order.ensures.ends in
-    subst (λ (o : List ℕ). IsOrder (row_parent rows) (length rows) o) (sym c.deref-3.ensures.value) in_order
+    subst (λ (o : List ℕ). IsOrder (row_parent rows) (length rows) o) (sym c.deref-3.ensures.value) (row_order c.args.rows.now c.in_ok-parents.parents.items c.deref.result.now c.deref.ensures.value c.in_ok-parents.ensures c.in_ok-order.order.items c.in_ok-order.ensures.order)
 
 pub sources_of-requires-clause-ends : goal.sources_of-requires-clause-ends
 sources_of-requires-clause-ends c = row_ends c.args.rows.now c.in_ok-parents.parents.items c.deref.result.now c.deref.ensures.value c.in_ok-parents.ensures c.in_ok-order.ensures.ends
 
 pub targets_of-requires-clause-order : goal.targets_of-requires-clause-order
 targets_of-requires-clause-order c =
-    let rows = c.args.rows.now in
-    let parents = c.in_ok-parents.parents.items in
-    let seen = c.deref.result.now in
     let g = given c.args.rows.now c.args.props.now c.args.remembered.now c.args.folder.now c.args.short in
-    let order = c.in_ok-order.order.items in
-    let in_order : IsOrder (row_parent rows) (length rows) order = row_order rows parents seen c.deref.ensures.value c.in_ok-parents.ensures order c.in_ok-order.ensures.order in
-    let ends : (row : ℕ) → row < length rows → ends_in (row_parent rows) (suc (length rows)) row ≡ true = row_ends rows parents seen c.deref.ensures.value c.in_ok-parents.ensures c.in_ok-order.ensures.ends in
     let ds = c.in_ok-dirs.dirs.items in
     subst (λ (rs : List Dir). IsOrder (parent_at (places_in rs [])) (length rs) c.deref-6.result.now) (sym c.deref-5.ensures.value)
-    (subst (λ (o : List ℕ). IsOrder (parent_at (places_in ds [])) (length ds) o) (sym c.deref-6.ensures.value) (dirs_order g ds c.in_ok-dirs.ensures.dirs order in_order))
+    (subst (λ (o : List ℕ). IsOrder (parent_at (places_in ds [])) (length ds) o) (sym c.deref-6.ensures.value) (dirs_order g ds c.in_ok-dirs.ensures.dirs c.in_ok-order.order.items (row_order c.args.rows.now c.in_ok-parents.parents.items c.deref.result.now c.deref.ensures.value c.in_ok-parents.ensures c.in_ok-order.order.items c.in_ok-order.ensures.order)))
 
 pub targets_of-requires-clause-ends : goal.targets_of-requires-clause-ends
 targets_of-requires-clause-ends c =
-    let rows = c.args.rows.now in
-    let parents = c.in_ok-parents.parents.items in
-    let seen = c.deref.result.now in
     let g = given c.args.rows.now c.args.props.now c.args.remembered.now c.args.folder.now c.args.short in
-    let order = c.in_ok-order.order.items in
-    let in_order : IsOrder (row_parent rows) (length rows) order = row_order rows parents seen c.deref.ensures.value c.in_ok-parents.ensures order c.in_ok-order.ensures.order in
-    let ends : (row : ℕ) → row < length rows → ends_in (row_parent rows) (suc (length rows)) row ≡ true = row_ends rows parents seen c.deref.ensures.value c.in_ok-parents.ensures c.in_ok-order.ensures.ends in
-    let ds = c.in_ok-dirs.dirs.items in
-    subst (λ (rs : List Dir). (row : ℕ) → row < length rs → ends_in (parent_at (places_in rs [])) (suc (length rs)) row ≡ true) (sym c.deref-5.ensures.value) (dirs_ends g ds c.in_ok-dirs.ensures.dirs ends)
+    subst (λ (rs : List Dir). (row : ℕ) → row < length rs → ends_in (parent_at (places_in rs [])) (suc (length rs)) row ≡ true) (sym c.deref-5.ensures.value) (dirs_ends g c.in_ok-dirs.dirs.items c.in_ok-dirs.ensures.dirs (row_ends c.args.rows.now c.in_ok-parents.parents.items c.deref.result.now c.deref.ensures.value c.in_ok-parents.ensures c.in_ok-order.ensures.ends))
 
 pub returns-in-Some-clause-refused : goal.returns-in-Some-clause-refused
 returns-in-Some-clause-refused c =
-    let rows = c.args.rows.now in
-    let parents = c.in_ok-parents.parents.items in
-    let seen = c.deref.result.now in
     let g = given c.args.rows.now c.args.props.now c.args.remembered.now c.args.folder.now c.args.short in
-    let order = c.in_ok-order.order.items in
-    let in_order : IsOrder (row_parent rows) (length rows) order = row_order rows parents seen c.deref.ensures.value c.in_ok-parents.ensures order c.in_ok-order.ensures.order in
-    let ends : (row : ℕ) → row < length rows → ends_in (row_parent rows) (suc (length rows)) row ≡ true = row_ends rows parents seen c.deref.ensures.value c.in_ok-parents.ensures c.in_ok-order.ensures.ends in
     let ds = c.in_ok-dirs.dirs.items in
     let ss = c.in_ok-sources.sources.items in
     let found = c.in_ok-targets.targets.items in
-    let places : places_in ds ss ≡ places_of g = places_same g ds ss c.in_ok-dirs.ensures.dirs c.in_ok-sources.ensures.sources in
-    let n : c.len.result ≡ length ds = c.len.ensures ∙ c.in_ok-dirs.dirs.ok.0 in
-    let seen_targets : Seen ds c.len.result found = subst (λ (rs : List Dir). Seen rs c.len.result found) c.deref-5.ensures.value (c.in_ok-targets.ensures.size, c.in_ok-targets.ensures.targets) in
-    let targets : (row : ℕ) → row < length ds → slice_get found row ≡ Some (target_at (places_in ds ss) row) = found_targets ds ss c.len.result found n seen_targets.1 in
-    ap (λ (o : Option DirFault). option_or o (path_fault (places_of g))) (no_cycle_in g ends)
-    ∙ ap path_fault (sym places)
-    ∙ found_fault ds ss found seen_targets.0 targets
+    let targets = targets_in c.deref-5.result.now ds ss c.len.result found c.deref-5.ensures.value (c.len.ensures ∙ c.in_ok-dirs.dirs.ok.0) c.in_ok-targets.ensures.size c.in_ok-targets.ensures.targets in
+    fault_found g ds ss found (row_ends c.args.rows.now c.in_ok-parents.parents.items c.deref.result.now c.deref.ensures.value c.in_ok-parents.ensures c.in_ok-order.ensures.ends) (places_same g ds ss c.in_ok-dirs.ensures.dirs c.in_ok-sources.ensures.sources) targets.0 targets.1
     ∙ ap (option_map (λ row. BadPath (row_number row))) (sym (c.in-Some.ensures ∙ ap (first_row is_none) c.deref-7.ensures.value))
     ∙ ap (λ (k : ℕ). Some (BadPath k)) (sym c.row_number.ensures)
 
 pub invariant_of-result : goal.invariant_of-result
 invariant_of-result c =
-    let rows = c.args.rows.now in
-    let parents = c.in_ok-parents.parents.items in
-    let seen = c.deref.result.now in
     let g = given c.args.rows.now c.args.props.now c.args.remembered.now c.args.folder.now c.args.short in
-    let order = c.in_ok-order.order.items in
-    let in_order : IsOrder (row_parent rows) (length rows) order = row_order rows parents seen c.deref.ensures.value c.in_ok-parents.ensures order c.in_ok-order.ensures.order in
-    let ends : (row : ℕ) → row < length rows → ends_in (row_parent rows) (suc (length rows)) row ≡ true = row_ends rows parents seen c.deref.ensures.value c.in_ok-parents.ensures c.in_ok-order.ensures.ends in
     let ds = c.in_ok-dirs.dirs.items in
     let ss = c.in_ok-sources.sources.items in
     let found = c.in_ok-targets.targets.items in
-    let places : places_in ds ss ≡ places_of g = places_same g ds ss c.in_ok-dirs.ensures.dirs c.in_ok-sources.ensures.sources in
-    let n : c.len.result ≡ length ds = c.len.ensures ∙ c.in_ok-dirs.dirs.ok.0 in
-    let seen_targets : Seen ds c.len.result found = subst (λ (rs : List Dir). Seen rs c.len.result found) c.deref-5.ensures.value (c.in_ok-targets.ensures.size, c.in_ok-targets.ensures.targets) in
-    let targets : (row : ℕ) → row < length ds → slice_get found row ≡ Some (target_at (places_in ds ss) row) = found_targets ds ss c.len.result found n seen_targets.1 in
-    let none : first_row is_none found ≡ None = sym (c.in_default.ensures ∙ ap (first_row is_none) c.deref-7.ensures.value) in
-    keeps g ds ss c.in_ok-index.index order found c.in_ok-dirs.ensures.dirs places c.in_ok-sources.ensures.size c.in_ok-index.ensures in_order ends c.in_ok-dirs.ensures.folders seen_targets.0 targets none
+    let targets = targets_in c.deref-5.result.now ds ss c.len.result found c.deref-5.ensures.value (c.len.ensures ∙ c.in_ok-dirs.dirs.ok.0) c.in_ok-targets.ensures.size c.in_ok-targets.ensures.targets in
+    keeps g ds ss c.in_ok-index.index c.in_ok-order.order.items found c.in_ok-dirs.ensures.dirs (places_same g ds ss c.in_ok-dirs.ensures.dirs c.in_ok-sources.ensures.sources) c.in_ok-sources.ensures.size c.in_ok-index.ensures
+    (row_order c.args.rows.now c.in_ok-parents.parents.items c.deref.result.now c.deref.ensures.value c.in_ok-parents.ensures c.in_ok-order.order.items c.in_ok-order.ensures.order)
+    (row_ends c.args.rows.now c.in_ok-parents.parents.items c.deref.result.now c.deref.ensures.value c.in_ok-parents.ensures c.in_ok-order.ensures.ends)
+    c.in_ok-dirs.ensures.folders targets.0 targets.1 (sym (c.in_default.ensures ∙ ap (first_row is_none) c.deref-7.ensures.value))
 
 pub returns-clause-places : goal.returns-clause-places
 returns-clause-places c =
     let g = given c.args.rows.now c.args.props.now c.args.remembered.now c.args.folder.now c.args.short in
     let ds = c.in_ok-dirs.dirs.items in
-    places_same g ds c.in_ok-sources.sources.items c.in_ok-dirs.ensures.dirs c.in_ok-sources.ensures.sources
+    let ss = c.in_ok-sources.sources.items in
+    places_same g ds ss c.in_ok-dirs.ensures.dirs c.in_ok-sources.ensures.sources
 
 pub returns-clause-accepted : goal.returns-clause-accepted
 returns-clause-accepted c =
-    let rows = c.args.rows.now in
-    let parents = c.in_ok-parents.parents.items in
-    let seen = c.deref.result.now in
     let g = given c.args.rows.now c.args.props.now c.args.remembered.now c.args.folder.now c.args.short in
-    let order = c.in_ok-order.order.items in
-    let in_order : IsOrder (row_parent rows) (length rows) order = row_order rows parents seen c.deref.ensures.value c.in_ok-parents.ensures order c.in_ok-order.ensures.order in
-    let ends : (row : ℕ) → row < length rows → ends_in (row_parent rows) (suc (length rows)) row ≡ true = row_ends rows parents seen c.deref.ensures.value c.in_ok-parents.ensures c.in_ok-order.ensures.ends in
     let ds = c.in_ok-dirs.dirs.items in
     let ss = c.in_ok-sources.sources.items in
     let found = c.in_ok-targets.targets.items in
-    let places : places_in ds ss ≡ places_of g = places_same g ds ss c.in_ok-dirs.ensures.dirs c.in_ok-sources.ensures.sources in
-    let n : c.len.result ≡ length ds = c.len.ensures ∙ c.in_ok-dirs.dirs.ok.0 in
-    let seen_targets : Seen ds c.len.result found = subst (λ (rs : List Dir). Seen rs c.len.result found) c.deref-5.ensures.value (c.in_ok-targets.ensures.size, c.in_ok-targets.ensures.targets) in
-    let targets : (row : ℕ) → row < length ds → slice_get found row ≡ Some (target_at (places_in ds ss) row) = found_targets ds ss c.len.result found n seen_targets.1 in
-    let none : first_row is_none found ≡ None = sym (c.in_default.ensures ∙ ap (first_row is_none) c.deref-7.ensures.value) in
-    ap (λ (o : Option DirFault). option_or o (path_fault (places_of g))) (no_cycle_in g ends)
-    ∙ ap path_fault (sym places)
-    ∙ found_fault ds ss found seen_targets.0 targets
-    ∙ ap (option_map (λ row. BadPath (row_number row))) none
+    let targets = targets_in c.deref-5.result.now ds ss c.len.result found c.deref-5.ensures.value (c.len.ensures ∙ c.in_ok-dirs.dirs.ok.0) c.in_ok-targets.ensures.size c.in_ok-targets.ensures.targets in
+    fault_found g ds ss found (row_ends c.args.rows.now c.in_ok-parents.parents.items c.deref.result.now c.deref.ensures.value c.in_ok-parents.ensures c.in_ok-order.ensures.ends) (places_same g ds ss c.in_ok-dirs.ensures.dirs c.in_ok-sources.ensures.sources) targets.0 targets.1
+    ∙ ap (option_map (λ row. BadPath (row_number row))) (sym (c.in_default.ensures ∙ ap (first_row is_none) c.deref-7.ensures.value))
