@@ -4,6 +4,7 @@ ghost use Rattle.std.specs.Prelude.{◌≤◌, length, min};
 
 use crate::*;
 use std::alloc::Global;
+use std::test::Fail;
 
 // The name and the record of the entry that a name and a record spell.
 fn again(alloc: Global, name: &str, record: &[u8]) -> Option<(Name, Bytes)> {
@@ -244,4 +245,13 @@ fn an_entry_that_breaks_a_rule_has_no_record(rt: HostRuntime) {
     assert!(rt; matches!(enc_entry(rt.alloc(), &key), Err(EncError::Field)));
     let empty = Entry::System(Text::new(rt.alloc()), Text::new(rt.alloc()));
     assert!(rt; matches!(enc_entry(rt.alloc(), &empty), Err(EncError::Field)));
+}
+
+#[test]
+fn languages_grow_at_the_end(rt: HostRuntime) -> Result<(), Fail> {
+    let mut languages = Languages::new(rt.alloc());
+    languages.push(1033)?;
+    languages.push(1031)?;
+    assert_eq!(rt; languages.as_slice(), [1033, 1031].as_slice());
+    Ok(())
 }
