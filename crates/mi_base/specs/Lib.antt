@@ -6,9 +6,12 @@ pub mod Reading
 pub mod Records
 pub mod SpelledMaps
 pub mod Machine
+pub mod Started
 pub mod System
 pub use Rattle.mi_text.specs.Bytes
+pub use Rattle.mi_text.specs.FileNames
 pub use Rattle.mi_text.specs.Fold
+pub use Rattle.mi_text.specs.Folded
 pub use Rattle.mi_text.specs.Guid
 pub use Rattle.mi_text.specs.Lookups
 pub use Rattle.mi_text.specs.Maps

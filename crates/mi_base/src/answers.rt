@@ -3,7 +3,7 @@
 use mi_text::{IdtFault, Name, Settled, Text};
 
 /// What a run answers.
-#[derive(Debug, Drop)]
+#[derive(Drop)]
 pub enum Kind {
     /// The machine is the one that the tables define, in every crash image.
     Done,
@@ -29,7 +29,7 @@ pub enum Place {
 }
 
 /// Why a run was suspended.
-#[derive(Debug, Drop)]
+#[derive(Drop)]
 pub struct Pause {
     pub place: Place,
     /// The refusal that the run met; None for `InCommit`.
@@ -41,7 +41,7 @@ pub struct Pause {
 }
 
 /// Why a run was refused.
-#[derive(Debug, Drop)]
+#[derive(Drop)]
 pub enum Cause {
     /// The word of this place, from 0, is the first that is refused; the number of words where one is missing.
     BadWords(u64),
@@ -60,7 +60,7 @@ pub enum Cause {
 /// A fault of a package (Database Tables). Rows and columns count from 1, rows in file order.
 #[derive(Debug, Drop)]
 pub enum Fault {
-    /// This row of this table is more than what is built so far; row 0 is the table.
+    /// This row of this table is more than what is built so far.
     NotYet(Text, u32),
     /// A table that each package has is missing.
     MissingTable(Text),

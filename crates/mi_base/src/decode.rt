@@ -1,17 +1,19 @@
 //! The entry that a name and a record spell.
 
 ghost use Rattle.std.specs.Int.{w16, cast_signed};
-ghost use Rattle.std.specs.Prelude.{◌≡◌, ◌≤◌, ◌<◌, ◌+◌, ◌^◌, ◌&&◌, ℕ, List, None, Some, IfOk, length, take, drop, min, nat_le, IsTrue, option_map, not, ◌==◌, if◌then◌else◌};
+ghost use Rattle.std.specs.Prelude.{◌≡◌, ◌≤◌, ◌<◌, ◌+◌, ◌++◌, OnOk, true, ◌^◌, ◌&&◌, ℕ, List, None, Some, IfOk, length, take, drop, min, nat_le, IsTrue, option_map, not, ◌==◌, if◌then◌else◌};
 ghost use Rattle.std.specs.Option.{option_copied};
-ghost use Rattle.mi_text.specs.Path.{is_file_path};
+ghost use Rattle.mi_text.specs.Path.{is_file_path, is_path};
+ghost use Rattle.mi_base.specs.declared.entry.Entry.TheVariants.{Shortcut as ShortcutEntry};
 ghost use Rattle.mi_base.specs.Limits.{is_folded};
 ghost use Rattle.mi_base.specs.Reading.{Gives};
+ghost use Rattle.mi_base.specs.Started.{shortcut_started};
 ghost use Rattle.mi_base.specs.Records.{drive_shown, is_inner_folder, names_file, names_folder, code_in, is_root, names_key, names_value, names_variable, shown_file_at, head_at, with_bytes, file_of, folder_of, key_of, value_in, value_of, number_of, are_digits, shortcut_behind, client_in, shortcut_of, variable_of, client_of, product_in, product_of, system_of, kind_of, entry_in, entry_of, path_in, head_in, file_head_of};
 
 use crate::entry::{Client, Entry, FileEntry, FileHead, Product, Shortcut, ValueKey, Variable};
 use crate::limits::{is_folded, is_key, is_system_name, is_value_name, is_variable_name, utf8};
 use crate::reading::{
-    Order, folds_to, four_numbers_at, rising_numbers_at, shown_at, text_at, texts_at, u16_at,
+    Order, folds_to, four_numbers_at, rising_numbers_at, shown_at, str_at, texts_at, u16_at,
     u32_at, u64_at, value_at, version_at,
 };
 use crate::rec_error::{RecError, RecFault};
@@ -44,25 +46,14 @@ fn is_inner_folder(path: &str) -> bool
     is_folder_path(path) && path.len() != 3
 }
 
-// The path of a file that a text is as it stands.
-#[tactic(auto, unfolding(mi_text::specs::Path::is_path))]
-fn as_file(text: Text) -> Option<PathText>
-    ensures { result ≡ (if is_file_path text then Some text else None) }
+// The path that a text spells.
+fn path_of(alloc: Global, text: &str) -> Result<PathText, NoMemory>
+    requires { is_path text.now ≡ true }
+    ensures { IfOk result (λ p. p ≡ text.now) }
 {
-    let path = PathText::of(text)?;
-    if path.is_folder() { None } else { Some(path) }
-}
-
-// The path of a folder in the drive that a text is as it stands.
-#[tactic(auto, unfolding(mi_text::specs::Path::is_path))]
-fn as_inner_folder(text: Text) -> Option<PathText>
-    ensures { result ≡ (if is_inner_folder text then Some text else None) }
-{
-    let path = PathText::of(text)?;
-    if path.is_folder() && path.as_str().len() != 3 {
-        Some(path)
-    } else {
-        None
+    match PathText::of(Text::copy_of(alloc, text)?) {
+        Some(path) => Ok(path),
+        None => unreachable!(),
     }
 }
 
@@ -151,13 +142,13 @@ fn front_of(bytes: &[u8], len: usize) -> (&[u8], &[u8])
 // The shown path of a file, where the record goes on for so many bytes behind these.
 #[tactic(auto, unfolding(crate::specs::Records::shown_file_at))]
 fn shown_file_at<'a>(
-    alloc: Global,
     more: u64,
     path: &[u8],
     bytes: &'a [u8],
-) -> Result<(PathText, &'a [u8]), RecError>
+) -> Result<(&'a str, &'a [u8]), RecError>
     requires { length bytes.now + more < 2 ^ 64 }
-    ensures { Gives (λ x. (x.0, x.1.now)) result (shown_file_at more path.now bytes.now) }
+    ensures gives { Gives (λ x. (x.0.now, x.1.now)) result (shown_file_at more path.now bytes.now) }
+    ensures file { IfOk result (λ x. is_file_path x.0.now ≡ true) }
 {
     let (len, rest) = u32_at(bytes)?;
     if rest.len() as u64 + more < u64::from(len) {
@@ -167,17 +158,14 @@ fn shown_file_at<'a>(
     let Some(text) = utf8(text) else {
         return Err(FIELD);
     };
-    if !folds_to(text.as_bytes(), path) {
+    if !folds_to(text.as_bytes(), path) || !is_file_path(text) {
         return Err(FIELD);
     }
-    match as_file(Text::copy_of(alloc, text)?) {
-        Some(shown) => Ok((shown, rest)),
-        None => Err(FIELD),
-    }
+    Ok((text, rest))
 }
 
 // The head of a file, and what stands behind it of these bytes.
-#[tactic(auto, unfolding(crate::specs::Records::head_at))]
+#[tactic(auto, unfolding(crate::specs::Records::head_at, mi_text::specs::Path::is_path))]
 fn head_at<'a>(
     alloc: Global,
     more: u64,
@@ -187,7 +175,7 @@ fn head_at<'a>(
     requires { length bytes.now + more < 2 ^ 64 }
     ensures { Gives (λ x. (x.0, x.1.now)) result (head_at more path.now bytes.now) }
 {
-    let (shown, rest) = shown_file_at(alloc, more, path, bytes)?;
+    let (shown, rest) = shown_file_at(more, path, bytes)?;
     let (version, rest) = version_at(rest)?;
     let (languages, rest) = rising_numbers_at(alloc, rest)?;
     let (created, rest) = u64_at(rest)?;
@@ -198,7 +186,7 @@ fn head_at<'a>(
     }
     let length = rest.len() as u64 + more;
     let head = FileHead {
-        shown,
+        shown: path_of(alloc, shown)?,
         version,
         languages,
         created,
@@ -209,6 +197,20 @@ fn head_at<'a>(
     Ok((head, rest))
 }
 
+fn with_bytes(head: FileHead, bytes: Bytes) -> FileEntry
+    ensures { result ≡ with_bytes head bytes }
+{
+    FileEntry {
+        shown: head.shown,
+        version: head.version,
+        languages: head.languages,
+        created: head.created,
+        modified: head.modified,
+        attributes: head.attributes,
+        bytes,
+    }
+}
+
 #[tactic(auto, unfolding(crate::specs::Records::file_of))]
 fn file_of(alloc: Global, path: &[u8], bytes: &[u8]) -> Result<Entry, RecError>
     ensures { Gives (λ e. e) result (file_of path.now bytes.now) }
@@ -217,33 +219,30 @@ fn file_of(alloc: Global, path: &[u8], bytes: &[u8]) -> Result<Entry, RecError>
         return Err(FIELD);
     }
     let (head, rest) = head_at(alloc, 0, path, bytes)?;
-    let bytes = Bytes::copy_of(alloc, rest)?;
-    Ok(Entry::File(FileEntry {
-        shown: head.shown,
-        version: head.version,
-        languages: head.languages,
-        created: head.created,
-        modified: head.modified,
-        attributes: head.attributes,
-        bytes,
-    }))
+    match Bytes::copy_of(alloc, rest) {
+        Ok(bytes) => Ok(Entry::File(with_bytes(head, bytes))),
+        Err(_) => {
+            drop(head);
+            Err(RecError::NoMemory)
+        }
+    }
 }
 
-#[tactic(auto, unfolding(crate::specs::Records::folder_of))]
+#[tactic(auto, unfolding(crate::specs::Records::folder_of, mi_text::specs::Path::is_path))]
 fn folder_of(alloc: Global, path: &[u8], bytes: &[u8]) -> Result<Entry, RecError>
     ensures { Gives (λ e. e) result (folder_of path.now bytes.now) }
 {
     if !names_folder(alloc, path)? {
         return Err(FIELD);
     }
-    let (shown, rest) = shown_at(alloc, path, bytes)?;
-    let Some(shown) = as_inner_folder(shown) else {
+    let (shown, rest) = shown_at(path, bytes)?;
+    if !is_inner_folder(shown) {
         return Err(FIELD);
-    };
+    }
     if !rest.is_empty() {
         return Err(EXTRA);
     }
-    Ok(Entry::Folder(shown))
+    Ok(Entry::Folder(path_of(alloc, shown)?))
 }
 
 #[tactic(auto, unfolding(crate::specs::Records::key_of))]
@@ -256,13 +255,21 @@ fn key_of(alloc: Global, name: &[u8], bytes: &[u8]) -> Result<Entry, RecError>
             if !names_key(*root, key) {
                 return Err(FIELD);
             }
-            let (shown, rest) = shown_at(alloc, key, bytes)?;
+            let (shown, rest) = shown_at(key, bytes)?;
             if !rest.is_empty() {
                 return Err(EXTRA);
             }
-            Ok(Entry::Key(*root - b'0', shown))
+            Ok(Entry::Key(*root - b'0', Text::copy_of(alloc, shown)?))
         }
     }
+}
+
+fn value_key(alloc: Global, root: u8, key: &str, shown: &str) -> Result<ValueKey, NoMemory>
+    ensures { IfOk result (λ k. k ≡ record { root = root; key = key.now; shown = shown.now }) }
+{
+    let key = Text::copy_of(alloc, key)?;
+    let shown = Text::copy_of(alloc, shown)?;
+    Ok(ValueKey { root, key, shown })
 }
 
 fn value_in(
@@ -280,14 +287,19 @@ fn value_in(
     if !names_value(root, key, name) {
         return Err(FIELD);
     }
-    let (shown, rest) = shown_at(alloc, name, bytes)?;
+    let (shown, rest) = shown_at(name, bytes)?;
     let (value, rest) = value_at(alloc, rest)?;
     if !rest.is_empty() {
+        drop(value);
         return Err(EXTRA);
     }
-    let key = Text::copy_of(alloc, key_text)?;
-    let root = root - b'0';
-    Ok(Entry::Value(ValueKey { root, key, shown }, value))
+    match value_key(alloc, root - b'0', key_text, shown) {
+        Ok(key) => Ok(Entry::Value(key, value)),
+        Err(_) => {
+            drop(value);
+            Err(RecError::NoMemory)
+        }
+    }
 }
 
 const fn are_digits(a: u8, b: u8, c: u8, d: u8) -> bool
@@ -326,22 +338,34 @@ fn value_of(alloc: Global, name: &[u8], bytes: &[u8]) -> Result<Entry, RecError>
     }
 }
 
-fn shortcut_behind(alloc: Global, shown: PathText, rest: &[u8]) -> Result<Entry, RecError>
-    ensures { Gives (λ e. e) result (shortcut_behind (shown, rest.now)) }
+// What a shortcut starts, as it stands in the bytes, and what follows.
+#[derive(Drop)]
+struct Started<'a> {
+    target: &'a str,
+    arguments: &'a str,
+    description: &'a str,
+    hotkey: u16,
+    icon: &'a str,
+    icon_index: i16,
+    show: u16,
+    folder: &'a str,
+}
+
+fn started_at(bytes: &[u8]) -> Result<Started<'_>, RecError>
+    ensures { (shown : List ℕ) → Gives (λ s. ShortcutEntry (shortcut_started shown s)) result (shortcut_behind (shown, bytes.now)) }
 {
-    let (target, rest) = text_at(alloc, rest)?;
-    let (arguments, rest) = text_at(alloc, rest)?;
-    let (description, rest) = text_at(alloc, rest)?;
+    let (target, rest) = str_at(bytes)?;
+    let (arguments, rest) = str_at(rest)?;
+    let (description, rest) = str_at(rest)?;
     let (hotkey, rest) = u16_at(rest)?;
-    let (icon, rest) = text_at(alloc, rest)?;
+    let (icon, rest) = str_at(rest)?;
     let (icon_index, rest) = u16_at(rest)?;
     let (show, rest) = u16_at(rest)?;
-    let (folder, rest) = text_at(alloc, rest)?;
+    let (folder, rest) = str_at(rest)?;
     if !rest.is_empty() {
         return Err(EXTRA);
     }
-    Ok(Entry::Shortcut(Shortcut {
-        shown,
+    Ok(Started {
         target,
         arguments,
         description,
@@ -350,21 +374,56 @@ fn shortcut_behind(alloc: Global, shown: PathText, rest: &[u8]) -> Result<Entry,
         icon_index: icon_index.cast_signed(),
         show,
         folder,
-    }))
+    })
 }
 
-#[tactic(auto, unfolding(crate::specs::Records::shortcut_of))]
+fn push_started(shortcut: &mut Shortcut, started: &Started) -> Result<(), NoMemory>
+    ensures { OnOk result (shortcut.new ≡ record shortcut.old { target = shortcut.old.target ++ started.now.target.now; arguments = shortcut.old.arguments ++ started.now.arguments.now; description = shortcut.old.description ++ started.now.description.now; icon = shortcut.old.icon ++ started.now.icon.now; folder = shortcut.old.folder ++ started.now.folder.now }) }
+{
+    shortcut.target.push_str(started.target)?;
+    shortcut.arguments.push_str(started.arguments)?;
+    shortcut.description.push_str(started.description)?;
+    shortcut.icon.push_str(started.icon)?;
+    shortcut.folder.push_str(started.folder)
+}
+
+fn shortcut_from(alloc: Global, shown: &str, started: &Started) -> Result<Shortcut, NoMemory>
+    requires { is_path shown.now ≡ true }
+    ensures { IfOk result (λ s. s ≡ shortcut_started shown.now started.now) }
+{
+    let mut shortcut = Shortcut {
+        shown: path_of(alloc, shown)?,
+        target: Text::new(alloc),
+        arguments: Text::new(alloc),
+        description: Text::new(alloc),
+        hotkey: started.hotkey,
+        icon: Text::new(alloc),
+        icon_index: started.icon_index,
+        show: started.show,
+        folder: Text::new(alloc),
+    };
+    match push_started(&mut shortcut, started) {
+        Ok(()) => Ok(shortcut),
+        Err(error) => {
+            drop(shortcut);
+            Err(error)
+        }
+    }
+}
+
+#[tactic(auto, unfolding(crate::specs::Records::shortcut_of, mi_text::specs::Path::is_path))]
 fn shortcut_of(alloc: Global, path: &[u8], bytes: &[u8]) -> Result<Entry, RecError>
     ensures { Gives (λ e. e) result (shortcut_of path.now bytes.now) }
 {
     if !names_file(alloc, path)? {
         return Err(FIELD);
     }
-    let (shown, rest) = shown_at(alloc, path, bytes)?;
-    let Some(shown) = as_file(shown) else {
+    let (shown, rest) = shown_at(path, bytes)?;
+    if !is_file_path(shown) {
         return Err(FIELD);
-    };
-    shortcut_behind(alloc, shown, rest)
+    }
+    let started = started_at(rest)?;
+    Ok(Entry::Shortcut(shortcut_from(alloc, shown, &started)?))
 }
 
 #[tactic(auto, unfolding(crate::specs::Records::variable_of))]
@@ -377,15 +436,15 @@ fn variable_of(alloc: Global, name: &[u8], bytes: &[u8]) -> Result<Entry, RecErr
             if !names_variable(*owner, name) {
                 return Err(FIELD);
             }
-            let (shown, rest) = shown_at(alloc, name, bytes)?;
-            let (value, rest) = text_at(alloc, rest)?;
+            let (shown, rest) = shown_at(name, bytes)?;
+            let (value, rest) = str_at(rest)?;
             if !rest.is_empty() {
                 return Err(EXTRA);
             }
             Ok(Entry::Variable(Variable {
                 system: *owner == b'1',
-                name: shown,
-                value,
+                name: Text::copy_of(alloc, shown)?,
+                value: Text::copy_of(alloc, value)?,
             }))
         }
     }
@@ -394,14 +453,14 @@ fn variable_of(alloc: Global, name: &[u8], bytes: &[u8]) -> Result<Entry, RecErr
 fn client_in(alloc: Global, component: Guid, product: Guid, bytes: &[u8]) -> Result<Entry, RecError>
     ensures { Gives (λ e. e) result (client_in (Some component.number) (Some product.number) bytes.now) }
 {
-    let (key_path, rest) = text_at(alloc, bytes)?;
+    let (key_path, rest) = str_at(bytes)?;
     if !rest.is_empty() {
         return Err(EXTRA);
     }
     Ok(Entry::Client(Client {
         component,
         product,
-        key_path,
+        key_path: Text::copy_of(alloc, key_path)?,
     }))
 }
 
@@ -422,20 +481,27 @@ fn client_of(alloc: Global, codes: &[u8], bytes: &[u8]) -> Result<Entry, RecErro
 fn product_in(alloc: Global, code: Guid, bytes: &[u8]) -> Result<Entry, RecError>
     ensures { Gives (λ e. e) result (product_in (Some code.number) bytes.now) }
 {
-    let (name, rest) = text_at(alloc, bytes)?;
+    let (name, rest) = str_at(bytes)?;
     let (version, rest) = four_numbers_at(rest)?;
     let (language, rest) = u16_at(rest)?;
     let (features, rest) = texts_at(alloc, Order::Rising, rest)?;
     if !rest.is_empty() {
+        drop(features);
         return Err(EXTRA);
     }
-    Ok(Entry::Product(Product {
-        code,
-        name,
-        version,
-        language,
-        features,
-    }))
+    match Text::copy_of(alloc, name) {
+        Ok(name) => Ok(Entry::Product(Product {
+            code,
+            name,
+            version,
+            language,
+            features,
+        })),
+        Err(_) => {
+            drop(features);
+            Err(RecError::NoMemory)
+        }
+    }
 }
 
 #[tactic(auto, unfolding(crate::specs::Records::product_of))]
@@ -458,11 +524,12 @@ fn system_of(alloc: Global, property: &[u8], bytes: &[u8]) -> Result<Entry, RecE
     if !is_system_name(property) {
         return Err(FIELD);
     }
-    let (text, rest) = text_at(alloc, bytes)?;
+    let (text, rest) = str_at(bytes)?;
     if !rest.is_empty() {
         return Err(EXTRA);
     }
-    Ok(Entry::System(Text::copy_of(alloc, property)?, text))
+    let property = Text::copy_of(alloc, property)?;
+    Ok(Entry::System(property, Text::copy_of(alloc, text)?))
 }
 
 fn kind_of(alloc: Global, kind: u8, rest: &[u8], bytes: &[u8]) -> Result<Entry, RecError>

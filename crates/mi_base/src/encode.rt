@@ -2,12 +2,13 @@
 
 ghost use Rattle.std.specs.Prelude.{◌≡◌, ◌<◌, ◌==◌, ◌↔◌, ◌++◌, ◌∷◌, [], IfOk, OnOk, IsErrOf, true, false, length};
 ghost use Rattle.mi_text.specs.Fold.{folded, IsNameLength};
+ghost use Rattle.mi_text.specs.Guid.{guid_text};
 ghost use Rattle.mi_base.specs.declared.entry.Entry.TheVariants.{File, Shortcut as ShortcutEntry, Product as ProductEntry};
 ghost use Rattle.mi_base.specs.Names.{digit, four_digits, file_name, folder_name, key_name, value_name, shortcut_name, variable_name, client_name, product_name, system_name};
 ghost use Rattle.mi_base.specs.Limits.{fits};
 ghost use Rattle.mi_base.specs.Spelling.{name_of, head_of, head_bytes, shortcut_bytes, product_bytes, record_of};
 
-use crate::entry::{Entry, FileEntry, Product, Shortcut, Variable};
+use crate::entry::{Client, Entry, FileEntry, Product, Shortcut, ValueKey, Variable};
 use crate::limits::fits;
 use crate::rec_error::EncError;
 use crate::writing::{
@@ -35,24 +36,40 @@ const fn digit_text(number: u16) -> &'static str
     }
 }
 
-// A kind and its slash, and a folded text.
-fn folded_name(alloc: Global, kind: &str, text: &str) -> Result<Text, NoMemory>
-    ensures { IfOk result (λ t. t ≡ kind.now ++ folded text.now) }
+fn push_folded(name: &mut Text, alloc: Global, text: &str) -> Result<(), NoMemory>
+    ensures { OnOk result (name.new ≡ name.old ++ folded text.now) }
 {
-    let mut name = Text::copy_of(alloc, kind)?;
-    name.push_str(fold(alloc, text)?.as_str())?;
-    Ok(name)
+    let folded = fold(alloc, text)?;
+    let pushed = name.push_str(folded.as_str());
+    drop(folded);
+    pushed
+}
+
+fn push_code(name: &mut Text, alloc: Global, code: Guid) -> Result<(), NoMemory>
+    ensures { OnOk result (name.new ≡ name.old ++ guid_text code.number) }
+{
+    let printed = code.print(alloc)?;
+    let pushed = name.push_str(printed.as_str());
+    drop(printed);
+    pushed
+}
+
+// A kind and its slash, and a folded text.
+fn push_name(name: &mut Text, alloc: Global, kind: &str, text: &str) -> Result<(), NoMemory>
+    ensures { OnOk result (name.new ≡ name.old ++ kind.now ++ folded text.now) }
+{
+    name.push_str(kind)?;
+    push_folded(name, alloc, text)
 }
 
 #[tactic(auto, unfolding(crate::specs::Names::key_name))]
-fn key_name(alloc: Global, root: u8, key: &str) -> Result<Text, NoMemory>
+fn push_key(name: &mut Text, alloc: Global, root: u8, key: &str) -> Result<(), NoMemory>
     requires { root < 4 }
-    ensures { IfOk result (λ t. t ≡ key_name root key.now) }
+    ensures { OnOk result (name.new ≡ name.old ++ key_name root key.now) }
 {
-    let mut name = Text::copy_of(alloc, "k/")?;
+    name.push_str("k/")?;
     name.push_str(digit_text(u16::from(root)))?;
-    name.push_str(fold(alloc, key)?.as_str())?;
-    Ok(name)
+    push_folded(name, alloc, key)
 }
 
 fn push_four_digits(name: &mut Text, number: u16) -> Result<(), NoMemory>
@@ -64,74 +81,84 @@ fn push_four_digits(name: &mut Text, number: u16) -> Result<(), NoMemory>
     name.push_str(digit_text(number % 10))
 }
 
-#[tactic(auto, unfolding(crate::specs::Names::value_name))]
-fn value_name(alloc: Global, root: u8, key: &str, shown: &str) -> Result<Text, NoMemory>
-    requires root { root < 4 }
-    requires key { length key.now < 65536 }
-    ensures { IfOk result (λ t. t ≡ value_name root key.now shown.now) }
+fn push_counted(name: &mut Text, text: &str) -> Result<(), NoMemory>
+    requires { length text.now < 65536 }
+    ensures { OnOk result (name.new ≡ name.old ++ four_digits (length text.now) ++ text.now) }
 {
-    let key = fold(alloc, key)?;
-    let mut name = Text::copy_of(alloc, "v/")?;
-    name.push_str(digit_text(u16::from(root)))?;
-    push_four_digits(&mut name, key.len() as u16)?;
-    name.push_str(key.as_str())?;
-    name.push_str(fold(alloc, shown)?.as_str())?;
-    Ok(name)
+    push_four_digits(name, text.len() as u16)?;
+    name.push_str(text)
+}
+
+fn push_counted_fold(name: &mut Text, alloc: Global, text: &str) -> Result<(), NoMemory>
+    requires { length text.now < 65536 }
+    ensures { OnOk result (name.new ≡ name.old ++ four_digits (length (folded text.now)) ++ folded text.now) }
+{
+    let folded = fold(alloc, text)?;
+    let pushed = push_counted(name, folded.as_str());
+    drop(folded);
+    pushed
+}
+
+#[tactic(auto, unfolding(crate::specs::Names::value_name))]
+fn push_value(name: &mut Text, alloc: Global, key: &ValueKey) -> Result<(), NoMemory>
+    requires root { key.now.root < 4 }
+    requires key { length key.now.key < 65536 }
+    ensures { OnOk result (name.new ≡ name.old ++ value_name key.now.root key.now.key key.now.shown) }
+{
+    name.push_str("v/")?;
+    name.push_str(digit_text(u16::from(key.root)))?;
+    push_counted_fold(name, alloc, key.key.as_str())?;
+    push_folded(name, alloc, key.shown.as_str())
 }
 
 #[tactic(auto, unfolding(crate::specs::Names::variable_name))]
-fn variable_name(alloc: Global, variable: &Variable) -> Result<Text, NoMemory>
-    ensures { IfOk result (λ t. t ≡ variable_name variable.now.system variable.now.name) }
+fn push_variable(name: &mut Text, alloc: Global, variable: &Variable) -> Result<(), NoMemory>
+    ensures { OnOk result (name.new ≡ name.old ++ variable_name variable.now.system variable.now.name) }
 {
     let kind = if variable.system { "n/1" } else { "n/0" };
-    folded_name(alloc, kind, variable.name.as_str())
+    push_name(name, alloc, kind, variable.name.as_str())
 }
 
 #[tactic(auto, unfolding(crate::specs::Names::client_name))]
-fn client_name(alloc: Global, component: Guid, product: Guid) -> Result<Text, NoMemory>
-    ensures { IfOk result (λ t. t ≡ client_name component.number product.number) }
+fn push_client(name: &mut Text, alloc: Global, client: &Client) -> Result<(), NoMemory>
+    ensures { OnOk result (name.new ≡ name.old ++ client_name client.now.component.number client.now.product.number) }
 {
-    let mut name = Text::copy_of(alloc, "c/")?;
-    name.push_str(component.print(alloc)?.as_str())?;
-    name.push_str(product.print(alloc)?.as_str())?;
-    Ok(name)
+    name.push_str("c/")?;
+    push_code(name, alloc, client.component)?;
+    push_code(name, alloc, client.product)
 }
 
 #[tactic(auto, unfolding(crate::specs::Names::product_name))]
-fn product_name(alloc: Global, code: Guid) -> Result<Text, NoMemory>
-    ensures { IfOk result (λ t. t ≡ product_name code.number) }
+fn push_product(name: &mut Text, alloc: Global, code: Guid) -> Result<(), NoMemory>
+    ensures { OnOk result (name.new ≡ name.old ++ product_name code.number) }
 {
-    let mut name = Text::copy_of(alloc, "p/")?;
-    name.push_str(code.print(alloc)?.as_str())?;
-    Ok(name)
+    name.push_str("p/")?;
+    push_code(name, alloc, code)
 }
 
 #[tactic(auto, unfolding(crate::specs::Names::system_name))]
-fn system_name(alloc: Global, property: &str) -> Result<Text, NoMemory>
-    ensures { IfOk result (λ t. t ≡ system_name property.now) }
+fn push_system(name: &mut Text, property: &str) -> Result<(), NoMemory>
+    ensures { OnOk result (name.new ≡ name.old ++ system_name property.now) }
 {
-    let mut name = Text::copy_of(alloc, "y/")?;
-    name.push_str(property)?;
-    Ok(name)
+    name.push_str("y/")?;
+    name.push_str(property)
 }
 
 #[tactic(auto, unfolding(crate::specs::Names::file_name, crate::specs::Names::folder_name, crate::specs::Names::shortcut_name, crate::specs::Limits::fits, crate::specs::Limits::is_key))]
-fn name_text(alloc: Global, entry: &Entry) -> Result<Text, NoMemory>
+fn push_entry_name(name: &mut Text, alloc: Global, entry: &Entry) -> Result<(), NoMemory>
     requires { fits entry.now ≡ true }
-    ensures { IfOk result (λ t. t ≡ name_of entry.now) }
+    ensures { OnOk result (name.new ≡ name.old ++ name_of entry.now) }
 {
     match entry {
-        Entry::File(file) => folded_name(alloc, "f/", file.shown.as_str()),
-        Entry::Folder(shown) => folded_name(alloc, "d/", shown.as_str()),
-        Entry::Value(key, _) => {
-            value_name(alloc, key.root, key.key.as_str(), key.shown.as_str())
-        }
-        Entry::Key(root, shown) => key_name(alloc, *root, shown.as_str()),
-        Entry::Shortcut(shortcut) => folded_name(alloc, "s/", shortcut.shown.as_str()),
-        Entry::Variable(variable) => variable_name(alloc, variable),
-        Entry::Client(client) => client_name(alloc, client.component, client.product),
-        Entry::Product(product) => product_name(alloc, product.code),
-        Entry::System(property, _) => system_name(alloc, property.as_str()),
+        Entry::File(file) => push_name(name, alloc, "f/", file.shown.as_str()),
+        Entry::Folder(shown) => push_name(name, alloc, "d/", shown.as_str()),
+        Entry::Value(key, _) => push_value(name, alloc, key),
+        Entry::Key(root, shown) => push_key(name, alloc, *root, shown.as_str()),
+        Entry::Shortcut(shortcut) => push_name(name, alloc, "s/", shortcut.shown.as_str()),
+        Entry::Variable(variable) => push_variable(name, alloc, variable),
+        Entry::Client(client) => push_client(name, alloc, client),
+        Entry::Product(product) => push_product(name, alloc, product.code),
+        Entry::System(property, _) => push_system(name, property.as_str()),
     }
 }
 
@@ -214,9 +241,41 @@ fn put_record(out: &mut Vec<u8>, entry: &Entry) -> Result<(), NoMemory>
     }
 }
 
+#[tactic(auto, using(crate::proofs::NameLemmas::name_length))]
+fn entry_name(alloc: Global, entry: &Entry) -> Result<Name, NoMemory>
+    requires { fits entry.now ≡ true }
+    ensures { IfOk result (λ n. n ≡ name_of entry.now) }
+{
+    let mut text = Text::new(alloc);
+    match push_entry_name(&mut text, alloc, entry) {
+        Ok(()) => {
+            let name = named(alloc, text.as_str());
+            drop(text);
+            name
+        }
+        Err(error) => {
+            drop(text);
+            Err(error)
+        }
+    }
+}
+
+fn entry_record(alloc: Global, entry: &Entry) -> Result<Bytes, NoMemory>
+    requires { fits entry.now ≡ true }
+    ensures { IfOk result (λ b. b ≡ record_of entry.now) }
+{
+    let mut record = Vec::new(alloc);
+    match put_record(&mut record, entry) {
+        Ok(()) => Ok(Bytes::from_vec(record)),
+        Err(error) => {
+            drop(record);
+            Err(error)
+        }
+    }
+}
+
 /// The name and the record of an entry. `Field` comes exactly where the entry breaks a limit or rule
 /// of its record. The spelling is this project's own.
-#[tactic(auto, using(crate::proofs::NameLemmas::name_length))]
 pub fn enc_entry(alloc: Global, entry: &Entry) -> Result<(Name, Bytes), EncError>
     ensures name { IfOk result (λ x. x.0 ≡ name_of entry.now) }
     ensures record { IfOk result (λ x. x.1 ≡ record_of entry.now) }
@@ -225,8 +284,12 @@ pub fn enc_entry(alloc: Global, entry: &Entry) -> Result<(Name, Bytes), EncError
     if !fits(entry) {
         return Err(EncError::Field);
     }
-    let name = named(alloc, name_text(alloc, entry)?.as_str())?;
-    let mut record = Vec::new(alloc);
-    put_record(&mut record, entry)?;
-    Ok((name, Bytes::from_vec(record)))
+    let name = entry_name(alloc, entry)?;
+    match entry_record(alloc, entry) {
+        Ok(record) => Ok((name, record)),
+        Err(_) => {
+            drop(name);
+            Err(EncError::NoMemory)
+        }
+    }
 }

@@ -4,7 +4,7 @@ use crate::collections::{Languages, Texts};
 use mi_text::{Bytes, Guid, PathText, Text, Version};
 
 /// An entry of the machine.
-#[derive(Debug, Drop)]
+#[derive(Drop)]
 pub enum Entry {
     /// A file with its bytes (File table).
     File(FileEntry),
@@ -29,7 +29,7 @@ pub enum Entry {
 /// A file: its path as it is shown, its version, its languages, strictly rising, the moments in
 /// seconds at which it was created and last modified, its attributes (1 read-only, 2 hidden, 4
 /// system), and its bytes.
-#[derive(Debug, Drop)]
+#[derive(Drop)]
 pub struct FileEntry {
     pub shown: PathText,
     pub version: Option<Version>,
@@ -41,7 +41,7 @@ pub struct FileEntry {
 }
 
 /// What is known of a file beside its bytes, and the number of its bytes.
-#[derive(Debug, Drop)]
+#[derive(Drop)]
 pub struct FileHead {
     pub shown: PathText,
     pub version: Option<Version>,
@@ -53,7 +53,7 @@ pub struct FileHead {
 }
 
 /// What a registry value holds (Registry table, column Value).
-#[derive(Debug, Drop)]
+#[derive(Drop)]
 pub enum RegValue {
     Text(Text),
     /// A text with environment variables to be expanded by its reader.
@@ -65,7 +65,7 @@ pub enum RegValue {
 
 /// Where a registry value stands: the digit of its root, its key, which is folded, and its name as
 /// it is shown.
-#[derive(Debug, Drop)]
+#[derive(Drop)]
 pub struct ValueKey {
     pub root: u8,
     pub key: Text,
@@ -73,7 +73,7 @@ pub struct ValueKey {
 }
 
 /// A shortcut (Shortcut table): its path as it is shown, and what it starts.
-#[derive(Debug, Drop)]
+#[derive(Drop)]
 pub struct Shortcut {
     pub shown: PathText,
     pub target: Text,
@@ -89,7 +89,7 @@ pub struct Shortcut {
 
 /// An environment variable (Environment table): whether it is the system's or the user's, its name
 /// as it is shown, and its value.
-#[derive(Debug, Drop)]
+#[derive(Drop)]
 pub struct Variable {
     pub system: bool,
     pub name: Text,
@@ -97,7 +97,7 @@ pub struct Variable {
 }
 
 /// That a product uses a component. The product of all zeros stands for the system.
-#[derive(Debug, Drop)]
+#[derive(Drop)]
 pub struct Client {
     pub component: Guid,
     pub product: Guid,
@@ -106,7 +106,7 @@ pub struct Client {
 
 /// An installed product: its code, name, version, language and local features, strictly rising by
 /// bytes.
-#[derive(Debug, Drop)]
+#[derive(Drop)]
 pub struct Product {
     pub code: Guid,
     pub name: Text,

@@ -26,10 +26,8 @@ pub use laws::{
 };
 pub use mi_text::{
     Bytes, Env, Guid, IdtFault, Name, NameError, NoMemory, NotGuid, NotVersion, PathError,
-    PathFault, PathText, PlainEnv, Settled, Sign, Text, Version, fold, is_file_path,
-    is_folder_path, is_property_name, is_public_name,
+    PathFault, PathText, PlainEnv, Settled, Sign, Text, Version, compare_folded, find_folded, fold,
+    is_default_dir, is_file_name, is_file_path, is_file_pattern, is_folder_path, is_property_name,
+    is_public_name, long_name, short_name, source_part, target_part,
 };
 pub use rec_error::{EncError, RecError, RecFault};
-
-#[cfg(test)]
-mod tests;

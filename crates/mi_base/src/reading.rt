@@ -77,16 +77,24 @@ fn slice_at(bytes: &[u8]) -> Result<(&[u8], &[u8]), RecError>
     Ok(rest.split_at(len))
 }
 
-/// A text, and what stands behind it.
+/// A text as it stands in the bytes, and what stands behind it. No memory.
 #[tactic(auto, unfolding(crate::specs::Reading::text_at))]
-pub fn text_at(alloc: Global, bytes: &[u8]) -> Result<(Text, &[u8]), RecError>
-    ensures { Gives (λ x. (x.0, x.1.now)) result (text_at bytes.now) }
+pub fn str_at(bytes: &[u8]) -> Result<(&str, &[u8]), RecError>
+    ensures { Gives (λ x. (x.0.now, x.1.now)) result (text_at bytes.now) }
 {
     let (text, rest) = slice_at(bytes)?;
     match str::from_utf8(text) {
-        Ok(text) => Ok((Text::copy_of(alloc, text)?, rest)),
+        Ok(text) => Ok((text, rest)),
         Err(_) => Err(RecError::Fault(RecFault::Field)),
     }
+}
+
+/// A text, and what stands behind it.
+pub fn text_at(alloc: Global, bytes: &[u8]) -> Result<(Text, &[u8]), RecError>
+    ensures { Gives (λ x. (x.0, x.1.now)) result (text_at bytes.now) }
+{
+    let (text, rest) = str_at(bytes)?;
+    Ok((Text::copy_of(alloc, text)?, rest))
 }
 
 /// Whether a text folds to what a name says.
@@ -104,16 +112,12 @@ pub fn folds_to(text: &[u8], named: &[u8]) -> bool
     true
 }
 
-/// A text that folds to what a name says, and what stands behind it.
+/// A text that folds to what a name says, as it stands in the bytes, and what stands behind it. No memory.
 #[tactic(auto, unfolding(crate::specs::Reading::shown_at))]
-pub fn shown_at<'a>(
-    alloc: Global,
-    named: &[u8],
-    bytes: &'a [u8],
-) -> Result<(Text, &'a [u8]), RecError>
-    ensures { Gives (λ x. (x.0, x.1.now)) result (shown_at named.now bytes.now) }
+pub fn shown_at<'a>(named: &[u8], bytes: &'a [u8]) -> Result<(&'a str, &'a [u8]), RecError>
+    ensures { Gives (λ x. (x.0.now, x.1.now)) result (shown_at named.now bytes.now) }
 {
-    let (text, rest) = text_at(alloc, bytes)?;
+    let (text, rest) = str_at(bytes)?;
     if !folds_to(text.as_bytes(), named) {
         return Err(RecError::Fault(RecFault::Field));
     }

@@ -3,7 +3,7 @@
 use mi_base::Kind;
 
 /// What a run answers (this project's own).
-#[derive(Debug, Drop)]
+#[derive(Drop)]
 pub struct Answer {
     pub kind: Kind,
     /// How many actions of the sequence were begun.

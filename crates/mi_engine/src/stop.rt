@@ -10,7 +10,7 @@ use mi_volume::{Failed, VolFault};
 use std::alloc::{AllocError, AllocFailed};
 
 /// Why a run stops.
-#[derive(Debug, Drop)]
+#[derive(Drop)]
 pub enum Stop {
     NoMemory,
     Refuse(Cause),

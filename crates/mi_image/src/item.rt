@@ -6,7 +6,7 @@ ghost use Rattle.std.specs.Option.{option_copied};
 use mi_base::{Entry, FileHead, Name, Text};
 
 /// Where the bytes of an image's file are (this project's own).
-#[derive(Debug, Drop)]
+#[derive(Drop)]
 pub enum Content {
     /// Behind the head, in the record that the scanned volume holds under this name.
     Held(Name),
@@ -15,7 +15,7 @@ pub enum Content {
 }
 
 /// A file without its bytes, or another entry.
-#[derive(Debug, Drop)]
+#[derive(Drop)]
 pub enum Item {
     Head(FileHead, Content),
     Whole(Entry),

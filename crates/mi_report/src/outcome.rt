@@ -3,7 +3,7 @@
 use mi_base::{Kind, Settled, Texts};
 
 /// What a command came to (this project's own).
-#[derive(Debug, Drop)]
+#[derive(Drop)]
 pub struct Outcome {
     pub kind: Kind,
     /// What settling the rollback area found.

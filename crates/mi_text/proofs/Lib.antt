@@ -1,4 +1,5 @@
 pub mod ByteLemmas
+pub mod FoldedLemmas
 pub mod GuidLemmas
 pub mod MapLemmas
 pub mod NextLemmas

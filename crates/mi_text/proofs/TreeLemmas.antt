@@ -16,15 +16,19 @@ use Rattle.std.specs.Map.{lookup, KeepsOthers, IsKeyTest, AreApart}
 use Rattle.mi_text.specs.Maps.{Name, Map, name_cmp, same_name, set_to}
 use Rattle.mi_text.proofs.MapLemmas.{entries-from_entries, names_total, from_same, same, get-set_to}
 
+-- an entry of the tree, with its key seen as a name
 abbrev pub pair_as : {K X : Type 0} → (K → Name) → K × X → Name × X
 pair_as seen e = (seen e.0, e.1)
 
+-- the map of the tree's entries, each under its key's name
 abbrev pub map_as : {K X : Type 0} → (K → Name) → List (K × X) → Map X
 map_as seen es = from_entries (map (pair_as seen) es)
 
+-- the order of keys: that of their names
 abbrev pub cmp_as : {K : Type 0} → (K → Name) → K → K → Ordering
 cmp_as seen a b = name_cmp (seen a) (seen b)
 
+-- whether a key is seen as the name q
 abbrev pub at_as : {K : Type 0} → (K → Name) → Name → K → Bool
 at_as seen q = is_at (λ k. name_cmp q (seen k))
 

@@ -1,5 +1,7 @@
 pub mod Bytes
+pub mod FileNames
 pub mod Fold
+pub mod Folded
 pub mod Guid
 pub mod Lookups
 pub mod Maps

@@ -63,7 +63,7 @@ impl Model for PathText {
     ghost invariant = { λ p. IsTrue (is_path p.text) };
 }
 
-const fn good_byte(byte: u8) -> bool
+pub const fn good_byte(byte: u8) -> bool
     ensures { result ≡ good_byte byte }
 {
     byte >= 32 && !matches!(byte, b'/' | b':' | b'*' | b'?' | b'"' | b'<' | b'>' | b'|')
@@ -133,7 +133,7 @@ fn is_plain(bytes: &[u8]) -> bool
 }
 
 // Whether the text can name one folder or file.
-fn is_part(part: &str) -> bool
+pub fn is_part(part: &str) -> bool
     ensures { result ≡ is_part part.now }
 {
     !part.is_empty() && is_plain(part.as_bytes()) && good_part(part)

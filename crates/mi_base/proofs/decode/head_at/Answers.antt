@@ -6,7 +6,7 @@ use Rattle.mi_base.proofs.decode.head_at.Goals as goal
 
 pub overflow_add-length : goal.overflow_add-length
 overflow_add-length c =
-    let s = shown_shorter c.args.more c.args.path.now c.args.bytes.now _ c.in_ok-shown.ensures in
+    let s = shown_shorter c.args.more c.args.path.now c.args.bytes.now _ c.in_ok-shown.ensures.gives in
     let v = version_shorter c.in_ok-shown.rest.now _ c.in_ok-version.ensures in
     let l = numbers_shorter c.in_ok-version.rest.now _ c.in_ok-languages.ensures in
     let k = number_shorter w64 c.in_ok-languages.rest.now _ c.in_ok-created.ensures in
