@@ -99,10 +99,6 @@ remove_goes old new name is later =
     subst (λ m. GoesOn (state_of old) (state_of m) (ImagesOf name (state_of old))) (sym is)
     (changing (fails_now old) old (removed name old).kept old.calls name (removed_changes old name) (subst (λ m. old.faults ≤ m.faults) is later))
 
-any_ok : {T E P : Type 0} (r : Result T E) → P → OnOk r P
-any_ok (Ok x) p = p
-any_ok (Err e) p = tt
-
 on_ok_where : {T E P : Type 0} (r : Result T E) (f : Bool) → is_err r ≡ f → (f ≡ false → P) → OnOk r P
 on_ok_where (Ok x) f is p = p (sym is)
 on_ok_where (Err e) f is p = tt
@@ -157,11 +153,11 @@ removes r old new name is leaves =
       failed = on_err_where r (fails_now old) is (λ fails. at_most _ name (get old.kept.held name) (ap (λ f. get (cond f (touched old.kept name) (changed_if_held old.kept name None)).held name) fails ∙ touched_holds old.kept name name));
     })
 
-pub syncs : {T E : Type 0} → (r : Result T E) (old new : Memory) → is_err r ≡ fails_now old → new ≡ synced old → Fits old.capacity (size old.kept.held) → Syncs (state_of old) (state_of new) r
+pub syncs : {T E : Type 0} → (r : Result T E) (old new : Memory) → is_err r ≡ fails_now old → new ≡ synced old → OnOk r (Fits new.capacity (size new.kept.held)) → Syncs (state_of old) (state_of new) r
 syncs r old new is leaves fits =
     subst (λ m. Syncs (state_of old) (state_of m) r) (sym leaves) (record {
       ok = on_ok_where r (fails_now old) is (λ well q dirty. clean q (subst (λ f. is_dirty (cond f old.kept (cleaned old.kept)) q ≡ true) well dirty));
-      fits = any_ok r (subst (λ m. Fits old.capacity (size m)) (sym (held (fails_now old))) fits);
+      fits = subst (λ (m : Memory). OnOk r (Fits m.capacity (size m.kept.held))) leaves fits;
       stays = record { held = held (fails_now old); dirty = λ q dirty. fewer (fails_now old) q dirty };
       failed = on_err_where r (fails_now old) is (λ fails q dirty. subst (λ f. is_dirty (cond f old.kept (cleaned old.kept)) q ≡ true) (sym fails) dirty);
     })
@@ -220,6 +216,11 @@ half_asked Append now piece =
     let long = length-append (bytes_or_none now) piece in
     omega (arith, half, short, long)
 
+-- what isn't too large fits
+not_over : (capacity : Option ℕ) (n : ℕ) → (Exceeds capacity n → ⊥) → Fits capacity n
+not_over None n over = tt
+not_over (Some c) n over = omega (arith, over)
+
 pub writes : {T : Type 0} → (r : Result T PutFault) (old new : Memory) (kind : CallKind) (name : Name) (piece : List ℕ) → new ≡ written kind name piece old r
     → (IsErrOf r Full → Exceeds old.capacity (size (insert old.kept.held name (with_piece kind (get old.kept.held name) piece))))
     → (Exceeds old.capacity (size (insert old.kept.held name (with_piece kind (get old.kept.held name) piece))) → IsErrOf r Full ⊎ IsErrOf r NoMemory)
@@ -266,11 +267,6 @@ writes {T} r old new kind name piece is exceeds fits =
         subst (λ o. IfSome o (λ bytes. length bytes ≤ max (length (bytes_or_none (get old.kept.held name))) (length (with_piece kind (get old.kept.held name) piece)))) (sym here) (half_asked kind (get old.kept.held name) piece)
     failed (Err Full) is = absurd (cc)
     failed (Err NoMemory) is = absurd (cc)
-
--- what isn't too large fits
-not_over : (capacity : Option ℕ) (n : ℕ) → (Exceeds capacity n → ⊥) → Fits capacity n
-not_over None n over = tt
-not_over (Some c) n over = omega (arith, over)
 
 pub exceeds_some : (capacity : Option ℕ) (n : ℕ) → Exceeds capacity n → is_some capacity ≡ true
 exceeds_some None n over = absurd over

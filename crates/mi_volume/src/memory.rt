@@ -200,7 +200,7 @@ impl MemVolume {
     pub(crate) fn make_clean(&mut self) -> Result<(), Failed>
         ensures fails { is_err result ≡ fails_now self.old }
         ensures leaves { self.new ≡ synced self.old }
-        ensures fits { Fits self.old.capacity (size self.old.kept.held) }
+        ensures fits { OnOk result (Fits self.new.capacity (size self.new.kept.held)) }
         ensures later { self.old.faults ≤ self.new.faults }
     {
         let failed = self.look();
