@@ -127,6 +127,63 @@ pub size-at_most : (m k : Map) → ((q : List ℕ) → slot_size q (get m q) ≤
 unfolding size
 size-at_most m k each = weight_at_most (entries m) k (entries_sorted m) (λ q. subst (λ o. slot_size q o ≤ slot_size q (get k q)) (get-entries m q) (each q))
 
+weight_within : (es : Pairs) (a b : Map) → T (is_sorted order es) → ((q : List ℕ) → slot_size q (find order q es) ≤ slot_size q (get a q) + slot_size q (get b q)) → weight es ≤ size a + size b
+weight_within [] a b sorted each = omega arith
+weight_within (e ∷ es) a b sorted each =
+    let parts = both_parts (below_all order e.0 es) (is_sorted order es) sorted in
+    let here : length e.0 + length e.1 ≤ slot_size e.0 (get a e.0) + slot_size e.0 (get b e.0) =
+    subst (λ c. slot_size e.0 (cond c (Some e.1) (find order e.0 es)) ≤ slot_size e.0 (get a e.0) + slot_size e.0 (get b e.0)) (same_itself e.0) (each e.0) in
+    let rest = weight_within es (remove a e.0) (remove b e.0) parts.1 (λ q. ⊎_elim (λ is. gone q parts.0 is) (λ other. kept q other) (name_cases q e.0)) in
+    let one = size-remove a e.0 in
+    let two = size-remove b e.0 in
+    let all : length e.0 + length e.1 + weight es ≤ size a + size b = omega (arith, here, rest, one, two) in
+    all
+  where
+    gone : (q : List ℕ) → T (below_all order e.0 es) → q ≡ e.0 → slot_size q (find order q es) ≤ slot_size q (get (remove a e.0) q) + slot_size q (get (remove b e.0) q)
+    gone q below is = let none : slot_size q (find order q es) ≡ 0 = ap (λ (x : List ℕ). slot_size q (find order x es)) is ∙ ap (slot_size q) (missing e.0 es below) in omega (arith, none)
+
+    kept : (q : List ℕ) → q ≢ e.0 → slot_size q (find order q es) ≤ slot_size q (get (remove a e.0) q) + slot_size q (get (remove b e.0) q)
+    kept q other =
+        let was : slot_size q (find order q (e ∷ es)) ≡ slot_size q (find order q es) = ap (λ b. slot_size q (cond b (Some e.1) (find order q es))) (same_name-other q e.0 other) in
+        let one : slot_size q (get (remove a e.0) q) ≡ slot_size q (get a q) = ap (slot_size q) (get-remove_other a e.0 q other) in
+        let two : slot_size q (get (remove b e.0) q) ≡ slot_size q (get b q) = ap (slot_size q) (get-remove_other b e.0 q other) in
+        omega (arith, each q, was, one, two)
+
+-- where each name counts no more than in two maps together, the size is no more than theirs
+pub size-within : (m a b : Map) → ((q : List ℕ) → slot_size q (get m q) ≤ slot_size q (get a q) + slot_size q (get b q)) → size m ≤ size a + size b
+unfolding size
+size-within m a b each = weight_within (entries m) a b (entries_sorted m) (λ q. subst (λ o. slot_size q o ≤ slot_size q (get a q) + slot_size q (get b q)) (get-entries m q) (each q))
+
+weight_over : (es : Pairs) (b m : Map) → T (is_sorted order es) → ((q : List ℕ) → slot_size q (find order q es) + slot_size q (get b q) ≤ slot_size q (get m q)) → weight es + size b ≤ size m
+weight_over [] b m sorted each = let all = size-at_most b m (λ q. omega (arith, each q)) in omega (arith, all)
+weight_over (e ∷ es) b m sorted each =
+    let parts = both_parts (below_all order e.0 es) (is_sorted order es) sorted in
+    let here : length e.0 + length e.1 + slot_size e.0 (get b e.0) ≤ slot_size e.0 (get m e.0) =
+    subst (λ c. slot_size e.0 (cond c (Some e.1) (find order e.0 es)) + slot_size e.0 (get b e.0) ≤ slot_size e.0 (get m e.0)) (same_itself e.0) (each e.0) in
+    let rest = weight_over es (remove b e.0) (remove m e.0) parts.1 (λ q. ⊎_elim (λ is. gone q parts.0 is) (λ other. kept q other) (name_cases q e.0)) in
+    let one = size-remove b e.0 in
+    let two = size-remove m e.0 in
+    let all : length e.0 + length e.1 + weight es + size b ≤ size m = omega (arith, here, rest, one, two) in
+    all
+  where
+    gone : (q : List ℕ) → T (below_all order e.0 es) → q ≡ e.0 → slot_size q (find order q es) + slot_size q (get (remove b e.0) q) ≤ slot_size q (get (remove m e.0) q)
+    gone q below is =
+        let none : slot_size q (find order q es) ≡ 0 = ap (λ (x : List ℕ). slot_size q (find order x es)) is ∙ ap (slot_size q) (missing e.0 es below) in
+        let away : slot_size q (get (remove b e.0) q) ≡ 0 = ap (λ (x : List ℕ). slot_size q (get (remove b e.0) x)) is ∙ ap (slot_size q) (get-remove_same b e.0) in
+        omega (arith, none, away)
+
+    kept : (q : List ℕ) → q ≢ e.0 → slot_size q (find order q es) + slot_size q (get (remove b e.0) q) ≤ slot_size q (get (remove m e.0) q)
+    kept q other =
+        let was : slot_size q (find order q (e ∷ es)) ≡ slot_size q (find order q es) = ap (λ b. slot_size q (cond b (Some e.1) (find order q es))) (same_name-other q e.0 other) in
+        let one : slot_size q (get (remove b e.0) q) ≡ slot_size q (get b q) = ap (slot_size q) (get-remove_other b e.0 q other) in
+        let two : slot_size q (get (remove m e.0) q) ≡ slot_size q (get m q) = ap (slot_size q) (get-remove_other m e.0 q other) in
+        omega (arith, each q, was, one, two)
+
+-- where each name counts no less than in two maps together, the size is no less than theirs
+pub size-over : (a b m : Map) → ((q : List ℕ) → slot_size q (get a q) + slot_size q (get b q) ≤ slot_size q (get m q)) → size a + size b ≤ size m
+unfolding size
+size-over a b m each = weight_over (entries a) b m (entries_sorted a) (λ q. subst (λ o. slot_size q o + slot_size q (get b q) ≤ slot_size q (get m q)) (get-entries a q) (each q))
+
 -- a sum that stands still at the greatest u64, over the entries up to the rest
 pub record Summing (all rest : Pairs) (sum : ℕ) : Type 0 where
   pub so_far : ℕ

@@ -5,7 +5,7 @@ use Rattle.std.specs.Result.{is_err}
 use Rattle.std.specs.FinMap.{get, insert, remove, get-empty}
 use Rattle.mi_text.specs.Maps.{Name, same_name, set_to}
 use Rattle.mi_text.proofs.MapLemmas.{same_itself, get-set_to, from_same, same}
-use Rattle.mi_volume.specs.Maps.{Map, size, bytes_or_none, Exceeds, OthersStay, HoldsByte, HoldsAtMost}
+use Rattle.mi_volume.specs.Maps.{Map, size, bytes_or_none, Fits, Exceeds, OthersStay, HoldsByte, HoldsAtMost}
 use Rattle.mi_volume.specs.State.{MayLeave, Images, ImagesOf, GoesOn, Stays, StaysDirty, Rose}
 use Rattle.mi_volume.specs.Calls.{Writes, Marks, Removes, Syncs}
 use Rattle.mi_volume.specs.Kept.{Kept, is_dirty, changed, changed_if_held, cleaned, first_half}
@@ -153,10 +153,11 @@ removes r old new name is leaves =
       failed = on_err_where r (fails_now old) is (λ fails. at_most _ name (get old.kept.held name) (ap (λ f. get (cond f (touched old.kept name) (changed_if_held old.kept name None)).held name) fails ∙ touched_holds old.kept name name));
     })
 
-pub syncs : {T E : Type 0} → (r : Result T E) (old new : Memory) → is_err r ≡ fails_now old → new ≡ synced old → Syncs (state_of old) (state_of new) r
-syncs r old new is leaves =
+pub syncs : {T E : Type 0} → (r : Result T E) (old new : Memory) → is_err r ≡ fails_now old → new ≡ synced old → OnOk r (Fits new.capacity (size new.kept.held)) → Syncs (state_of old) (state_of new) r
+syncs r old new is leaves fits =
     subst (λ m. Syncs (state_of old) (state_of m) r) (sym leaves) (record {
       ok = on_ok_where r (fails_now old) is (λ well q dirty. clean q (subst (λ f. is_dirty (cond f old.kept (cleaned old.kept)) q ≡ true) well dirty));
+      fits = subst (λ (m : Memory). OnOk r (Fits m.capacity (size m.kept.held))) leaves fits;
       stays = record { held = held (fails_now old); dirty = λ q dirty. fewer (fails_now old) q dirty };
       failed = on_err_where r (fails_now old) is (λ fails q dirty. subst (λ f. is_dirty (cond f old.kept (cleaned old.kept)) q ≡ true) (sym fails) dirty);
     })
@@ -215,6 +216,11 @@ half_asked Append now piece =
     let long = length-append (bytes_or_none now) piece in
     omega (arith, half, short, long)
 
+-- what isn't too large fits
+not_over : (capacity : Option ℕ) (n : ℕ) → (Exceeds capacity n → ⊥) → Fits capacity n
+not_over None n over = tt
+not_over (Some c) n over = omega (arith, over)
+
 pub writes : {T : Type 0} → (r : Result T PutFault) (old new : Memory) (kind : CallKind) (name : Name) (piece : List ℕ) → new ≡ written kind name piece old r
     → (IsErrOf r Full → Exceeds old.capacity (size (insert old.kept.held name (with_piece kind (get old.kept.held name) piece))))
     → (Exceeds old.capacity (size (insert old.kept.held name (with_piece kind (get old.kept.held name) piece))) → IsErrOf r Full ⊎ IsErrOf r NoMemory)
@@ -229,9 +235,14 @@ writes {T} r old new kind name piece is exceeds fits =
       full = full r;
       failed = failed r;
       exceeds = exceeds;
-      fits = fits;
+      fits = within r fits;
     })
   where
+    within : (r : Result T PutFault) → (Exceeds old.capacity (size (insert old.kept.held name (with_piece kind (get old.kept.held name) piece))) → IsErrOf r Full ⊎ IsErrOf r NoMemory)
+        → OnOk r (Fits old.capacity (size (insert old.kept.held name (with_piece kind (get old.kept.held name) piece))))
+    within (Ok x) err = not_over old.capacity (size (insert old.kept.held name (with_piece kind (get old.kept.held name) piece))) (λ over. elim (err over) [ inl is ↦ absurd (cc) | inr is ↦ absurd (cc) ])
+    within (Err e) err = tt
+
     ok : (r : Result T PutFault) → OnOk r ((written kind name piece old r).kept.held ≡ insert old.kept.held name (with_piece kind (get old.kept.held name) piece))
     ok (Ok x) = refl
     ok (Err e) = tt

@@ -5,7 +5,7 @@ ghost use Rattle.std.specs.Result.{is_err};
 ghost use Rattle.std.specs.Option.{option_copied, option_map};
 ghost use Rattle.std.specs.FinMap.{get, insert};
 ghost use Rattle.mi_text.specs.Next.{next_name};
-ghost use Rattle.mi_volume.specs.Maps.{size, HoldsByte, Exceeds};
+ghost use Rattle.mi_volume.specs.Maps.{size, HoldsByte, Fits, Exceeds};
 ghost use Rattle.mi_volume.specs.State.{Images};
 ghost use Rattle.mi_volume.specs.Memory.{state_of, opened, reopened, fails_now, counted, looked, marked, removed, synced, with_piece, stored, written, HasRoomFor, HasNoRoomFor};
 
@@ -118,6 +118,7 @@ impl MemVolume {
     /// The capacity less the size of what is held.
     pub(crate) fn room(&self) -> Option<u64>
         ensures room { result ≡ option_map (λ c. c - size self.now.kept.held) self.now.capacity }
+        ensures fits { Fits self.now.capacity (size self.now.kept.held) }
         ensures small { IfSome self.now.capacity (λ c. c < 2 ^ 64 - 1) }
     {
         match self.capacity {
@@ -199,6 +200,7 @@ impl MemVolume {
     pub(crate) fn make_clean(&mut self) -> Result<(), Failed>
         ensures fails { is_err result ≡ fails_now self.old }
         ensures leaves { self.new ≡ synced self.old }
+        ensures fits { OnOk result (Fits self.new.capacity (size self.new.kept.held)) }
         ensures later { self.old.faults ≤ self.new.faults }
     {
         let failed = self.look();

@@ -1,12 +1,12 @@
 //! A volume in memory as a volume.
 
-ghost use Rattle.std.specs.Prelude.{◌≡◌, ◌↔◌, IsTrue, ◌-◌, ◌^◌, ◌<◌, ◌≤◌, ◌++◌, length, take, drop, IfOk, IsErr, OnErr, IfSome, IsSome, IsErrOf};
+ghost use Rattle.std.specs.Prelude.{◌≡◌, ◌⊎◌, ◌↔◌, IsTrue, ◌-◌, ◌^◌, ◌<◌, ◌≤◌, ◌++◌, length, take, drop, IfOk, IsErr, OnErr, IfSome, IsSome, IsErrOf};
 ghost use Rattle.std.specs.Result.{is_err};
 ghost use Rattle.std.specs.Option.{option_copied, option_map};
-ghost use Rattle.std.specs.FinMap.{get};
+ghost use Rattle.std.specs.FinMap.{get, insert};
 ghost use Rattle.mi_text.specs.Bytes.{AreBytes};
 ghost use Rattle.mi_text.specs.Next.{next_name};
-ghost use Rattle.mi_volume.specs.Maps.{size, bytes_or_none, IsAbove, HoldsByte};
+ghost use Rattle.mi_volume.specs.Maps.{size, bytes_or_none, IsAbove, Fits, Exceeds, HoldsByte};
 ghost use Rattle.mi_volume.specs.State.{Images, ImagesOf, GoesOn, Stays, StaysDirty, Rose};
 ghost use Rattle.mi_volume.specs.Calls.{Writes, Removes, Marks, Syncs};
 ghost use Rattle.mi_volume.specs.Memory.{state_of, fails_now, looked, marked, removed, synced, written};
@@ -89,6 +89,7 @@ impl Volume for MemVolume {
         ensures moments { GoesOn (state_of self.old) (state_of self.new) (ImagesOf name.now (state_of self.old)) }
         ensures failed { IsErrOf result PutFault.Failed → Rose (state_of self.old) (state_of self.new) }
         ensures full { IsErrOf result PutFault.Full → IsSome self.old.capacity }
+        ensures full_first { Exceeds self.old.capacity (size (insert self.old.kept.held name.now bytes.now)) → IsErrOf result PutFault.Full ⊎ IsErrOf result PutFault.NoMemory }
         ensures leaves { self.new ≡ written Put name.now bytes.now self.old result }
         ensures fails_alone { IsErrOf result PutFault.Failed → IsTrue (fails_now self.old) }
         ensures fails { IsTrue (fails_now self.old) → IsErr result }
@@ -102,6 +103,7 @@ impl Volume for MemVolume {
         ensures moments { GoesOn (state_of self.old) (state_of self.new) (ImagesOf name.now (state_of self.old)) }
         ensures failed { IsErrOf result PutFault.Failed → Rose (state_of self.old) (state_of self.new) }
         ensures full { IsErrOf result PutFault.Full → IsSome self.old.capacity }
+        ensures full_first { Exceeds self.old.capacity (size (insert self.old.kept.held name.now (bytes_or_none (get self.old.kept.held name.now) ++ bytes.now))) → IsErrOf result PutFault.Full ⊎ IsErrOf result PutFault.NoMemory }
         ensures leaves { self.new ≡ written Append name.now bytes.now self.old result }
         ensures fails_alone { IsErrOf result PutFault.Failed → IsTrue (fails_now self.old) }
         ensures fails { IsTrue (fails_now self.old) → IsErr result }
@@ -143,6 +145,7 @@ impl Volume for MemVolume {
     fn free(&mut self) -> Result<Option<u64>, Failed>
         ensures value { IfOk result (λ n. n ≡ option_map (λ c. c - size self.old.kept.held) self.old.capacity) }
         ensures small { IfSome self.old.capacity (λ c. c < 2 ^ 64 - 1) }
+        ensures fits { Fits self.old.capacity (size self.old.kept.held) }
         ensures stays { Stays (state_of self.old) (state_of self.new) }
         ensures still { StaysDirty (state_of self.old) (state_of self.new) }
         ensures moments { GoesOn (state_of self.old) (state_of self.new) (Images (state_of self.old)) }

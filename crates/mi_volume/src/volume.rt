@@ -4,7 +4,7 @@ ghost use Rattle.std.specs.Option.{option_copied, option_map};
 ghost use Rattle.std.specs.FinMap.{get};
 ghost use Rattle.mi_text.specs.Bytes.{AreBytes};
 ghost use Rattle.mi_text.specs.Next.{next_name};
-ghost use Rattle.mi_volume.specs.Maps.{Map, size, bytes_or_none, IsAbove, HoldsByte};
+ghost use Rattle.mi_volume.specs.Maps.{Map, size, bytes_or_none, IsAbove, Fits, HoldsByte};
 ghost use Rattle.mi_volume.specs.State.{State, Images, ImagesOf, GoesOn, Stays, StaysDirty, Rose};
 ghost use Rattle.mi_volume.specs.Calls.{Writes, Removes, Marks, Syncs};
 
@@ -132,17 +132,18 @@ pub trait Volume {
         ensures moments { GoesOn (state self.old) (state self.new) (ImagesOf name.now (state self.old)) }
         ensures failed { OnErr result (Rose (state self.old) (state self.new)) };
 
-    /// After it, a crash leaves what reads give.
+    /// After it, a crash leaves what reads give, and that fits the capacity.
     fn sync(&mut self) -> Result<(), Failed>
         ensures syncs { told → Syncs (state self.old) (state self.new) result }
         ensures moments { GoesOn (state self.old) (state self.new) (Images (state self.old)) }
         ensures failed { OnErr result (Rose (state self.old) (state self.new)) };
 
     /// The capacity less the size of what is held, or None where no capacity is told. A told capacity is below the
-    /// greatest u64.
+    /// greatest u64, and what is held doesn't pass it.
     fn free(&mut self) -> Result<Option<u64>, Failed>
         ensures value { told → IfOk result (λ n. n ≡ option_map (λ c. c - size (state self.old).held) (state self.old).capacity) }
         ensures small { IfSome (state self.old).capacity (λ c. c < 2 ^ 64 - 1) }
+        ensures fits { told → Fits (state self.old).capacity (size (state self.old).held) }
         ensures stays { told → Stays (state self.old) (state self.new) }
         ensures still { told → StaysDirty (state self.old) (state self.new) }
         ensures moments { GoesOn (state self.old) (state self.new) (Images (state self.old)) }
