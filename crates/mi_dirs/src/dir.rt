@@ -21,5 +21,7 @@ pub(crate) struct Dir {
     pub parent: Option<usize>,
     /// Its target name.
     pub name: Text,
+    /// Its name in the source.
+    pub source: Text,
     pub own: Own,
 }
