@@ -1,15 +1,14 @@
-use Rattle.std.proofs.Common.{◌≡◌, ℕ, suc, ◌<◌, length, true, List, [], Some, None, Err, Ok, refl, sym, ap, subst, ◌∙◌}
-use Rattle.std.specs.Prelude.{is_none, option_map, Option, Result}
+use Rattle.std.proofs.Common.{◌≡◌, ℕ, suc, ◌<◌, length, true, List, [], Some, Ok, refl, sym, ap, subst, ◌∙◌}
+use Rattle.std.specs.Prelude.{is_none, option_map}
 use Rattle.std.proofs.lemmas.Result.{err_from_is_err_and}
 use Rattle.mi_dirs.specs.declared.dir.Dir.{Dir}
-use Rattle.mi_dirs.specs.declared.fault.DirFault.{DirFault}
 use Rattle.mi_dirs.specs.declared.fault.DirFault.TheVariants.{Cycle, BadPath}
 use Rattle.mi_dirs.specs.Chains.{ends_in}
 use Rattle.mi_dirs.specs.Order.{parent_in, IsOrder, IsFirstEndless}
 use Rattle.mi_dirs.specs.Places.{Place, first_row, parent_at}
 use Rattle.mi_dirs.specs.Rows.{given, places_of, resolved}
 use Rattle.mi_dirs.specs.Faults.{row_number, judged, IsEndless}
-use Rattle.mi_dirs.specs.Answers.{Answers, IfCycle}
+use Rattle.mi_dirs.specs.Answers.{IfCycle}
 use Rattle.mi_dirs.specs.Sources.{sources_in}
 use Rattle.mi_dirs.specs.Views.{places_in}
 use Rattle.mi_dirs.proofs.ResolveLemmas.{seen_rows, row_order, row_ends, row_endless, cycle_is, cycle_endless, faults_on, fault_is, dirs_order, dirs_ends, targets_in, places_made, fault_found, keeps}

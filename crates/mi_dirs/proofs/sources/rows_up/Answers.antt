@@ -1,4 +1,4 @@
-use Rattle.std.proofs.Common.{◌≡◌, ℕ, ◌<◌, ◌-◌, length, List, [], ◌∷◌, ◌++◌, Some, None, true, sym, ap, subst, ◌∙◌, arith, vec_len}
+use Rattle.std.proofs.Common.{◌≡◌, ℕ, ◌<◌, ◌-◌, length, List, [], Some, true, sym, ap, subst, ◌∙◌, arith, vec_len}
 use Rattle.mi_dirs.specs.Chains.{ends_in}
 use Rattle.mi_dirs.specs.Paths.{AllBelow}
 use Rattle.mi_dirs.specs.Places.{bound, parent_at}
