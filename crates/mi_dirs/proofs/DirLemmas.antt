@@ -87,9 +87,9 @@ parents_are_rows rows row p e = of_row (slice_get rows row) e
     of_row None h = absurd cc
     of_row (Some r) h = of_parent r r.parent h
 
-pub bare_made : (rows : List DirRow) (values : Values) (remembered : List (Name × List ℕ)) (r : DirRow) (parent : Option ℕ) (own : Own) (dir : Dir)
-    → dir ≡ record { key = r.key; parent = parent; name = r.target; own = own } → parent ≡ parent_of rows r → own_view own ≡ own_of values remembered r.key → bare_dir dir ≡ bare rows values remembered r
-bare_made rows values remembered r parent own dir is up mine =
+pub bare_made : (rows : List DirRow) (values : Values) (remembered : List (Name × List ℕ)) (r : DirRow) (source : List ℕ) (parent : Option ℕ) (own : Own) (dir : Dir)
+    → dir ≡ record { key = r.key; parent = parent; name = r.target; source = source; own = own } → parent ≡ parent_of rows r → own_view own ≡ own_of values remembered r.key → bare_dir dir ≡ bare rows values remembered r
+bare_made rows values remembered r source parent own dir is up mine =
     ap bare_dir is
     ∙ ap (λ (p : Option ℕ). let q : Place = record { key = r.key; parent = p; name = r.target; own = own_view own; source = [] } in q) up
     ∙ ap (λ (o : Option (Option (List ℕ))). let q : Place = record { key = r.key; parent = parent_of rows r; name = r.target; own = o; source = [] } in q) mine

@@ -1,5 +1,5 @@
 -- Ways up the parents, and rows that are placed.
-use Rattle.std.proofs.Common.{◌≡◌, ℕ, zero, suc, ◌+◌, ◌-◌, ◌<◌, eqb, Bool, true, false, List, [], ◌∷◌, ◌++◌, length, take, get_or, Option, Some, None, refl, sym, ap, subst, ◌∙◌, arith, length-append, add-zero, inl, inr, ◌⊎◌}
+use Rattle.std.proofs.Common.{◌≡◌, ℕ, zero, suc, ◌+◌, ◌-◌, ◌≤◌, ◌<◌, eqb, Bool, true, false, List, [], ◌∷◌, ◌++◌, length, take, get_or, Option, Some, None, refl, sym, ap, subst, ◌∙◌, arith, length-append, add-zero, inl, inr, ◌⊎◌}
 use Rattle.std.specs.Prelude.{slice_get, Contains, MatchOption, IfSome}
 use Rattle.std.specs.Option.{option_flatten}
 use Rattle.std.proofs.Math.ListN.{set, length-set}
@@ -12,7 +12,8 @@ use Rattle.mi_dirs.specs.declared.placing.Placing.{Placing}
 use Rattle.mi_dirs.specs.Chains.{root_or, ends_in}
 use Rattle.mi_dirs.specs.Order.{parent_in, AreRows, IsOrdered}
 use Rattle.mi_dirs.specs.Paths.{LeadsTo, AllBelow, IsPlaced, IsWayUp, ArePlaced, Places}
-use Rattle.mi_dirs.proofs.ChainLemmas.{ends_within}
+use Rattle.mi_dirs.proofs.ChainLemmas.{ends_within, ends_later}
+use Rattle.mi_dirs.proofs.TargetLemmas.{slice_get-set_same}
 
 -- ---- one more row of a way
 
@@ -47,16 +48,51 @@ too_long parent path row next n h e =
     let long : 0 + length path ≡ n = omega arith in
     ap (λ (m : ℕ). ends_in parent m row) (sym long) ∙ ends_behind parent path (Some row) (Some next) 0 h
 
+-- a way that comes back to a row comes back for ever
+comes_back : (parent : ℕ → Option ℕ) (path : List ℕ) (first : Option ℕ) (row k : ℕ) → LeadsTo parent path first (Some row) → k < length path → get_or path k row ≡ row → (more : ℕ) × ((m : ℕ) → ends_in parent (m + suc more) row ≡ ends_in parent m row)
+comes_back parent [] first row k h lt e = absurd (omega arith)
+comes_back parent (x ∷ xs) first row zero h lt e = (
+  length xs,
+  λ m.
+      let next : m + suc (length xs) ≡ suc (m + length xs) = omega arith in
+      ap (λ (n : ℕ). ends_in parent n row) next ∙ ap (λ (r : ℕ). ends_in parent (suc (m + length xs)) r) (sym e) ∙ ends_behind parent xs (parent x) (Some row) m h.1,
+)
+comes_back parent (x ∷ xs) first row (suc k) h lt e = comes_back parent xs (parent x) row k h.1 (omega arith) e
+
+-- a row whose chain ends isn't met again on the way up
+pub no_return : (parent : ℕ → Option ℕ) (path : List ℕ) (first : Option ℕ) (row n : ℕ) → LeadsTo parent path first (Some row) → Contains path row → ends_in parent n row ≡ true → ⊥
+no_return parent path first row n h c ends =
+    let back = comes_back parent path first row c.0 h c.1 c.2 in
+    let late = past back.0 back.1 n in
+    let low : late.0 - n + n ≡ late.0 = let le = late.1 in omega arith in
+    let on : ends_in parent late.0 row ≡ true = subst (λ (m : ℕ). ends_in parent m row ≡ true) low (ends_later parent (late.0 - n) n row ends) in
+    let no : true ≡ false = sym on ∙ late.2 in
+    absurd cc
+  where
+    past : (more : ℕ) → ((m : ℕ) → ends_in parent (m + suc more) row ≡ ends_in parent m row) → (n : ℕ) → (m : ℕ) × (n ≤ m) × (ends_in parent m row ≡ false)
+    past more again zero = (0, omega arith, refl)
+    past more again (suc n) = let before = past more again n in (before.0 + suc more, (let le = before.1 in omega arith), again before.0 ∙ before.2)
+
 -- ---- rows that are placed
 
 pub apart : (k n : ℕ) → k < suc n → eqb k n ≡ false → k < n
 apart k n lt e = grind (arith, nat_tests)
 
-pub ordered-push : (parent : ℕ → Option ℕ) (n : ℕ) (order : List ℕ) (row : ℕ) → IsOrdered parent n order → row < n → ((p : ℕ) → parent row ≡ Some p → Contains order p) → IsOrdered parent n (order ++ row ∷ [])
-ordered-push parent n order row h lt up = record {
+pub ordered-push : (parent : ℕ → Option ℕ) (n : ℕ) (order : List ℕ) (row : ℕ) → IsOrdered parent n order → row < n → (Contains order row → ⊥) → ((p : ℕ) → parent row ≡ Some p → Contains order p) → IsOrdered parent n (order ++ row ∷ [])
+ordered-push parent n order row h lt new up = record {
   within = λ k lk. elim (cases_Bool (eqb k (length order))) [
     | inl e ↦ subst (λ (x : ℕ). x < n) (sym (last_is k (eqb-true k (length order) e))) lt
     | inr e ↦ subst (λ (x : ℕ). x < n) (sym (front_is k (below k lk e))) (h.within k (below k lk e))
+  ];
+  once = λ j k lj lk same. elim (cases_Bool (eqb j (length order))) [
+    | inl ej ↦ elim (cases_Bool (eqb k (length order))) [
+      | inl ek ↦ eqb-true j (length order) ej ∙ sym (eqb-true k (length order) ek)
+      | inr ek ↦ absurd (new (stands k (below k lk ek) (sym (front_is k (below k lk ek)) ∙ sym same ∙ last_is j (eqb-true j (length order) ej))))
+    ]
+    | inr ej ↦ elim (cases_Bool (eqb k (length order))) [
+      | inl ek ↦ absurd (new (stands j (below j lj ej) (sym (front_is j (below j lj ej)) ∙ same ∙ last_is k (eqb-true k (length order) ek))))
+      | inr ek ↦ h.once j k (below j lj ej) (below k lk ek) (sym (front_is j (below j lj ej)) ∙ same ∙ front_is k (below k lk ek))
+    ]
   ];
   after = λ k p lk is. elim (cases_Bool (eqb k (length order))) [
     | inl e ↦
@@ -74,6 +110,9 @@ ordered-push parent n order row h lt up = record {
     front_is : (k : ℕ) → k < length order → get_or (order ++ row ∷ []) k 0 ≡ get_or order k 0
     front_is k lk = get_or_append_left order (row ∷ []) 0 k lk
 
+    stands : (k : ℕ) → k < length order → get_or order k 0 ≡ row → Contains order row
+    stands k lk e = subst (Contains order) e (Contains-get_or order k 0 lk)
+
     below : (k : ℕ) → k < length (order ++ row ∷ []) → eqb k (length order) ≡ false → k < length order
     below k lk e = apart k (length order) (let l = length-append order (row ∷ []) in omega arith) e
 
@@ -84,6 +123,13 @@ slice_get-set (x ∷ xs) zero zero v w e = inl refl
 slice_get-set (x ∷ xs) zero (suc k) v w e = inr e
 slice_get-set (x ∷ xs) (suc i) zero v w e = inr e
 slice_get-set (x ∷ xs) (suc i) (suc k) v w e = elim (slice_get-set xs i k v w e) [ inl s ↦ inl (ap suc s) | inr s ↦ inr s ]
+
+slice_get-set_true : (xs : List Bool) (i k : ℕ) → slice_get xs k ≡ Some true → slice_get (set xs i true) k ≡ Some true
+slice_get-set_true [] i k e = e
+slice_get-set_true (x ∷ xs) zero zero e = refl
+slice_get-set_true (x ∷ xs) zero (suc k) e = e
+slice_get-set_true (x ∷ xs) (suc i) zero e = e
+slice_get-set_true (x ∷ xs) (suc i) (suc k) e = slice_get-set_true xs i k e
 
 -- a row whose parent is placed, or that is a root row, may be placed
 parent_placed : (parent : ℕ → Option ℕ) (order : List ℕ) (row : ℕ) (last : Option ℕ) → parent row ≡ last → MatchOption last (Unit {0}) (Contains order) → (p : ℕ) → parent row ≡ Some p → Contains order p
@@ -97,16 +143,22 @@ ends_by_last parent xs order row (Some p) rows lt is h ending =
     ends_within parent xs rows (suc (suc (length xs))) row lt (ap (root_or (ends_in parent (suc (length xs)))) is ∙ ending p h)
 
 pub place_one : {A : Type 0} (parent : ℕ → Option ℕ) (xs : List A) (before after : Placing) (row : ℕ) (last : Option ℕ) → AreRows parent (length xs) → ArePlaced parent (length xs) before → row < length xs
-    → parent row ≡ last → MatchOption last (Unit {0}) (Contains before.order.items) → after.order.items ≡ before.order.items ++ row ∷ [] → after.placed.items ≡ set before.placed.items row true
+    → (Contains before.order.items row → ⊥) → parent row ≡ last → MatchOption last (Unit {0}) (Contains before.order.items) → after.order.items ≡ before.order.items ++ row ∷ [] → after.placed.items ≡ set before.placed.items row true
     → ArePlaced parent (length xs) after
-place_one parent xs before after row last rows h lt is placed order flags = record {
+place_one parent xs before after row last rows h lt new is placed order flags = record {
   size = ap length flags ∙ length-set before.placed.items row true ∙ h.size;
-  ordered = subst (λ (o : List ℕ). IsOrdered parent (length xs) o) (sym order) (ordered-push parent (length xs) before.order.items row h.ordered lt (parent_placed parent before.order.items row last is placed));
+  ordered = subst (λ (o : List ℕ). IsOrdered parent (length xs) o) (sym order) (ordered-push parent (length xs) before.order.items row h.ordered lt new (parent_placed parent before.order.items row last is placed));
   known = λ r e. subst (λ (o : List ℕ). Contains o r) (sym order)
       (elim (slice_get-set before.placed.items row r true true (ap (λ (b : List Bool). slice_get b r) (sym flags) ∙ e)) [
         | inl s ↦ subst (λ (q : ℕ). Contains (before.order.items ++ row ∷ []) q) (sym s) (Contains-push before.order.items row)
         | inr s ↦ Contains-append_left before.order.items (row ∷ []) r (h.known r s)
       ]);
+  marked = λ r c.
+      ap (λ (b : List Bool). slice_get b r) flags
+      ∙ elim (Contains-push_cases before.order.items row r (subst (λ (o : List ℕ). Contains o r) order c)) [
+        | inl old ↦ slice_get-set_true before.placed.items row r (h.marked r old)
+        | inr this ↦ ap (slice_get (set before.placed.items row true)) (sym this) ∙ slice_get-set_same before.placed.items row true (omega (arith, h.size))
+      ];
   ending = λ r c. elim (Contains-push_cases before.order.items row r (subst (λ (o : List ℕ). Contains o r) order c)) [
     | inl old ↦ h.ending r old
     | inr new ↦ subst (λ (q : ℕ). ends_in parent (suc (length xs)) q ≡ true) new (ends_by_last parent xs before.order.items row last rows lt is placed h.ending)
@@ -120,6 +172,7 @@ pub record Goes (parent : ℕ → Option ℕ) (n : ℕ) (before : Placing) (path
   pub leads : LeadsTo parent left first last
   pub below : AllBelow n left
   pub last_placed : MatchOption last (Unit {0}) (Contains now.order.items)
+  pub fresh : (row : ℕ) → Contains left row → Contains now.order.items row → ⊥
   pub placed : ArePlaced parent n now
   pub kept : (row : ℕ) → Contains before.order.items row → Contains now.order.items row
   pub done : (row : ℕ) → Contains path row → Contains left row ⊎ Contains now.order.items row
@@ -132,13 +185,19 @@ goes_on parent xs before path now after left rest row rows h is order flags =
     let low = below-pop (length xs) rest row (subst (AllBelow (length xs)) is h.below) in
     let more : (r : ℕ) → Contains now.order.items r → Contains after.order.items r = λ r c. subst (λ (o : List ℕ). Contains o r) (sym order) (Contains-append_left now.order.items (row ∷ []) r c) in
     let here : Contains after.order.items row = subst (λ (o : List ℕ). Contains o row) (sym order) (Contains-push now.order.items row) in
+    let new : Contains now.order.items row → ⊥ = λ c. h.fresh row (subst (λ (l : List ℕ). Contains l row) (sym is) (Contains-push rest row)) c in
+    let placed_after = place_one parent xs now after row h.last rows h.placed low.1 new popped.1 h.last_placed order flags in
     record {
       first = h.first;
       last = Some row;
       leads = popped.0;
       below = low.0;
       last_placed = here;
-      placed = place_one parent xs now after row h.last rows h.placed low.1 popped.1 h.last_placed order flags;
+      fresh = λ r left c. elim (Contains-push_cases now.order.items row r (subst (λ (o : List ℕ). Contains o r) order c)) [
+        | inl old ↦ h.fresh r (subst (λ (l : List ℕ). Contains l r) (sym is) (Contains-append_left rest (row ∷ []) r left)) old
+        | inr this ↦ no_return parent rest h.first row (suc (length xs)) popped.0 (subst (Contains rest) (sym this) left) (placed_after.ending row here)
+      ];
+      placed = placed_after;
       kept = λ r c. more r (h.kept r c);
       done = λ r c. elim (h.done r c) [
         | inl still ↦ elim (Contains-push_cases rest row r (subst (λ (l : List ℕ). Contains l r) is still)) [
@@ -193,6 +252,7 @@ begins_going parent n before path h way = record {
   leads = way.1.leads;
   below = way.1.below;
   last_placed = last_is_placed before parent n way.1.last h way.1.placed_last;
+  fresh = λ r c placed. let no : Some false ≡ Some true = sym (way.1.unplaced r c) ∙ h.marked r placed in absurd cc;
   placed = h;
   kept = λ r c. c;
   done = λ r c. inl c;

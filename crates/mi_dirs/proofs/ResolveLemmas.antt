@@ -1,6 +1,6 @@
 -- Directories that are made of the rows of a table.
 use Rattle.std.proofs.Common.{◌≡◌, ℕ, suc, ◌≤◌, ◌<◌, true, cond, List, [], ◌∷◌, length, map, Option, Some, None, refl, sym, ap, subst, ◌∙◌, arith}
-use Rattle.std.specs.Prelude.{slice_get, option_map, option_and_then, is_none, String, Err}
+use Rattle.std.specs.Prelude.{slice_get, option_map, option_and_then, is_none, String, Result, Err}
 use Rattle.std.specs.Option.{option_or}
 use Rattle.std.specs.declared.alloc.Global.{Global}
 use Rattle.std.specs.BTreeMap.{BTreeMap, get_by_text}
@@ -16,13 +16,15 @@ use Rattle.mi_dirs.specs.declared.fault.DirError.TheVariants as error
 use Rattle.mi_dirs.specs.Chains.{ends_in}
 use Rattle.mi_dirs.specs.Order.{parent_in, AreRows, IsOrder, IsFirstEndless}
 use Rattle.mi_dirs.specs.Places.{Place, parent_at, target_at, first_row, is_named, row_of}
-use Rattle.mi_dirs.specs.Rows.{parent_of, row_parent, row_with, Given, places_from, places_of}
+use Rattle.mi_dirs.specs.Rows.{parent_of, row_parent, row_with, source_name, source_at, Given, places_from, places_of}
 use Rattle.mi_dirs.specs.Faults.{row_number, cycle_fault, path_fault, dir_fault, IsEndless}
-use Rattle.mi_dirs.specs.Answers.{IfFault, IfCycle}
-use Rattle.mi_dirs.specs.Views.{places_in, with_row_own, bare, bare_dir, OwnFolders}
+use Rattle.mi_dirs.specs.Answers.{Answers, IfFault, IfCycle}
+use Rattle.mi_dirs.specs.Views.{places_in, with_row_own, bare, bare_dir, OwnFolders, TargetFolders}
+use Rattle.mi_dirs.specs.Sources.{source_names, sources_in}
 use Rattle.mi_dirs.specs.Keeps.{Keeps}
 use Rattle.mi_dirs.proofs.TargetLemmas.{length-places_in, same_function}
-use Rattle.mi_dirs.proofs.DirLemmas.{parent_in-parents, parents_are_rows, parent_at-places_of, length-places_from}
+use Rattle.mi_dirs.proofs.DirLemmas.{parent_in-parents, parents_are_rows, parent_at-places_of, length-places_from, places_same}
+use Rattle.mi_dirs.proofs.SourceLemmas.{slice_get-sources, given_source}
 use Rattle.mi_dirs.proofs.FaultLemmas.{path_fault_is, no_cycle, first_cycle, is_endless, target_at-sources, with_none_own}
 
 -- ---- the parents of the rows, as the program has them
@@ -74,6 +76,10 @@ no_cycle_in g h = no_cycle (places_of g) (λ row lt.
     ∙ h row (subst (λ (n : ℕ). row < n) (places_size g) lt))
 
 -- a fault that a `?` hands on
+pub fault_is : {X : Type 0} (e : DirError) (answer : Result X DirFault) (Q : DirFault → Type 0) → ((f : DirFault) → Q f → answer ≡ Err f) → IfFault {X = Unit {0}} (Err e) Q → Answers (Err e) answer
+fault_is error.NoMemory answer Q h k = tt
+fault_is (error.Fault f) answer Q h k = h f k
+
 pub faults_on : (e : DirError) (P Q : DirFault → Type 0) → ((f : DirFault) → Q f → P f) → IfFault {X = Unit {0}} (Err e) Q → IfFault {X = Unit {0}} (Err e) P
 faults_on error.NoMemory P Q h k = tt
 faults_on (error.Fault f) P Q h k = h f k
@@ -104,6 +110,14 @@ module _ (g : Given) (ds : List Dir) (made : map bare_dir ds ≡ map (bare g.row
       ap (λ (f : ℕ → Option ℕ). ends_in f (suc (length ds)) row) dirs_parents
       ∙ ap (λ (n : ℕ). ends_in (row_parent g.rows) (suc n) row) dirs_size
       ∙ h row (subst (λ (n : ℕ). row < n) dirs_size lt)
+
+  sources_given : (folder : List ℕ) → folder ≡ g.folder → source_names ds ≡ map (source_name g.short) g.rows → (row : ℕ) → row < length g.rows → slice_get (sources_in folder ds) row ≡ Some (source_at g.rows g.folder g.short row)
+  sources_given folder is names = λ row lt.
+      slice_get-sources ds folder row (subst (λ (n : ℕ). row < n) (sym dirs_size) lt)
+      ∙ ap (λ (s : List ℕ). Some s) (given_source g.rows ds folder g.short row dirs_parents names dirs_size ∙ ap (λ (f : List ℕ). source_at g.rows f g.short row) is)
+
+  pub places_made : (folder : List ℕ) → folder ≡ g.folder → source_names ds ≡ map (source_name g.short) g.rows → places_in ds (sources_in folder ds) ≡ places_of g
+  places_made folder is names = places_same g ds (sources_in folder ds) made (sources_given folder is names)
 
 keys_same : (g : Given) (q : Name) (n : ℕ) (rs : List DirRow) → first_row (λ (r : DirRow). same_name q r.key) rs ≡ first_row (is_named q) (places_from g n rs)
 keys_same g q n [] = refl
@@ -136,16 +150,16 @@ fault_found g ds ss found ends places size h =
     ap (λ (o : Option DirFault). option_or o (path_fault (places_of g))) (no_cycle_in g ends) ∙ ap path_fault (sym places) ∙ found_fault ds ss found size h
 
 pub keeps : (g : Given) (ds : List Dir) (ss : List (List ℕ)) (index : BTreeMap (String Global) ℕ) (order : List ℕ) (found : List (Option (List ℕ)))
-    → (made : map bare_dir ds ≡ map (bare g.rows g.values g.remembered) g.rows) → places_in ds ss ≡ places_of g → length ss ≡ length g.rows → ((q : Name) → get_by_text index q ≡ row_with g.rows q)
-    → IsOrder (row_parent g.rows) (length g.rows) order → ((row : ℕ) → row < length g.rows → ends_in (row_parent g.rows) (suc (length g.rows)) row ≡ true) → OwnFolders ds
+    → (made : map bare_dir ds ≡ map (bare g.rows g.values g.remembered) g.rows) → places_in ds ss ≡ places_of g → ((q : Name) → get_by_text index q ≡ row_with g.rows q)
+    → IsOrder (row_parent g.rows) (length g.rows) order → ((row : ℕ) → row < length g.rows → ends_in (row_parent g.rows) (suc (length g.rows)) row ≡ true) → OwnFolders ds → TargetFolders found
     → length found ≡ length ds → ((row : ℕ) → row < length ds → slice_get found row ≡ Some (target_at (places_in ds ss) row)) → first_row is_none found ≡ None
     → Keeps ds ss index order found
-keeps g ds ss index order found made places size by_key in_order ends folders found_size h none = record {
-  sourced = size ∙ sym (dirs_size g ds made);
+keeps g ds ss index order found made places by_key in_order ends folders paths found_size h none = record {
   index = λ q. by_key q ∙ keys_same g q 0 g.rows ∙ ap (λ (ps : List Place). row_of ps q) (sym places);
   order = dirs_order g ds made order in_order;
   ends = dirs_ends g ds made ends;
   folders = folders;
+  paths = paths;
   size = found_size;
   targets = h;
   accepted = found_fault ds ss found found_size h ∙ ap (option_map (λ row. BadPath (row_number row))) none;

@@ -9,7 +9,7 @@ use Rattle.std.proofs.lemmas.List.{length-take-le, get_or-take, get_or_default}
 use Rattle.mi_dirs.specs.declared.dir.Dir.{Dir}
 use Rattle.mi_dirs.specs.declared.dir.Own.{Own}
 use Rattle.mi_dirs.specs.Chains.{ends_in}
-use Rattle.mi_dirs.specs.Order.{IsOrdered, IsOrder}
+use Rattle.mi_dirs.specs.Order.{AreRows, IsOrdered, IsOrder}
 use Rattle.mi_dirs.specs.Places.{Place, parent_at, joined, target_from, target_step, target_at, bound}
 use Rattle.mi_dirs.specs.Views.{own_view, place_of_dir, places_in, with_row_own, IsFolder, TargetFolders}
 use Rattle.mi_dirs.proofs.ChainLemmas.{along_step}
@@ -20,7 +20,7 @@ use Rattle.mi_dirs.proofs.ChainLemmas.{along_step}
 pub record Filled {A : Type 0} (value : ℕ → A) (order : List ℕ) (upto : ℕ) (table : List A) : Type 0 where
   pub at : (k : ℕ) → k < upto → slice_get table (slice_index order k) ≡ Some (value (slice_index order k))
 
-slice_get-set_same : {A : Type 0} (xs : List A) (i : ℕ) (v : A) → i < length xs → slice_get (set xs i v) i ≡ Some v
+pub slice_get-set_same : {A : Type 0} (xs : List A) (i : ℕ) (v : A) → i < length xs → slice_get (set xs i v) i ≡ Some v
 slice_get-set_same [] i v lt = absurd (omega arith)
 slice_get-set_same (x ∷ xs) zero v lt = refl
 slice_get-set_same (x ∷ xs) (suc i) v lt = slice_get-set_same xs i v (omega arith)
@@ -174,6 +174,19 @@ placed_below parent n order i p o le c =
 pub parent_below : (parent : ℕ → Option ℕ) (n : ℕ) (order : List ℕ) (i row : ℕ) → IsOrdered parent n order → i < length order → slice_index order i ≡ row → (o : Option ℕ) → parent row ≡ o → IfSome o (λ p. p < n)
 parent_below parent n order i row h lt is None e = tt
 parent_below parent n order i row h lt is (Some p) e = placed_below parent n order i p h (omega arith) (h.after i p lt (ap parent is ∙ e))
+
+-- the parents that such an order knows are rows
+pub order_rows : (ps : List Place) (n : ℕ) (order : List ℕ) → length ps ≡ n → IsOrder (parent_at ps) n order → AreRows (parent_at ps) n
+order_rows ps n order size h = λ row p e.
+    let lt : row < length ps = has_row ps row p e in
+    let c = h.whole row (omega (arith, size)) in
+    let here : slice_index order c.0 ≡ row = get_or_default order c.0 0 row c.1 ∙ c.2 in
+    parent_below (parent_at ps) n order c.0 row h.ordered c.1 here (Some p) e
+  where
+    has_row : (ps : List Place) (row p : ℕ) → parent_at ps row ≡ Some p → row < length ps
+    has_row [] row p e = absurd cc
+    has_row (q ∷ qs) zero p e = omega arith
+    has_row (q ∷ qs) (suc row) p e = let h = has_row qs row p e in omega arith
 
 -- what the table has of its parent
 pub above_is : {A : Type 0} (parent : ℕ → Option ℕ) (n : ℕ) (order : List ℕ) (value : ℕ → A) (table : List A) (i row : ℕ) (d : A) → IsOrdered parent n order → Filled value order i table → i < length order → slice_index order i ≡ row

@@ -1,4 +1,4 @@
--- What an answer says of a fault; want of memory alone is free.
+-- What an answer says; want of memory alone is free.
 use Rattle.std.specs.Prelude.{◌≡◌, ℕ, Result, Ok, Err}
 use Rattle.mi_dirs.specs.declared.fault.DirFault.{DirFault}
 use Rattle.mi_dirs.specs.declared.fault.DirFault.TheVariants.{Cycle, BadPath}
@@ -11,6 +11,12 @@ abbrev pub IfFault : {X : Type 0} → Result X DirError → (DirFault → Type 0
 IfFault (Ok x) P = Unit {0}
 IfFault (Err error.NoMemory) P = Unit {0}
 IfFault (Err (error.Fault f)) P = P f
+
+-- the answer is exactly this value, or exactly this fault
+abbrev pub Answers : {X : Type 0} → Result X DirError → Result X DirFault → Type 0
+Answers (Ok x) answer = answer ≡ Ok x
+Answers (Err error.NoMemory) answer = Unit {0}
+Answers (Err (error.Fault f)) answer = answer ≡ Err f
 
 -- where the fault is a cycle, this holds of its row, from 0
 abbrev pub IfCycle : DirFault → (ℕ → Type 0) → Type 0

@@ -1,5 +1,5 @@
 -- The first refusal of directories.
-use Rattle.std.specs.Prelude.{◌≡◌, ℕ, suc, ◌+◌, min, not, Bool, false, List, [], ◌∷◌, find, Option, option_map, is_none}
+use Rattle.std.specs.Prelude.{◌≡◌, ℕ, suc, ◌+◌, min, not, Bool, false, List, [], ◌∷◌, find, Option, Some, None, option_map, is_none, Result, Ok, Err}
 use Rattle.std.specs.Option.{option_or}
 use Rattle.mi_dirs.specs.declared.fault.DirFault.{DirFault}
 use Rattle.mi_dirs.specs.declared.fault.DirFault.TheVariants.{Cycle, BadPath}
@@ -32,6 +32,11 @@ path_fault places = option_map (λ row. BadPath (row_number row)) (find (λ row.
 
 abbrev pub dir_fault : List Place → Option DirFault
 dir_fault places = option_or (cycle_fault places) (path_fault places)
+
+-- the directories, or their first refusal
+abbrev pub judged : List Place → Option DirFault → Result (List Place) DirFault
+judged places None = Ok places
+judged places (Some fault) = Err fault
 
 -- no number of steps up from this row is enough
 abbrev pub IsEndless : List Place → ℕ → Type 0

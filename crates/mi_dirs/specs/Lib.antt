@@ -6,5 +6,6 @@ pub mod Rows
 pub mod Views
 pub mod Faults
 pub mod Answers
+pub mod Sources
 pub mod Keeps
 pub mod Kept

@@ -10,11 +10,13 @@ parent_in parents row = option_flatten (slice_get parents row)
 abbrev pub AreRows : (ℕ → Option ℕ) → ℕ → Type 0
 AreRows parent rows = (row p : ℕ) → parent row ≡ Some p → p < rows
 
+-- rows, none of them twice, each behind its parent
 pub record IsOrdered (parent : ℕ → Option ℕ) (rows : ℕ) (order : List ℕ) : Type 0 where
   pub within : (k : ℕ) → k < length order → slice_index order k < rows
+  pub once : (j k : ℕ) → j < length order → k < length order → slice_index order j ≡ slice_index order k → j ≡ k
   pub after : (k p : ℕ) → k < length order → parent (slice_index order k) ≡ Some p → Contains (take k order) p
 
--- an order of all rows
+-- each row exactly once, behind its parent
 pub record IsOrder (parent : ℕ → Option ℕ) (rows : ℕ) (order : List ℕ) : Type 0 where
   pub ordered : IsOrdered parent rows order
   pub whole : (row : ℕ) → row < rows → Contains order row

@@ -1,5 +1,5 @@
 -- The way from a row up its parents, and the rows that are placed so far.
-use Rattle.std.specs.Prelude.{◌≡◌, ℕ, suc, ◌<◌, Bool, true, List, [], ◌∷◌, length, Option, Some, None, slice_get, Contains}
+use Rattle.std.specs.Prelude.{◌≡◌, ℕ, suc, ◌<◌, Bool, true, false, List, [], ◌∷◌, length, Option, Some, None, slice_get, Contains}
 use Rattle.mi_dirs.specs.Chains.{ends_in}
 use Rattle.mi_dirs.specs.Order.{IsOrdered}
 use Rattle.mi_dirs.specs.declared.placing.Placing.{Placing}
@@ -18,11 +18,12 @@ abbrev pub IsPlaced : List Bool → Option ℕ → Type 0
 IsPlaced placed None = Unit {0}
 IsPlaced placed (Some row) = slice_get placed row ≡ Some true
 
--- a way up from a row that isn't placed to one that is, or to the end of the chain
+-- a way up over rows that aren't placed to one that is, or to the end of the chain
 pub record IsWayUp (parent : ℕ → Option ℕ) (rows : ℕ) (placed : List Bool) (first : Option ℕ) (path : List ℕ) : Type 0 where
   pub last : Option ℕ
   pub leads : LeadsTo parent path first last
   pub below : AllBelow rows path
+  pub unplaced : (row : ℕ) → Contains path row → slice_get placed row ≡ Some false
   pub placed_last : IsPlaced placed last
 
 -- what the placed rows are: each behind its parent, and with a chain that ends
@@ -30,6 +31,7 @@ pub record ArePlaced (parent : ℕ → Option ℕ) (rows : ℕ) (p : Placing) : 
   pub size : length p.placed.items ≡ rows
   pub ordered : IsOrdered parent rows p.order.items
   pub known : (row : ℕ) → slice_get p.placed.items row ≡ Some true → Contains p.order.items row
+  pub marked : (row : ℕ) → Contains p.order.items row → slice_get p.placed.items row ≡ Some true
   pub ending : (row : ℕ) → Contains p.order.items row → ends_in parent (suc rows) row ≡ true
 
 -- the rows of the path are placed too

@@ -1,5 +1,5 @@
 -- The rows of the Directory table as they are given, and the directories that they define (Directory Table).
-use Rattle.std.specs.Prelude.{ℕ, suc, ◌==◌, Bool, if◌then◌else◌, List, [], ◌∷◌, ◌++◌, length, Option, Some, None, option_and_then, slice_get, codes}
+use Rattle.std.specs.Prelude.{ℕ, suc, ◌==◌, Bool, if◌then◌else◌, List, [], ◌∷◌, ◌++◌, length, Option, Some, None, option_and_then, slice_get, codes, Result}
 use Rattle.std.specs.Option.{option_map_or}
 use Rattle.std.specs.Result.{result_ok}
 use Rattle.std.specs.Str.{bytes_eq}
@@ -9,7 +9,9 @@ use Rattle.mi_text.specs.Path.{folder_of}
 use Rattle.mi_props.specs.Props.{Values, value_in}
 use Rattle.mi_dirs.specs.declared.rows.DirRow.{DirRow}
 use Rattle.mi_dirs.specs.Chains.{along}
+use Rattle.mi_dirs.specs.declared.fault.DirFault.{DirFault}
 use Rattle.mi_dirs.specs.Places.{Folder, Place, bound, first_row}
+use Rattle.mi_dirs.specs.Faults.{dir_fault, judged}
 
 -- the row with this key
 abbrev pub row_with : List DirRow → Name → Option ℕ
@@ -25,10 +27,14 @@ row_parent rows row = option_and_then (parent_of rows) (slice_get rows row)
 abbrev pub source_name : Bool → DirRow → List ℕ
 source_name short row = if short then row.short_source else row.long_source
 
--- the source of a root row is the package's folder; another row's is its parent's and its name, where `.` is the parent's
+-- below a folder by a name, joined by `/`, where `.` is the folder itself
+abbrev pub below_source : List ℕ → List ℕ → List ℕ
+below_source above name = if bytes_eq name (codes ".") then above else above ++ 47 ∷ name
+
+-- the source of a root row is the package's folder; another row's is below its parent's by its name
 abbrev pub source_from : List ℕ → List ℕ → Option (List ℕ) → List ℕ
 source_from folder name None = folder
-source_from folder name (Some above) = if bytes_eq name (codes ".") then above else above ++ 47 ∷ name
+source_from folder name (Some above) = below_source above name
 
 abbrev pub source_step : List DirRow → List ℕ → Bool → ℕ → Option (List ℕ) → List ℕ
 source_step rows folder short row above = option_map_or (λ (r : DirRow). source_from folder (source_name short r) above) (slice_get rows row) []
@@ -76,3 +82,7 @@ places_of g = places_from g 0 g.rows
 
 abbrev pub given : List DirRow → Values → List (Name × Folder) → List ℕ → Bool → Given
 given rows values remembered folder short = record { rows = rows; values = values; remembered = remembered; folder = folder; short = short }
+
+-- the directories that the rows define, or the first row whose chain of parents doesn't end, else the first whose target is refused
+abbrev pub resolved : Given → Result (List Place) DirFault
+resolved g = judged (places_of g) (dir_fault (places_of g))

@@ -3,7 +3,7 @@
 use mi_text::{PathText, Text};
 
 /// What stands for the target of a directory whatever its parent's is.
-#[derive(Debug, Drop)]
+#[derive(Drop)]
 pub(crate) enum Own {
     /// Nothing: the target is made from the parent's.
     Inherited,
@@ -14,12 +14,14 @@ pub(crate) enum Own {
 }
 
 /// A row of the Directory table.
-#[derive(Debug, Drop)]
+#[derive(Drop)]
 pub(crate) struct Dir {
     pub key: Text,
     /// The row of its parent, from 0; None for a root row.
     pub parent: Option<usize>,
     /// Its target name.
     pub name: Text,
+    /// Its name in the source.
+    pub source: Text,
     pub own: Own,
 }

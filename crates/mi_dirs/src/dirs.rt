@@ -1,14 +1,15 @@
 //! Directories as they stand.
 
-ghost use Rattle.std.specs.Prelude.{◌≡◌, ◌↔◌, None, Some, All, IfOk, OnOk, OnErr, IsSome, map};
+ghost use Rattle.std.specs.Prelude.{◌≡◌, ◌↔◌, None, Some, All, IfOk, OnOk, OnErr, IsSome, IfSome, map};
 ghost use Rattle.std.specs.Option.{option_copied};
 ghost use Rattle.std.specs.Result.{result_ok};
 ghost use Rattle.mi_text.specs.Path.{folder_of};
 ghost use Rattle.mi_dirs.specs.Places.{row_of, target_of, source_of, with_own};
-ghost use Rattle.mi_dirs.specs.Rows.{given, parent_of, places_of};
+ghost use Rattle.mi_dirs.specs.Rows.{given, parent_of, source_name, places_of, resolved};
+ghost use Rattle.mi_dirs.specs.Sources.{source_names};
 ghost use Rattle.mi_dirs.specs.Views.{bare, bare_dir, IsFolder, OwnFolders};
-ghost use Rattle.mi_dirs.specs.Faults.{dir_fault, path_fault, IsEndless};
-ghost use Rattle.mi_dirs.specs.Answers.{IfFault, IfCycle};
+ghost use Rattle.mi_dirs.specs.Faults.{path_fault, IsEndless};
+ghost use Rattle.mi_dirs.specs.Answers.{Answers, IfFault, IfCycle};
 
 use crate::dir::{Dir, Own};
 use crate::fault::{DirError, DirFault};
@@ -16,7 +17,7 @@ use crate::index::{folders_by_key, rows_by_key};
 use crate::order::{order_of, row_number};
 use crate::own::{named_folder, own_of, parents_of};
 use crate::rows::DirRow;
-use crate::sources::sources_of;
+use crate::sources::{source_name, source_of};
 use crate::targets::{first_refused, targets_of};
 use mi_props::Props;
 use mi_text::{NoMemory, PathText, Text};
@@ -24,11 +25,12 @@ use std::alloc::Global;
 use std::collections::BTreeMap;
 use std::marker::Model;
 
-/// The directories of a package: the target and the source of each row of its Directory table.
+/// The directories of a package: the target and the source of each row of its Directory table. Sources aren't kept, since
+/// in a long chain their texts would take the square of the table.
 #[derive(Drop)]
 pub struct Dirs {
     rows: Vec<Dir>,
-    sources: Vec<Text>,
+    folder: Text,
     index: BTreeMap<String, usize>,
     order: Vec<usize>,
     targets: Vec<Option<PathText>>,
@@ -49,15 +51,23 @@ impl Model for Dirs {
     ghost invariant = { IsKept };
 }
 
-fn dir_of(alloc: Global, row: &DirRow, parent: Option<usize>, own: Own) -> Result<Dir, NoMemory>
-    ensures { IfOk result (λ d. d ≡ record { key = row.now.key; parent = parent; name = row.now.target; own = own }) }
+fn dir_of(
+    alloc: Global,
+    row: &DirRow,
+    short: bool,
+    parent: Option<usize>,
+    own: Own,
+) -> Result<Dir, NoMemory>
+    ensures { IfOk result (λ d. d ≡ record { key = row.now.key; parent = parent; name = row.now.target; source = source_name short row.now; own = own }) }
 {
     let key = Text::copy_of(alloc, row.key.as_str())?;
     let name = Text::copy_of(alloc, row.target.as_str())?;
+    let source = Text::copy_of(alloc, source_name(row, short))?;
     Ok(Dir {
         key,
         parent,
         name,
+        source,
         own,
     })
 }
@@ -69,17 +79,19 @@ fn dirs_of(
     parents: &[Option<usize>],
     props: &Props,
     remembered: &[(Text, PathText)],
+    short: bool,
 ) -> Result<Vec<Dir>, NoMemory>
     requires parents { parents.now ≡ map (parent_of rows.now) rows.now }
     requires folders { All (λ r. IsFolder r.1) remembered.now }
     ensures dirs { IfOk result (λ v. map bare_dir v.items ≡ map (bare rows.now props.now remembered.now) rows.now) }
+    ensures sources { IfOk result (λ v. source_names v.items ≡ map (source_name short) rows.now) }
     ensures folders { IfOk result (λ v. OwnFolders v.items) }
 {
     let index = folders_by_key(alloc, remembered)?;
     let mut dirs = Vec::new(alloc);
     for (number, row) in rows.iter().enumerate() {
         let own = own_of(alloc, props, remembered, &index, row.key.as_str())?;
-        let dir = dir_of(alloc, row, parents[number], own)?;
+        let dir = dir_of(alloc, row, short, parents[number], own)?;
         dirs.push(dir)?;
     }
     Ok(dirs)
@@ -103,23 +115,21 @@ pub fn resolve(
     short: bool,
 ) -> Result<Dirs, DirError>
     requires { All (λ r. IsFolder r.1) remembered.now }
-    ensures places { IfOk result (λ d. d ≡ places_of (given rows.now props.now remembered.now folder.now short)) }
-    ensures accepted { OnOk result (dir_fault (places_of (given rows.now props.now remembered.now folder.now short)) ≡ None) }
-    ensures refused { IfFault result (λ fault. dir_fault (places_of (given rows.now props.now remembered.now folder.now short)) ≡ Some fault) }
+    ensures resolved { Answers result (resolved (given rows.now props.now remembered.now folder.now short)) }
     ensures endless { IfFault result (λ fault. IfCycle fault (IsEndless (places_of (given rows.now props.now remembered.now folder.now short)))) }
 {
     let index = rows_by_key(alloc, rows)?;
     let parents = parents_of(alloc, rows, &index)?;
     let order = order_of(alloc, &parents)?;
-    let sources = sources_of(alloc, rows, &parents, &order, folder, short)?;
-    let dirs = dirs_of(alloc, rows, &parents, props, remembered)?;
+    let dirs = dirs_of(alloc, rows, &parents, props, remembered, short)?;
     let targets = targets_of(alloc, &dirs, &order, dirs.len(), &Own::Inherited)?;
     if let Some(row) = first_refused(&targets) {
         return Err(DirError::Fault(DirFault::BadPath(row_number(row))));
     }
+    let folder = Text::copy_of(alloc, folder)?;
     Ok(Dirs {
         rows: dirs,
-        sources,
+        folder,
         index,
         order,
         targets,
@@ -127,9 +137,10 @@ pub fn resolve(
 }
 
 impl Dirs {
-    /// The target of a directory, and None where no row has this key. No memory.
+    /// The target of a directory, a folder's path, and None where no row has this key. No memory.
     pub fn target(&self, dir: &str) -> Option<&PathText>
         ensures target { option_copied result ≡ target_of self.now dir.now }
+        ensures folder { IfSome result (λ path. IsFolder path.now) }
         ensures known { IsSome result ↔ IsSome (row_of self.now dir.now) }
     {
         let Some(row) = self.index.get(dir) else {
@@ -141,17 +152,16 @@ impl Dirs {
         }
     }
 
-    /// The folder of a directory in the source, and None where no row has this key. No memory.
-    pub fn source(&self, dir: &str) -> Option<&str>
-        ensures { option_copied result ≡ source_of self.now dir.now }
+    /// The folder of a directory in the source, and None where no row has this key. It is made at each call, from the
+    /// names of the rows up to its root row.
+    pub fn source(&self, alloc: Global, dir: &str) -> Result<Option<Text>, NoMemory>
+        ensures { IfOk result (λ source. source ≡ source_of self.now dir.now) }
     {
         let Some(row) = self.index.get(dir) else {
-            return None;
+            return Ok(None);
         };
-        match self.sources.get(*row) {
-            Some(source) => Some(source.as_str()),
-            None => None,
-        }
+        let source = source_of(alloc, &self.rows, self.folder.as_str(), *row)?;
+        Ok(Some(source))
     }
 
     /// From now on the target of a directory is the folder that a text names, as a custom action of type 35 asks for

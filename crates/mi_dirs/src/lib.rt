@@ -12,8 +12,6 @@ mod placing;
 mod rows;
 mod sources;
 mod targets;
-#[cfg(test)]
-mod tests;
 
 pub use dirs::{Dirs, resolve};
 pub use fault::{DirError, DirFault};

@@ -74,7 +74,9 @@ impl Placing {
     }
 }
 
-/// An order of all rows in which each stands behind its parent, or the first row whose chain of parents doesn't end.
+/// The rows in an order in which each stands exactly once and behind its parent; a row's parent is the number of a row
+/// from 0, and None for a root row (Directory Table, Directory_Parent). Refused with `Cycle` of the first row whose chain
+/// of parents doesn't end, and with nothing else.
 pub fn order_of(alloc: Global, parents: &[Option<usize>]) -> Result<Vec<usize>, DirError>
     requires { AreRows (parent_in parents.now) (length parents.now) }
     ensures order { IfOk result (λ v. IsOrder (parent_in parents.now) (length parents.now) v.items) }

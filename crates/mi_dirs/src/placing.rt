@@ -1,7 +1,7 @@
 //! Rows that are placed so far.
 
 /// Rows in the order in which they were placed, and which rows these are.
-#[derive(Debug, Drop)]
+#[derive(Drop)]
 pub(crate) struct Placing {
     pub order: Vec<usize>,
     pub placed: Vec<bool>,

@@ -3,7 +3,7 @@
 use mi_text::Text;
 
 /// A row of the Directory table: its key, its parent's key, and the names of its DefaultDir.
-#[derive(Debug, Drop)]
+#[derive(Drop)]
 pub struct DirRow {
     pub key: Text,
     /// None, or the row's own key, for a root row.

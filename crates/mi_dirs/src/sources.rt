@@ -1,16 +1,21 @@
 //! Folders of directories in the source.
 
-ghost use Rattle.std.specs.Prelude.{◌≡◌, ◌<◌, [], true, Some, ℕ, length, map, IfOk, IfSome, option_map, slice_index_or, slice_get};
+ghost use Rattle.std.specs.Prelude.{◌≡◌, ◌<◌, [], true, Some, ℕ, List, length, IfOk, OnOk, slice_get};
 ghost use Rattle.mi_dirs.specs.Chains.{ends_in};
-ghost use Rattle.mi_dirs.specs.Order.{IsOrder};
-ghost use Rattle.mi_dirs.specs.Places.{bound};
-ghost use Rattle.mi_dirs.specs.Rows.{parent_of, row_parent, source_name, source_from, source_at};
+ghost use Rattle.mi_dirs.specs.Order.{AreRows};
+ghost use Rattle.mi_dirs.specs.Paths.{AllBelow};
+ghost use Rattle.mi_dirs.specs.Places.{bound, parent_at};
+ghost use Rattle.mi_dirs.specs.Rows.{source_name, below_source};
+ghost use Rattle.mi_dirs.specs.Sources.{source_names, named_step, kept_source, down_to};
+ghost use Rattle.mi_dirs.specs.Views.{places_in};
 
+use crate::dir::Dir;
 use crate::rows::DirRow;
 use mi_text::{NoMemory, Text};
 use std::alloc::Global;
 
-fn source_name(row: &DirRow, short: bool) -> &str
+/// The name of a row in the source.
+pub(crate) fn source_name(row: &DirRow, short: bool) -> &str
     ensures { result.now ≡ source_name short row.now }
 {
     if short {
@@ -20,59 +25,64 @@ fn source_name(row: &DirRow, short: bool) -> &str
     }
 }
 
-// The source of a row by its name and by its parent's source.
-fn source_from(
-    alloc: Global,
-    folder: &str,
-    name: &str,
-    parent: Option<usize>,
-    sources: &[Text],
-) -> Result<Text, NoMemory>
-    requires { IfSome parent (λ p. p < length sources.now) }
-    ensures { IfOk result (λ s. s ≡ source_from folder.now name.now (option_map (λ p. slice_index_or sources.now p []) parent)) }
+// The rows from this one up to the one below its root row.
+fn rows_up(alloc: Global, rows: &[Dir], row: usize) -> Result<Vec<usize>, NoMemory>
+    requires is_row { row < length rows.now }
+    requires parents { AreRows (parent_at (places_in rows.now [])) (length rows.now) }
+    requires ends { (row : ℕ) → row < length rows.now → ends_in (parent_at (places_in rows.now [])) (bound rows.now) row ≡ true }
+    ensures rows { IfOk result (λ path. AllBelow (length rows.now) path.items) }
+    ensures source { IfOk result (λ path. (folder : List ℕ) → kept_source rows.now folder row ≡ down_to (named_step (source_names rows.now) folder) path.items folder) }
 {
-    let Some(parent) = parent else {
-        return Text::copy_of(alloc, folder);
-    };
-    let above = &sources[parent];
-    let mut source = Text::copy_of(alloc, above.as_str())?;
+    let mut path = Vec::new(alloc);
+    let mut at = row;
+    while let Some(parent) = rows[at].parent {
+        path.push(at)?;
+        at = parent;
+    }
+    Ok(path)
+}
+
+// Goes on by a name.
+fn push_name(source: &mut Text, name: &str) -> Result<(), NoMemory>
+    ensures { OnOk result (source.new ≡ below_source source.old name.now) }
+{
     if name != "." {
         source.push_str("/")?;
         source.push_str(name)?;
     }
+    Ok(())
+}
+
+// The source that is reached from a folder by the names of these rows, the last first.
+fn source_down(
+    alloc: Global,
+    rows: &[Dir],
+    folder: &str,
+    path: Vec<usize>,
+) -> Result<Text, NoMemory>
+    requires { AllBelow (length rows.now) path.items }
+    ensures { IfOk result (λ source. source ≡ down_to (named_step (source_names rows.now) folder.now) path.items folder.now) }
+{
+    let mut path = path;
+    let mut source = Text::copy_of(alloc, folder)?;
+    while let Some(row) = path.pop() {
+        push_name(&mut source, rows[row].source.as_str())?;
+    }
     Ok(source)
 }
 
-fn empty_each(alloc: Global, count: usize) -> Result<Vec<Text>, NoMemory>
-    ensures { IfOk result (λ v. length v.items ≡ count) }
-{
-    let mut sources = Vec::new(alloc);
-    for _row in 0..count {
-        sources.push(Text::new(alloc))?;
-    }
-    Ok(sources)
-}
-
-/// The sources of all rows. The order has each row behind its parent.
-pub(crate) fn sources_of(
+/// The source of a row, made of the names of the rows from its root row down to it.
+pub(crate) fn source_of(
     alloc: Global,
-    rows: &[DirRow],
-    parents: &[Option<usize>],
-    order: &[usize],
+    rows: &[Dir],
     folder: &str,
-    short: bool,
-) -> Result<Vec<Text>, NoMemory>
-    requires parents { parents.now ≡ map (parent_of rows.now) rows.now }
-    requires order { IsOrder (row_parent rows.now) (length rows.now) order.now }
-    requires ends { (row : ℕ) → row < length rows.now → ends_in (row_parent rows.now) (bound rows.now) row ≡ true }
-    ensures size { IfOk result (λ v. length v.items ≡ length rows.now) }
-    ensures sources { IfOk result (λ v. (row : ℕ) → row < length rows.now → slice_get v.items row ≡ Some (source_at rows.now folder.now short row)) }
+    row: usize,
+) -> Result<Text, NoMemory>
+    requires is_row { row < length rows.now }
+    requires parents { AreRows (parent_at (places_in rows.now [])) (length rows.now) }
+    requires ends { (row : ℕ) → row < length rows.now → ends_in (parent_at (places_in rows.now [])) (bound rows.now) row ≡ true }
+    ensures { IfOk result (λ source. source ≡ kept_source rows.now folder.now row) }
 {
-    let mut sources = empty_each(alloc, rows.len())?;
-    for row in order {
-        let name = source_name(&rows[*row], short);
-        let source = source_from(alloc, folder, name, parents[*row], &sources)?;
-        sources[*row] = source;
-    }
-    Ok(sources)
+    let path = rows_up(alloc, rows, row)?;
+    source_down(alloc, rows, folder, path)
 }

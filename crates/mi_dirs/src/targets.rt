@@ -109,6 +109,7 @@ pub(crate) fn targets_of(
     requires folders { OwnFolders rows.now }
     requires own_folder { IsFolderOwn own.now }
     ensures size { IfOk result (λ v. length v.items ≡ length rows.now) }
+    ensures folders { IfOk result (λ v. TargetFolders v.items) }
     ensures targets { IfOk result (λ v. (row : ℕ) → row < length rows.now → slice_get v.items row ≡ Some (target_at (with_row_own changed (own_view own.now) (places_in rows.now [])) row)) }
 {
     let mut targets = none_each(alloc, rows.len())?;

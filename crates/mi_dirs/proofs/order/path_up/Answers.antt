@@ -1,6 +1,7 @@
-use Rattle.std.proofs.Common.{◌≡◌, ℕ, suc, ◌<◌, length, Option, Some, None, List, false, sym, ap, subst, ◌∙◌, arith, ◌∷◌, [], ◌++◌, get_or}
-use Rattle.std.specs.Prelude.{IfSome}
+use Rattle.std.proofs.Common.{◌≡◌, ℕ, suc, ◌<◌, length, Option, Some, None, List, false, sym, ap, subst, ◌∙◌, arith, ◌∷◌, [], ◌++◌, get_or, inl, inr}
+use Rattle.std.specs.Prelude.{IfSome, Contains, slice_get}
 use Rattle.std.proofs.lemmas.Option.{slice_get-get_or}
+use Rattle.std.proofs.lemmas.List.Elements.{Contains-push_cases}
 use Rattle.mi_dirs.specs.Order.{parent_in}
 use Rattle.mi_dirs.specs.Paths.{LeadsTo, AllBelow}
 use Rattle.mi_dirs.proofs.PathLemmas.{too_long, leads-push, below-push, if_below, parent_is}
@@ -25,6 +26,10 @@ loop-at-preserved c =
       subst (AllBelow (length parents)) (sym c.in_ok-push.ensures.items) (below-push (length parents) c.loop-at.path.items next c.loop-at.invariant.1 lt),
       if_below (get_or parents next None) (length parents) (λ p e. c.requires.rows next p (up ∙ e)),
       omega (arith, c.in_ok-push.ensures.len, c.if-len-parents.false, c.len.ensures),
+      λ r in_path. elim (Contains-push_cases c.loop-at.path.items next r (subst (λ (p : List ℕ). Contains p r) c.in_ok-push.ensures.items in_path)) [
+        | inl old ↦ c.loop-at.invariant.4 r old
+        | inr this ↦ ap (slice_get c.args.placed.now) (sym this) ∙ slice_get-get_or c.args.placed.now next false (omega (arith, c.requires.size)) ∙ ap Some c.if-placed-next.false
+      ],
     )
 
 pub returns : goal.returns
@@ -39,12 +44,14 @@ returns c =
             last = Some next;
             leads = subst (LeadsTo parent c.loop-at.path.items (Some c.args.row)) w.in-Some.is c.loop-at.invariant.0;
             below = c.loop-at.invariant.1;
+            unplaced = c.loop-at.invariant.4;
             placed_last = slice_get-get_or c.args.placed.now next false (omega (arith, c.requires.size)) ∙ ap Some w.if-placed-next.true;
           }
       | in_default w ↦ record {
         last = None;
         leads = subst (LeadsTo parent c.loop-at.path.items (Some c.args.row)) w.in_default.is c.loop-at.invariant.0;
         below = c.loop-at.invariant.1;
+        unplaced = c.loop-at.invariant.4;
         placed_last = tt;
       }
     ]

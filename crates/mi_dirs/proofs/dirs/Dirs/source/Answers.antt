@@ -1,31 +1,40 @@
-use Rattle.std.proofs.Common.{◌≡◌, ℕ, ◌<◌, length, List, Some, refl, sym, ap, ◌∙◌, arith}
-use Rattle.std.specs.Prelude.{slice_get}
-use Rattle.std.proofs.lemmas.Option.{slice_get_read}
-use Rattle.mi_dirs.specs.Places.{Place, row_of, source_of}
+use Rattle.std.proofs.Common.{◌≡◌, ℕ, ◌<◌, length, List, [], Some, sym, ap, subst, ◌∙◌}
+use Rattle.mi_dirs.specs.declared.dir.Dir.{Dir}
+use Rattle.mi_dirs.specs.Order.{AreRows}
+use Rattle.mi_dirs.specs.Places.{Place, parent_at, row_of, source_of}
+use Rattle.mi_dirs.specs.Sources.{kept_source, sources_in}
 use Rattle.mi_dirs.specs.Views.{places_in}
-use Rattle.mi_dirs.proofs.KeptLemmas.{row_below, source_at_row}
+use Rattle.mi_dirs.proofs.KeptLemmas.{row_below, kept_rows, source_at_row}
+use Rattle.mi_dirs.proofs.SourceLemmas.{slice_get-sources}
 use Rattle.mi_dirs.proofs.dirs.Dirs.source.Goals as goal
 
-pub returns-in-Some-get : goal.returns-in-Some-get
-returns-in-Some-get c =
-    let rows = c.self.inside.rows.items in
-    let sources = c.self.inside.sources.items in
+pub source_of-requires-clause-is_row : goal.source_of-requires-clause-is_row
+source_of-requires-clause-is_row c =
+    let d = c.self.inside in
+    let rows = d.rows.items in
+    let sources = sources_in d.folder rows in
     let dir = c.args.dir.now in
     let row = c.in-Some.row.now in
     let is : row_of (places_in rows sources) dir ≡ Some row = sym (c.in-Some.ensures.value ∙ c.self.invariant.index dir) in
-    let at : slice_get sources row ≡ Some c.in-Some-get.source.now =
-    ap (λ (ss : List (List ℕ)). slice_get ss row) (sym c.deref.ensures.value)
-    ∙ slice_get_read c.deref.result.now (length c.deref.result.now) row c.in-Some-get.source.now refl c.in-Some-get.ensures.lookup.3.0 c.in-Some-get.ensures.lookup.1 in
-    sym (ap (λ (ps : List Place). source_of ps dir) (sym c.self.view_is)
-    ∙ source_at_row rows sources c.self.inside.index c.self.inside.order.items c.self.inside.targets.items c.self.invariant dir row c.in-Some-get.source.now is at
-    ∙ ap (λ (s : List ℕ). Some s) (sym c.as_str.ensures))
+    subst (λ (rs : List Dir). row < length rs) (sym c.deref.ensures.value) (row_below rows sources d.index d.order.items d.targets.items c.self.invariant dir row is)
 
-pub returns-in-None : goal.returns-in-None
-returns-in-None c =
-    let rows = c.self.inside.rows.items in
-    let sources = c.self.inside.sources.items in
+pub source_of-requires-clause-parents : goal.source_of-requires-clause-parents
+source_of-requires-clause-parents c =
+    let d = c.self.inside in
+    let rows = d.rows.items in
+    subst (λ (rs : List Dir). AreRows (parent_at (places_in rs [])) (length rs)) (sym c.deref.ensures.value) (kept_rows rows (sources_in d.folder rows) d.index d.order.items d.targets.items c.self.invariant)
+
+pub returns : goal.returns
+returns c =
+    let d = c.self.inside in
+    let rows = d.rows.items in
+    let sources = sources_in d.folder rows in
     let dir = c.args.dir.now in
     let row = c.in-Some.row.now in
+    let source = c.in_ok-source.source in
     let is : row_of (places_in rows sources) dir ≡ Some row = sym (c.in-Some.ensures.value ∙ c.self.invariant.index dir) in
-    let lt : row < length rows = row_below rows sources c.self.inside.index c.self.inside.order.items c.self.inside.targets.items c.self.invariant dir row is in
-    absurd (omega (arith, c.in-None.ensures.lookup.3, c.self.invariant.sourced, ap length c.deref.ensures.value))
+    let lt : row < length rows = row_below rows sources d.index d.order.items d.targets.items c.self.invariant dir row is in
+    let made : source ≡ kept_source rows d.folder row = c.in_ok-source.ensures ∙ ap (λ (rs : List Dir). kept_source rs c.as_str.result.now row) c.deref.ensures.value ∙ ap (λ (f : List ℕ). kept_source rows f row) c.as_str.ensures in
+    sym (ap (λ (ps : List Place). source_of ps dir) (sym c.self.view_is)
+    ∙ source_at_row rows sources d.index d.order.items d.targets.items c.self.invariant dir row (kept_source rows d.folder row) is (slice_get-sources rows d.folder row lt)
+    ∙ ap (λ (s : List ℕ). Some s) (sym made))

@@ -3,13 +3,14 @@ use Rattle.std.specs.Prelude.{slice_get, is_some}
 use Rattle.std.proofs.lemmas.Option.{slice_get_read}
 use Rattle.mi_dirs.specs.Places.{Place, row_of, target_at}
 use Rattle.mi_dirs.specs.Views.{places_in}
+use Rattle.mi_dirs.specs.Sources.{sources_in}
 use Rattle.mi_dirs.proofs.KeptLemmas.{row_below, has_a_target, some_same, not_none}
 use Rattle.mi_dirs.proofs.dirs.Dirs.target.Goals as goal
 
 pub returns-in-Some-get-clause-known : goal.returns-in-Some-get-clause-known
 returns-in-Some-get-clause-known c =
     let rows = c.self.inside.rows.items in
-    let sources = c.self.inside.sources.items in
+    let sources = sources_in c.self.inside.folder rows in
     let dir = c.args.dir.now in
     let row = c.in-Some.row.now in
     let is : row_of (places_in rows sources) dir ≡ Some row = sym (c.in-Some.ensures.value ∙ c.self.invariant.index dir) in
@@ -24,7 +25,7 @@ returns-in-Some-get-clause-known c =
 pub returns-in-None-clause-target : goal.returns-in-None-clause-target
 returns-in-None-clause-target c =
     let rows = c.self.inside.rows.items in
-    let sources = c.self.inside.sources.items in
+    let sources = sources_in c.self.inside.folder rows in
     let dir = c.args.dir.now in
     let row = c.in-Some.row.now in
     let is : row_of (places_in rows sources) dir ≡ Some row = sym (c.in-Some.ensures.value ∙ c.self.invariant.index dir) in
@@ -34,7 +35,7 @@ returns-in-None-clause-target c =
 pub returns-in-None-clause-known : goal.returns-in-None-clause-known
 returns-in-None-clause-known c =
     let rows = c.self.inside.rows.items in
-    let sources = c.self.inside.sources.items in
+    let sources = sources_in c.self.inside.folder rows in
     let dir = c.args.dir.now in
     let row = c.in-Some.row.now in
     let is : row_of (places_in rows sources) dir ≡ Some row = sym (c.in-Some.ensures.value ∙ c.self.invariant.index dir) in

@@ -1,8 +1,11 @@
 use Rattle.std.proofs.Common.{length, subst, arith, refl}
 use Rattle.mi_dirs.specs.Order.{parent_in}
 use Rattle.mi_dirs.specs.Paths.{AllBelow}
-use Rattle.mi_dirs.proofs.PathLemmas.{goes_on, below-pop, nothing_left, all_placed}
+use Rattle.mi_dirs.proofs.PathLemmas.{begins_going, goes_on, below-pop, nothing_left, all_placed}
 use Rattle.mi_dirs.proofs.placing.Placing.place.Goals as goal
+
+pub loop-row-init : goal.loop-row-init
+loop-row-init c = begins_going (parent_in c.args.parents.now) (length c.args.parents.now) c.args.self c.args.path.items c.requires.placed c.requires.way
 
 pub index_mut-requires : goal.index_mut-requires
 index_mut-requires c =
