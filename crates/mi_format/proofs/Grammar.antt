@@ -12,7 +12,7 @@ use Rattle.mi_format.specs.Value.{meaning}
 use Rattle.mi_format.specs.Expansion.{IsExpansion, expand_of}
 use Rattle.mi_format.proofs.OneScan.{either_kind, open_is, ends, plain, opens, within, single_some, group_some, inside_closes, inside_plain, inside_opens, whole_plain, whole_group, whole_alone, either_read}
 
-kinds_same : (j k : Kind) → same_kind j k ≡ true → j ≡ k
+pub kinds_same : (j k : Kind) → same_kind j k ≡ true → j ≡ k
 kinds_same Bracket Bracket e = refl
 kinds_same Brace Brace e = refl
 kinds_same Bracket Brace e = absurd cc
@@ -24,7 +24,7 @@ close_is k (Escape c) e = absurd cc
 close_is k (Open j) e = absurd cc
 close_is k (Close j) e = ap Close (kinds_same j k e)
 
-closes_itself : (k : Kind) → closes k (Close k) ≡ true
+pub closes_itself : (k : Kind) → closes k (Close k) ≡ true
 closes_itself Bracket = refl
 closes_itself Brace = refl
 
@@ -113,7 +113,7 @@ whole_is (suc n) (t ∷ ts) le =
     moved : {p : Pieces} → p ≡ whole_in (suc n) (t ∷ ts) → IsWhole p → tokens_in p ≡ t ∷ ts → IsWhole (whole_in (suc n) (t ∷ ts)) × (tokens_in (whole_in (suc n) (t ∷ ts)) ≡ t ∷ ts)
     moved is h e = (subst IsWhole is h, ap tokens_in (sym is) ∙ e)
 
-whole_only : (p : Pieces) (n : ℕ) → IsWhole p → length (tokens_in p) ≤ n → whole_in n (tokens_in p) ≡ p
+pub whole_only : (p : Pieces) (n : ℕ) → IsWhole p → length (tokens_in p) ≤ n → whole_in n (tokens_in p) ≡ p
 whole_only End zero h le = refl
 whole_only End (suc n) h le = refl
 whole_only (Single t rest) zero h le = absurd (omega arith)

@@ -1,6 +1,10 @@
 mod TokenLemmas
 mod MarkLemmas
+mod KeptLemmas
 mod OneScan
 pub mod Grammar
 mod PartLemmas
-mod Depth
+mod DepthLemmas
+mod StepLemmas
+mod ValueLemmas
+mod LawLemmas

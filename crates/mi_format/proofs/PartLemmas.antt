@@ -11,12 +11,11 @@ use Rattle.mi_format.specs.declared.token.Token.{Token}
 use Rattle.mi_format.specs.declared.token.Token.TheVariants.{Open}
 use Rattle.mi_format.specs.declared.part.Brackets.{Brackets}
 use Rattle.mi_format.specs.declared.part.Brackets.TheVariants.{Unnamed, Full, Empty}
-use Rattle.mi_format.specs.declared.part.Part.{Part}
 use Rattle.mi_format.specs.Tokens.{opened, closes, shown, tokens}
 use Rattle.mi_format.specs.Groups.{Pieces, End, Single, Group, marked}
 use Rattle.mi_format.specs.Value.{named, Meaning, bracket, is_nothing, brace, group, beside, meaning}
 use Rattle.mi_format.specs.Scan.{Maker, Frame, State, start, texted, begun, step_on, step, closed, scan, passes, scan_passes}
-use Rattle.mi_format.specs.State.{both, of_value, part_bracket, part_brace, part_group, plain, part_beside, parts}
+use Rattle.mi_format.specs.State.{Part, both, of_value, part_bracket, part_brace, part_group, plain, part_beside, parts}
 use Rattle.mi_format.specs.Expansion.{expand_of}
 use Rattle.mi_format.proofs.OneScan.{◌then◌, pieces, one_scan}
 

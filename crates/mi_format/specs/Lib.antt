@@ -3,6 +3,9 @@ pub mod Tokens
 pub mod Groups
 pub mod Value
 pub mod Expansion
+pub mod Answers
 pub mod Scan
 pub mod State
+pub mod Bare
+pub mod Kept
 pub mod Marks

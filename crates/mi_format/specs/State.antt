@@ -1,4 +1,4 @@
--- What the program makes of tokens: a text, and a word on what the brackets directly in it name.
+-- What is made of tokens in one scan: a text, and a word on what the brackets directly in it name.
 use Rattle.std.specs.Prelude.{ℕ, if◌then◌else◌, List, [], ◌∷◌, ◌++◌, Option, Some, None, codes}
 use Rattle.std.specs.Str.{bytes_eq}
 use Rattle.mi_text.specs.Lookups.{Lookups}
@@ -6,10 +6,13 @@ use Rattle.mi_format.specs.declared.token.Kind.{Kind}
 use Rattle.mi_format.specs.declared.token.Kind.TheVariants.{Bracket, Brace}
 use Rattle.mi_format.specs.declared.part.Brackets.{Brackets}
 use Rattle.mi_format.specs.declared.part.Brackets.TheVariants.{Unnamed, Full, Empty}
-use Rattle.mi_format.specs.declared.part.Part.{Part}
 use Rattle.mi_format.specs.Tokens.{shown}
 use Rattle.mi_format.specs.Value.{named, is_nothing}
 use Rattle.mi_format.specs.Scan.{Maker}
+
+pub record Part : Type 0 where
+  pub text : List ℕ
+  pub brackets : Brackets
 
 abbrev pub both : Brackets → Brackets → Brackets
 both Unnamed b = b

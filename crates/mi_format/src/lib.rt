@@ -2,16 +2,19 @@
 //! Formatted; how braces, nested marks, lone marks and unknown names count is this project's own).
 #![tactic(auto)]
 
+mod depth;
+mod error;
 mod escape;
 mod expansion;
+mod kept;
+mod laws;
 mod naming;
 mod part;
-mod parts;
 mod scan;
 mod steps;
-#[cfg(test)]
-mod tests;
 mod token;
 mod tokens;
 
-pub use expansion::{FormatError, expand};
+pub use error::{FormatError, FormatFault, LimitError, LimitFault};
+pub use expansion::{expand, expand_within};
+pub use laws::expansion_is_by_whole_groups;

@@ -3,7 +3,7 @@
 use mi_text::Text;
 
 /// What the brackets directly in a text name, those of `[~]` aside.
-#[derive(Clone, Copy, Debug, PartialEq, Eq)]
+#[derive(Clone, Copy)]
 pub(crate) enum Brackets {
     /// None names anything.
     Unnamed,
@@ -13,9 +13,10 @@ pub(crate) enum Brackets {
     Empty,
 }
 
-/// An expanded text.
-#[derive(Debug, Drop)]
-pub(crate) struct Part {
-    pub text: Text,
+/// What is kept of an expanded text.
+#[derive(Drop)]
+pub(crate) struct Kept {
+    /// The text, and None where it is longer than is kept.
+    pub text: Option<Text>,
     pub brackets: Brackets,
 }

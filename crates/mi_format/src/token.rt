@@ -1,7 +1,7 @@
 //! Characters, escapes and marks of formatted text.
 
 /// The two kinds of groups.
-#[derive(Clone, Copy, Debug, PartialEq, Eq)]
+#[derive(Clone, Copy, PartialEq, Eq)]
 pub(crate) enum Kind {
     /// `[` and `]`
     Bracket,
@@ -10,7 +10,7 @@ pub(crate) enum Kind {
 }
 
 /// What a text is made of.
-#[derive(Clone, Copy, Debug)]
+#[derive(Clone, Copy)]
 pub(crate) enum Token {
     /// A character that is no mark.
     Char(char),

@@ -1,51 +1,35 @@
-use Rattle.std.proofs.Common.{◌≡◌, ℕ, Bool, true, List, ◌||◌, sym, ap, subst, ◌∙◌}
-use Rattle.mi_format.specs.declared.part.Part.{Part}
-use Rattle.std.specs.Prelude.{Result, Err}
-use Rattle.std.proofs.lemmas.Result.{err_from_is_err_and}
-use Rattle.mi_format.specs.declared.expansion.FormatError.{FormatError}
-use Rattle.mi_format.specs.declared.expansion.FormatError.TheVariants.{TooDeep}
-use Rattle.mi_format.specs.Tokens.{tokens}
-use Rattle.mi_format.specs.Scan.{step, scan, passes, scan_passes}
-use Rattle.mi_format.specs.State.{parts}
-use Rattle.mi_format.specs.Marks.{state_of}
-use Rattle.mi_format.specs.Expansion.{IsExpansion}
-use Rattle.mi_format.proofs.PartLemmas.{expanded}
-use Rattle.mi_format.proofs.Depth.{depth}
-use Rattle.mi_format.proofs.Grammar.{is_expansion, only_expansion}
+-- What is expanded is the value by whole groups, and what is refused is too deep.
+use Rattle.std.proofs.Common.{ℕ, sym, ◌∙◌}
+use Rattle.mi_format.specs.Expansion.{expand_of}
+use Rattle.mi_format.proofs.Grammar.{only_expansion}
+use Rattle.mi_format.proofs.ValueLemmas.{kept_is}
+use Rattle.mi_format.proofs.LawLemmas.{deep_is, fault_is, is_value, not_deep, groups_are}
 use Rattle.mi_format.proofs.expansion.expand.Goals as goal
 
--- the fault that a `?` hands on
-handed_on : {A : Type 0} → (r : Result A FormatError) (y e : FormatError) → r ≡ Err y → y ≡ e → r ≡ Err TooDeep → e ≡ TooDeep
-handed_on r y e is same deep = let one : y ≡ TooDeep = cc in sym same ∙ one
+pub returns-then-deep-clause-value : goal.returns-then-deep-clause-value
+returns-then-deep-clause-value g c = fault_is (g.E.Env.lookups c.args.env.now) c.args.text.now (sym c.in_ok-deep.ensures ∙ c.if-deep.true)
 
-pub returns-in_err-scan-clause-deep : goal.returns-in_err-scan-clause-deep
-returns-in_err-scan-clause-deep g c = λ h.
+pub returns-then-deep-clause-deep : goal.returns-then-deep-clause-deep
+returns-then-deep-clause-deep g c = λ _. deep_is c.args.text.now (sym c.in_ok-deep.ensures ∙ c.if-deep.true)
+
+-- the greatest usize
+abbrev most : ℕ
+most = 18446744073709551615
+
+pub returns-in-Some-clause-value : goal.returns-in-Some-clause-value
+returns-in-Some-clause-value g c =
     let L = g.E.Env.lookups c.args.env.now in
-    let state = state_of c.loop-token.scan in
-    let handed = err_from_is_err_and c.from_residual.result c.from_residual.ensures.1 in
-    let same : c.in_err-scan.field-0.0 ≡ TooDeep = handed_on c.from_residual.result handed.0 c.in_err-scan.field-0.0 handed.1 handed.2 h in
-    let past : passes state c.in-Some.token ≡ true = c.in_err-scan.ensures.deep (ap Err same) in
-    sym (depth L c.args.text.now) ∙ sym c.loop-token.invariant.2
-    ∙ ap (scan_passes (parts L) state) c.in-Some.ensures.0
-    ∙ ap (λ (b : Bool). b || scan_passes (parts L) (step (parts L) state c.in-Some.token) (tokens c.in-Some.behind.now)) past
+    is_value L c.args.text.now c.in-Some.value (sym c.in_ok-deep.ensures ∙ c.if-deep.false) (kept_is most c.in-Some.value (expand_of L c.args.text.now) (sym c.in-Some.is ∙ c.in_ok-kept.ensures)).0
 
-pub returns-clause-value : goal.returns-clause-value
-returns-clause-value g c =
+pub returns-in-Some-clause-groups : goal.returns-in-Some-clause-groups
+returns-in-Some-clause-groups g c =
     let L = g.E.Env.lookups c.args.env.now in
-    let state = state_of c.loop-token.scan in
-    c.in_ok-end.ensures L
-    ∙ ap (λ (p : Part). p.text) (sym (ap (scan (parts L) state) c.in_default.ensures) ∙ c.loop-token.invariant.1)
-    ∙ expanded L c.args.text.now
+    groups_are L c.args.text.now c.in-Some.value (kept_is most c.in-Some.value (expand_of L c.args.text.now) (sym c.in-Some.is ∙ c.in_ok-kept.ensures)).0
 
-pub returns-clause-groups : goal.returns-clause-groups
-returns-clause-groups g c =
+pub returns-in-Some-clause-only : goal.returns-in-Some-clause-only
+returns-in-Some-clause-only g c = λ x e.
     let L = g.E.Env.lookups c.args.env.now in
-    subst (λ (x : List ℕ). IsExpansion L c.args.text.now x) (sym (returns-clause-value g c)) (is_expansion L c.args.text.now)
+    only_expansion L c.args.text.now x e ∙ sym (kept_is most c.in-Some.value (expand_of L c.args.text.now) (sym c.in-Some.is ∙ c.in_ok-kept.ensures)).0
 
-pub returns-clause-only : goal.returns-clause-only
-returns-clause-only g c = λ x e. only_expansion (g.E.Env.lookups c.args.env.now) c.args.text.now x e ∙ sym (returns-clause-value g c)
-
-pub returns-clause-shallow : goal.returns-clause-shallow
-returns-clause-shallow g c =
-    let L = g.E.Env.lookups c.args.env.now in
-    sym (depth L c.args.text.now) ∙ sym c.loop-token.invariant.2 ∙ ap (scan_passes (parts L) (state_of c.loop-token.scan)) c.in_default.ensures
+pub returns-in-Some-clause-shallow : goal.returns-in-Some-clause-shallow
+returns-in-Some-clause-shallow g c = not_deep c.args.text.now (sym c.in_ok-deep.ensures ∙ c.if-deep.false)

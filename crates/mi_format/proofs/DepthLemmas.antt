@@ -1,20 +1,20 @@
 -- A scan passes the bound of open marks exactly where some prefix has more open marks whose groups don't end in it.
-use Rattle.std.proofs.Common.{◌≡◌, ℕ, suc, ◌+◌, ◌≤◌, Bool, true, false, cond, List, [], ◌∷◌, length, map, Option, Some, None, refl, sym, ap, ◌∙◌, arith, inl, inr, ◌&&◌, ◌||◌}
+use Rattle.std.proofs.Common.{◌≡◌, ℕ, suc, ◌+◌, ◌≤◌, Bool, true, false, cond, List, [], ◌∷◌, length, map, reverse, Option, Some, None, refl, sym, ap, ◌∙◌, arith, inl, inr, ◌&&◌, ◌||◌}
 use Rattle.std.specs.Prelude.{nat_le, nat_lt, is_some}
 use Rattle.std.specs.List.{list_any}
+use Rattle.std.proofs.lemmas.List.{length-map, length-reverse}
 use Rattle.std.proofs.lemmas.Bool.{cases_Bool}
 use Rattle.std.proofs.lemmas.Bool.Decides.{nat_tests}
-use Rattle.mi_text.specs.Lookups.{Lookups}
 use Rattle.mi_format.specs.declared.token.Kind.{Kind}
 use Rattle.mi_format.specs.declared.token.Token.{Token}
 use Rattle.mi_format.specs.declared.token.Token.TheVariants.{Open}
 use Rattle.mi_format.specs.Tokens.{opened, closes, tokens}
 use Rattle.mi_format.specs.Groups.{Pieces, End, Single, Group, marked, whole, unended, prefixes, too_deep}
-use Rattle.mi_format.specs.Scan.{Frame, State, start, texted, begun, step_on, step, closed, scan, scan_passes}
-use Rattle.mi_format.specs.State.{parts}
+use Rattle.mi_format.specs.Scan.{Frame, State, start, texted, begun, step_on, step, closed, scan, passes, scan_passes}
+use Rattle.mi_format.specs.Bare.{bare, bare_frame, bare_state}
 use Rattle.mi_format.specs.Expansion.{is_too_deep}
 use Rattle.mi_format.proofs.OneScan.{◌then◌, pieces, one_scan}
-use Rattle.mi_format.proofs.PartLemmas.{carries, passed}
+use Rattle.mi_format.proofs.PartLemmas.{Carries, passed}
 
 -- the state behind tokens
 abbrev after : State Pieces → List Token → State Pieces
@@ -86,7 +86,7 @@ open_marks ts =
 abbrev deepest : State Pieces → List Token → Bool
 deepest s ts = list_any (λ p. nat_lt 64 (length (after s p).frames)) (prefixes ts)
 
-list_any-map : {A B : Type 0} (p : B → Bool) (f : A → B) (xs : List A) → list_any p (map f xs) ≡ list_any (λ x. p (f x)) xs
+pub list_any-map : {A B : Type 0} (p : B → Bool) (f : A → B) (xs : List A) → list_any p (map f xs) ≡ list_any (λ x. p (f x)) xs
 list_any-map p f [] = refl
 list_any-map p f (x ∷ xs) = ap (λ (b : Bool). p (f x) || b) (list_any-map p f xs)
 
@@ -154,9 +154,24 @@ scan_depth (t ∷ ts) s le =
           ∙ scan_depth ts next (omega (arith, change.else_not other)) ∙ sym first
     ]
 
-pub depth : (L : Lookups) (text : List ℕ) → scan_passes (parts L) (start (parts L)) (tokens text) ≡ is_too_deep text
+-- nothing is made of tokens
+carries_nothing : Carries pieces bare (λ p. tt)
+carries_nothing = record { nothing = refl; single = λ t. refl; group = λ k i. refl; beside = λ p q. refl }
+
+pub depth : (text : List ℕ) → scan_passes bare (start bare) (tokens text) ≡ is_too_deep text
 unfolding is_too_deep too_deep
-depth L text =
-    passed pieces (parts L) _ (carries L) (tokens text)
+depth text =
+    passed pieces bare (λ p. tt) carries_nothing (tokens text)
     ∙ scan_depth (tokens text) (start pieces) (omega arith)
     ∙ list_any-same (λ p. nat_lt 64 (length (after (start pieces) p).frames)) (λ p. nat_lt 64 (unended (whole p))) (prefixes (tokens text)) (λ p. ap (nat_lt 64) (sym (open_marks p)))
+
+-- ---- the program's marks
+
+passes_marks : (marks : List Kind) (t : Token) → passes (bare_state marks) t ≡ (is_some (opened t) && nat_le 64 (length marks))
+passes_marks marks t = ap (λ (n : ℕ). is_some (opened t) && nat_le 64 n) (length-map (reverse marks) bare_frame ∙ length-reverse marks)
+
+pub passed_at : (marks : List Kind) (rest behind : List ℕ) (t : Token) (b : Bool) → tokens rest ≡ t ∷ tokens behind → b ≡ (is_some (opened t) && nat_le 64 (length marks)) → b ≡ true
+    → scan_passes bare (bare_state marks) (tokens rest) ≡ true
+passed_at marks rest behind t b is test e =
+    ap (scan_passes bare (bare_state marks)) is
+    ∙ ap (λ (p : Bool). p || scan_passes bare (step bare (bare_state marks) t) (tokens behind)) (passes_marks marks t ∙ sym test ∙ e)
