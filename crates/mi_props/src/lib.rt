@@ -4,8 +4,6 @@
 #![tactic(auto)]
 
 mod props;
-#[cfg(test)]
-mod tests;
 
 pub use mi_text::{is_property_name, is_public_name};
 pub use props::{PropError, PropFault, Props};
