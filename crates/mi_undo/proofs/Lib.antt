@@ -36,4 +36,3 @@ mod InsideLemmas
 mod SweepLemmas
 pub mod SettleSteps
 mod LawLemmas
-mod TestLemmas
