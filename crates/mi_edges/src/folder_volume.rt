@@ -6,22 +6,23 @@ ghost use Rattle.mi_volume.specs.Maps.{IsAbove};
 ghost use Rattle.mi_edges.specs.Count.{Counts};
 
 use crate::disk::Disk;
+use crate::found::Lockable;
 use mi_text::{Bytes, Name, NameError, NoMemory};
 use mi_volume::{Failed, PutFault, VolFault, Volume};
 use std::alloc::Global;
 use std::cmp::Ordering;
 use std::collections::BTreeSet;
+use std::fs::Files;
 use std::io;
 use std::io::ErrorKind;
 use std::ops::Bound;
-use std::rt::Runtime;
 use thiserror::Error;
 
 /// Why a folder can't be a volume.
 #[derive(Clone, Copy, Debug, PartialEq, Eq, Error)]
 pub enum EdgeFault {
-    /// The folder can't be made, or what an earlier process wrote can't be synced.
-    #[error("the folder can't be made or synced")]
+    /// The folder can't be made or locked, or what an earlier process wrote can't be synced.
+    #[error("the folder can't be made, locked or synced")]
     Folder,
     #[error("memory ran out")]
     NoMemory,
@@ -30,9 +31,10 @@ pub enum EdgeFault {
 /// A folder as a volume (this project's own). It tells no content and no capacity.
 ///
 /// A sync reaches each file that was written since the last good one, and each folder in which a file was made
-/// or taken away. Opening it syncs every file where an earlier process has ended without a sync.
+/// or taken away. Opening it writes every file anew and syncs it where an earlier process has ended without a sync.
+/// The folder is locked against other processes for as long as this value lives.
 #[derive(Drop)]
-pub struct FolderVolume<R: Runtime> {
+pub struct FolderVolume<R: Files> {
     disk: Disk<R>,
     // The names that are held, once they were listed.
     held: Option<BTreeSet<String>>,
@@ -42,6 +44,8 @@ pub struct FolderVolume<R: Runtime> {
     removed: Vec<String>,
     // Whether something has changed since then, and a later process would find that.
     unsynced: bool,
+    // Whether the entry that names the folder was synced by this process.
+    placed: bool,
     // Whether the system has failed at a sync. It may have dropped what it was given, so no later sync is good.
     lost: bool,
     faults: u64,
@@ -86,9 +90,14 @@ fn next_above(
     }
 }
 
-impl<R: Runtime> FolderVolume<R> {
-    /// The folder as a volume; it is made where it isn't there. Takes the room for its longest path.
-    pub fn at(rt: R, alloc: Global, folder: &str) -> Result<FolderVolume<R>, EdgeFault> {
+impl<R: Files + Alloc + Clone + Drop> FolderVolume<R> {
+    /// The folder as a volume; each level of its path is made and synced where it isn't there. Takes the folder's lock,
+    /// and the room for its longest path. `Folder` comes for the empty path, where the system refuses one of these
+    /// steps, and where another process has the lock. Nothing is written where the folder is there and synced.
+    pub fn at(rt: R, alloc: Global, folder: &str) -> Result<FolderVolume<R>, EdgeFault>
+    where
+        R::File: Lockable,
+    {
         match Disk::at(rt, alloc, folder) {
             Ok(disk) => Ok(FolderVolume {
                 disk,
@@ -96,6 +105,7 @@ impl<R: Runtime> FolderVolume<R> {
                 written: BTreeSet::new(alloc),
                 removed: Vec::new(alloc),
                 unsynced: false,
+                placed: false,
                 lost: false,
                 faults: 0,
             }),
@@ -159,15 +169,16 @@ impl<R: Runtime> FolderVolume<R> {
         Ok(())
     }
 
-    // Takes down that a name is written, before it is.
+    // Takes down that a name is written, before it is. Where memory is wanting, the list of names is as it was.
     fn note_written(&mut self, alloc: Global, name: &Name) -> Result<(), NoMemory>
         ensures { self.new.faults ≡ self.old.faults }
     {
-        self.written
-            .insert(String::from_str(alloc, name.as_str())?)?;
+        let written = String::from_str(alloc, name.as_str())?;
+        let listed = String::from_str(alloc, name.as_str())?;
+        self.written.insert(written)?;
         if let Some(held) = &mut self.held {
-            held.insert(String::from_str(alloc, name.as_str())?)?;
-            self.removed.reserve(held.len())?;
+            self.removed.reserve(held.len().saturating_add(1))?;
+            held.insert(listed)?;
         }
         Ok(())
     }
@@ -185,14 +196,20 @@ impl<R: Runtime> FolderVolume<R> {
         self.removed.len() < self.removed.capacity() && self.removed.push(text).is_ok()
     }
 
-    // Forgets a name that a failed write has left without a file.
+    // Forgets a name that a failed write has left without a file. Where that can't be told, the names are listed anew.
     fn forget_absent(&mut self, name: &Name)
-        ensures { self.new.faults ≡ self.old.faults }
+        ensures { self.old.faults ≤ self.new.faults }
     {
-        let is_absent = matches!(self.disk.size(name.as_bytes()), Ok(None));
-        if is_absent {
-            if let Some(held) = &mut self.held {
-                let _ = held.remove(name.as_str());
+        match self.disk.size(name.as_bytes()) {
+            Ok(Some(_)) => {}
+            Ok(None) => {
+                if let Some(held) = &mut self.held {
+                    let _ = held.remove(name.as_str());
+                }
+            }
+            Err(_) => {
+                self.count();
+                self.held = None;
             }
         }
     }
@@ -239,9 +256,12 @@ impl<R: Runtime> FolderVolume<R> {
     fn remove_file(&mut self, name: &Name) -> io::Result<()>
         ensures { self.new.faults ≡ self.old.faults }
     {
+        if self.disk.size(name.as_bytes())?.is_none() {
+            return Ok(());
+        }
         self.begin_change()?;
-        let was_there = self.disk.remove(name.as_bytes())?;
-        if self.note_removed(name) || !was_there {
+        self.disk.remove(name.as_bytes())?;
+        if self.note_removed(name) {
             return Ok(());
         }
         let synced = self.disk.sync_parts(name.as_bytes(), None);
@@ -281,7 +301,12 @@ impl<R: Runtime> FolderVolume<R> {
     {
         self.sync_removed()?;
         self.sync_written()?;
-        self.disk.sync_folder()
+        self.disk.sync_folder()?;
+        if !self.placed {
+            self.disk.sync_levels()?;
+            self.placed = true;
+        }
+        Ok(())
     }
 
     // Syncs all changes since the last good sync. Where the system has failed at that once, no other is good.
@@ -307,7 +332,7 @@ impl<R: Runtime> FolderVolume<R> {
     }
 }
 
-impl<R: Runtime> Volume for FolderVolume<R> {
+impl<R: Files + Alloc + Clone + Drop> Volume for FolderVolume<R> {
     ghost use Rattle.mi_edges.specs.Untold.{untold};
 
     ghost told = { ⊥ };

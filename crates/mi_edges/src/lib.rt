@@ -3,17 +3,20 @@
 //! clauses of the traits on counts, on names and on lengths.
 #![tactic(auto)]
 
+mod deferred_volume;
 mod disk;
 mod folder_source;
 mod folder_volume;
+mod found;
+mod levels;
 mod listing;
 mod names;
+mod reading;
 mod std_sink;
 mod syncing;
 
+pub use deferred_volume::DeferredVolume;
 pub use folder_source::FolderSource;
 pub use folder_volume::{EdgeFault, FolderVolume};
+pub use found::Lockable;
 pub use std_sink::StdSink;
-
-#[cfg(test)]
-mod tests;

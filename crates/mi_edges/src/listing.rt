@@ -1,11 +1,11 @@
 //! The names that a folder holds.
 
+use crate::found::{Found, look};
 use crate::names::{LONGEST_NAME, PART_BYTES, push_bytes};
 use std::alloc::Global;
 use std::collections::BTreeSet;
-use std::fs::DirEntry;
+use std::fs::{DirEntry, Files};
 use std::io::ErrorKind;
-use std::rt::Runtime;
 use std::{fs, io};
 
 // A folder of a long name, with the bytes that its path spells.
@@ -13,6 +13,13 @@ use std::{fs, io};
 struct Part {
     path: String,
     bytes: Vec<u8>,
+}
+
+// The names that are listed, and the folders that are still to be.
+#[derive(Drop)]
+struct Lists {
+    names: BTreeSet<String>,
+    parts: Vec<Part>,
 }
 
 // The bytes of the part with those of a file or folder in it; None where its name spells none.
@@ -57,44 +64,94 @@ fn add_folder(alloc: Global, parts: &mut Vec<Part>, part: &Part, entry: &str) ->
     Ok(())
 }
 
-fn list_part<R: Runtime>(
+fn add_entry<R: Files + Alloc>(
     rt: &R,
     alloc: Global,
-    names: &mut BTreeSet<String>,
-    parts: &mut Vec<Part>,
+    lists: &mut Lists,
+    part: &Part,
+    entry: &DirEntry<R, R::A>,
+) -> io::Result<()> {
+    match look(rt, entry.path().as_str())? {
+        Found::File(_) => add_file(
+            alloc,
+            &mut lists.names,
+            part.bytes.as_slice(),
+            entry.file_name(),
+        ),
+        Found::Folder => add_folder(alloc, &mut lists.parts, part, entry.file_name()),
+        Found::Nothing | Found::Other => Ok(()),
+    }
+}
+
+fn add_found<R: Files + Alloc + Drop>(
+    rt: &R,
+    alloc: Global,
+    lists: &mut Lists,
+    part: &Part,
+    found: io::Result<DirEntry<R, R::A>>,
+) -> io::Result<()> {
+    match found {
+        Ok(entry) => add_entry(rt, alloc, lists, part, &entry),
+        // A file of another program, whose path isn't text.
+        Err(error) if matches!(error.kind(), ErrorKind::InvalidFilename) => Ok(()),
+        Err(error) => Err(error),
+    }
+}
+
+fn list_part<R: Files + Alloc + Clone + Drop>(
+    rt: &R,
+    alloc: Global,
+    lists: &mut Lists,
     part: &Part,
 ) -> io::Result<()> {
-    for entry in fs::read_dir(rt, part.path.as_str())? {
-        match entry {
-            Ok(entry) => {
-                let kind = entry.file_type()?;
-                if kind.is_file() {
-                    add_file(alloc, names, part.bytes.as_slice(), entry.file_name())?;
-                } else if kind.is_dir() {
-                    add_folder(alloc, parts, part, entry.file_name())?;
-                }
-            }
-            // A file of another program, whose path isn't text.
-            Err(error) if matches!(error.kind(), ErrorKind::InvalidFilename) => {}
-            Err(error) => return Err(error),
-        }
+    for found in fs::read_dir(rt, part.path.as_str())? {
+        add_found(rt, alloc, lists, part, found)?;
     }
     Ok(())
 }
 
-/// The names of all files in the folder whose path is that of a name. Others are passed over.
-pub fn list<R: Runtime>(rt: &R, alloc: Global, folder: &str) -> io::Result<BTreeSet<String>> {
-    let mut names = BTreeSet::new(alloc);
-    let mut parts = Vec::new(alloc);
-    parts.push(Part {
-        path: String::from_str(alloc, folder)?,
-        bytes: Vec::new(alloc),
-    })?;
+// Lists folders until none is left.
+fn list_all<R: Files + Alloc + Clone + Drop>(
+    rt: &R,
+    alloc: Global,
+    lists: &mut Lists,
+) -> io::Result<()> {
     for _ in 0..u64::MAX {
-        let Some(part) = parts.pop() else {
+        let Some(part) = lists.parts.pop() else {
             break;
         };
-        list_part(rt, alloc, &mut names, &mut parts, &part)?;
+        let listed = list_part(rt, alloc, lists, &part);
+        drop(part);
+        listed?;
     }
-    Ok(names)
+    Ok(())
+}
+
+fn push_top(alloc: Global, parts: &mut Vec<Part>, folder: &str) -> io::Result<()> {
+    let path = String::from_str(alloc, folder)?;
+    let bytes = Vec::new(alloc);
+    parts.push(Part { path, bytes })?;
+    Ok(())
+}
+
+/// The names of all files in the folder whose path is that of a name. Others are passed over.
+pub fn list<R: Files + Alloc + Clone + Drop>(
+    rt: &R,
+    alloc: Global,
+    folder: &str,
+) -> io::Result<BTreeSet<String>> {
+    let mut lists = Lists {
+        names: BTreeSet::new(alloc),
+        parts: Vec::new(alloc),
+    };
+    let listed = match push_top(alloc, &mut lists.parts, folder) {
+        Ok(()) => list_all(rt, alloc, &mut lists),
+        Err(error) => Err(error),
+    };
+    let Lists { names, parts } = lists;
+    drop(parts);
+    match listed {
+        Ok(()) => Ok(names),
+        Err(error) => Err(error),
+    }
 }

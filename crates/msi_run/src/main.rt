@@ -1,8 +1,8 @@
 //! The program: carries out its words on the machine that the folder `machine` holds.
 #![tactic(auto)]
 
-use mi_edges::{EdgeFault, FolderSource, FolderVolume, StdSink};
-use mi_engine::{answer_code, run};
+use mi_edges::{DeferredVolume, EdgeFault, FolderSource, StdSink};
+use mi_engine::{Answer, answer_code, run};
 use std::io::ErrorKind;
 use std::process::ExitCode;
 use std::rt::Clock;
@@ -18,7 +18,7 @@ const NO_MEMORY: u8 = 40;
 /// The status where the arguments can't be read.
 const NO_WORDS: u8 = 42;
 
-/// The status where the machine folder can't be made.
+/// The status where the machine folder can't be made, locked or synced.
 const NO_FOLDER: u8 = 43;
 
 // The words behind the program's name.
@@ -50,16 +50,23 @@ fn words_status(error: &io::Error) -> u8 {
     }
 }
 
+// The status of an answer: that of the folder where it couldn't be had, since the answer then knows only of a fault.
+fn status(refusal: Option<EdgeFault>, answer: &Answer) -> u8 {
+    match refusal {
+        Some(EdgeFault::NoMemory) => NO_MEMORY,
+        Some(EdgeFault::Folder) => NO_FOLDER,
+        None => answer_code(answer),
+    }
+}
+
 fn main(rt: HostRuntime) -> ExitCode {
     let alloc = rt.alloc();
     let words = match words_of(&rt) {
         Ok(words) => words,
         Err(error) => return ExitCode::from(words_status(&error)),
     };
-    let mut volume = match FolderVolume::at(rt, alloc, MACHINE) {
-        Ok(volume) => volume,
-        Err(EdgeFault::NoMemory) => return ExitCode::from(NO_MEMORY),
-        Err(EdgeFault::Folder) => return ExitCode::from(NO_FOLDER),
+    let Ok(mut volume) = DeferredVolume::new(rt, alloc, MACHINE) else {
+        return ExitCode::from(NO_MEMORY);
     };
     let mut source = FolderSource::new(rt);
     let mut sink = StdSink::new(rt);
@@ -72,5 +79,5 @@ fn main(rt: HostRuntime) -> ExitCode {
         &mut sink,
         now,
     );
-    ExitCode::from(answer_code(&answer))
+    ExitCode::from(status(volume.refusal(), &answer))
 }
