@@ -1,24 +1,11 @@
 -- What the steps keep within bounds.
-use Rattle.std.proofs.Common.{◌≡◌, suc, ◌+◌, ◌≤◌, leb, true, List, [], ◌∷◌, Option, Some, refl, subst, arith}
-use Rattle.mi_cond.proofs.Basics.{none_some, guard_some, and_true}
+use Rattle.std.proofs.Common.{◌≡◌, suc, ◌+◌, ◌≤◌, List, [], ◌∷◌, Option, Some, subst, arith}
+use Rattle.mi_cond.proofs.Basics.{none_some, guard_some}
 use Rattle.mi_cond.specs.declared.token.Token.{Token}
 use Rattle.mi_cond.specs.declared.token.Token.TheVariants.{Open, Close, Negate, Join, Operand, Compare as Compares}
 use Rattle.mi_cond.specs.Tree.{Tree, Alone, Compare}
 use Rattle.mi_cond.specs.Lex.{all_ops, is_good}
 use Rattle.mi_cond.specs.Steps.{Frame, fresh, negated, whole, depth, State, Wants, HasValue, WantsRight, Has, depth_at, joins, closes, step}
-use Rattle.mi_cond.specs.Moves.{Mode, Nothing, InWord, InSymbol, InLiteral, AfterMinus, InDigits, AfterTilde, InComparison, wants_value, may_stand}
-use Rattle.mi_cond.specs.Begun.{is_bounded}
-
--- digits that may stand are within the bounds of integers
-pub stands_bounded : (s : State) (m : Mode) → may_stand s m ≡ true → is_bounded m ≡ true
-stands_bounded s Nothing e = refl
-stands_bounded s (InWord w) e = refl
-stands_bounded s (InSymbol k w) e = refl
-stands_bounded s (InLiteral text) e = refl
-stands_bounded s AfterMinus e = refl
-stands_bounded s (InDigits negative n) e = (and_true (wants_value s) (leb n 2147483647) e).1
-stands_bounded s AfterTilde e = refl
-stands_bounded s (InComparison c) e = refl
 
 is_next : (s m n : State) → Some m ≡ Some n → depth_at m ≤ depth_at s + 1 → depth_at n ≤ depth_at s + 1
 is_next s m n e h = let same : m ≡ n = cc in subst (λ (k : State). depth_at k ≤ depth_at s + 1) same h
@@ -56,4 +43,4 @@ step_depth (Has below rows t) (Join o) n e = is_next (Has below rows t) (joins b
 step_depth (Has below rows t) (Compares c) n e = none_some n e
 step_depth (Has below rows t) (Operand v) n e = none_some n e
 
-pub ruleset bounds = (stands_bounded, step_depth)
+pub ruleset bounds = (step_depth)

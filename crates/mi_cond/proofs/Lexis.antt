@@ -48,7 +48,7 @@ exact m (b ∷ bs) = exact_by (λ n. exact n bs) bs (move m b)
 
 -- ---- each token's text makes it
 
-begin-letter : (b : ℕ) → is_letter b ≡ true → begin b ≡ Grows (InWord (b ∷ []))
+pub begin-letter : (b : ℕ) → is_letter b ≡ true → begin b ≡ Grows (InWord (b ∷ []))
 begin-letter b e =
     let n1 : is_blank b ≡ false = grind (arith, nat_tests) in
     let n2 : eqb b 40 ≡ false = grind (arith, nat_tests) in

@@ -15,3 +15,9 @@ pub mod Comparing
 pub mod Rows
 pub mod Digits
 pub mod Laws
+pub mod AnswerLaws
+pub mod FrontLaws
+pub mod FrontFinds
+pub mod Containing
+pub mod ReadLaws
+pub mod Closing

@@ -10,8 +10,7 @@ use Rattle.mi_cond.specs.declared.token.Token.TheVariants.{Open, Close, Negate, 
 use Rattle.mi_cond.specs.Tree.{Tree, Alone, Compare}
 use Rattle.mi_cond.specs.Lex.{all_ops, is_good}
 use Rattle.mi_cond.specs.Grammar.{Reads}
-use Rattle.mi_cond.specs.Texts.{IsRead}
-use Rattle.mi_cond.specs.Place.{Begins, IsPlace, IsConditionFault}
+use Rattle.mi_cond.specs.Place.{Begins, IsRead, IsPlace, IsConditionFault}
 use Rattle.mi_cond.specs.Steps.{Frame, fresh, negated, whole, depth, State, Wants, HasValue, WantsRight, Has, depth_at, joins, closes, step, end_of}
 use Rattle.mi_cond.specs.Moves.{Mode, Nothing, InWord, InSymbol, InLiteral, AfterMinus, InDigits, AfterTilde, InComparison, Move, Grows, Takes, Leaves, Wrong, finished, begin, move, Place, may_stand, within, between, first_at, after, byte, end_in, read_end}
 use Rattle.mi_cond.proofs.Runs.{limited, step_to, run}

@@ -9,8 +9,8 @@ pub mod Code
 pub mod Steps
 pub mod Moves
 pub mod Outcome
-pub mod Begun
 pub mod Brackets
 pub mod States
-pub mod Scans
+pub mod Answer
+pub mod Fronts
 pub mod Texts

@@ -1,5 +1,5 @@
 -- Where a text stops being a condition.
-use Rattle.std.specs.Prelude.{◌<◌, ◌≤◌, ◌++◌, ℕ, suc, length, take, List}
+use Rattle.std.specs.Prelude.{◌≡◌, ◌<◌, ◌≤◌, ◌++◌, ℕ, suc, length, take, List}
 use Rattle.mi_cond.specs.declared.error.CondFault.{CondFault}
 use Rattle.mi_cond.specs.declared.error.CondFault.TheVariants as fault
 use Rattle.mi_cond.specs.declared.error.CondError.{CondError}
@@ -12,6 +12,11 @@ pub record Begins (n : ℕ) (front : List ℕ) : Type 0 where
   pub rest : List ℕ
   pub tree : Tree
   pub reads : Reads n (front ++ rest) tree
+
+-- the text reads as this condition and no other
+pub record IsRead (text : List ℕ) (t : Tree) : Type 0 where
+  pub reads : Reads 64 text t
+  pub only : (n : ℕ) (u : Tree) → Reads n text u → u ≡ t
 
 -- the text is no condition that nests to 64, and its longest front that begins one has this length
 pub record IsPlace (text : List ℕ) (place : ℕ) : Type 0 where

@@ -91,6 +91,13 @@ step (Has below rows t) (token.Join o) = Some (joins below rows t o)
 step (Has below rows t) (token.Compare c) = None
 step (Has below rows t) (token.Operand v) = None
 
+-- the factor that has been read, behind its NOT
+abbrev pub settled_of : State → Option Tree
+settled_of (Wants below f) = None
+settled_of (HasValue below f v) = Some (negated f.nots (Alone v))
+settled_of (WantsRight below f l c) = None
+settled_of (Has below rows t) = Some t
+
 abbrev pub ends : List Frame → List (Option Tree) → Tree → Option Tree
 ends [] rows t = Some (whole all_ops rows t)
 ends (f ∷ below) rows t = None

@@ -1,6 +1,6 @@
 //! The rows of an open bracket.
 
-ghost use Rattle.std.specs.Prelude.{◌≡◌, IfOk};
+ghost use Rattle.std.specs.Prelude.{◌≡◌, IfOk, OnOk};
 ghost use Rattle.mi_cond.specs.declared.node.Operator.TheVariants as op;
 ghost use Rattle.mi_cond.specs.Lex.{all_ops};
 ghost use Rattle.mi_cond.specs.Tree.{joined};
@@ -11,10 +11,11 @@ ghost use Rattle.mi_cond.specs.Brackets.{frame_of};
 use crate::node::{Node, Operator};
 use mi_text::NoMemory;
 use std::alloc::Global;
+use std::mem;
 
 /// An open bracket, or the whole text: the NOT before the next factor, and for each operator the operands
 /// of its row so far.
-#[derive(Debug, Drop)]
+#[derive(Drop)]
 pub struct Bracket {
     pub nots: u32,
     pub ands: Vec<Node>,
@@ -80,79 +81,54 @@ impl Bracket {
     pub fn new(alloc: Global) -> Bracket
         ensures { frame_of result ≡ fresh }
     {
-        Bracket::of(
-            Vec::new(alloc),
-            Vec::new(alloc),
-            Vec::new(alloc),
-            Vec::new(alloc),
-            Vec::new(alloc),
-        )
-    }
-
-    // No NOT waits, and these are the rows.
-    const fn of(
-        ands: Vec<Node>,
-        ors: Vec<Node>,
-        xors: Vec<Node>,
-        eqvs: Vec<Node>,
-        imps: Vec<Node>,
-    ) -> Bracket
-        ensures { result ≡ record { nots = 0; ands = ands; ors = ors; xors = xors; eqvs = eqvs; imps = imps } }
-    {
         Bracket {
             nots: 0,
-            ands,
-            ors,
-            xors,
-            eqvs,
-            imps,
+            ands: Vec::new(alloc),
+            ors: Vec::new(alloc),
+            xors: Vec::new(alloc),
+            eqvs: Vec::new(alloc),
+            imps: Vec::new(alloc),
         }
     }
 
     /// An operator behind an operand: the tighter rows end, and its own goes on.
     #[tactic(auto, using(crate::proofs::Trees::rows))]
-    pub fn joined(self, alloc: Global, operator: Operator, last: Node) -> Result<Bracket, NoMemory>
-        ensures { IfOk result (λ b. frame_of b ≡ record { nots = 0; rows = climbed (level_of operator) all_ops (frame_of self).rows (tree_of last) }) }
+    pub fn join(&mut self, alloc: Global, operator: Operator, last: Node) -> Result<(), NoMemory>
+        ensures { OnOk result (frame_of self.new ≡ record { nots = 0; rows = climbed (level_of operator) all_ops (frame_of self.old).rows (tree_of last) }) }
     {
-        let mut ands = self.ands;
-        let mut ors = self.ors;
-        let mut xors = self.xors;
-        let mut eqvs = self.eqvs;
-        let mut imps = self.imps;
+        self.nots = 0;
         match operator {
             Operator::And => {
-                ands.push(last)?;
-                Ok(Bracket::of(ands, ors, xors, eqvs, imps))
+                self.ands.push(last)?;
             }
             Operator::Or => {
-                ors.push(row_with(Operator::And, ands, last)?)?;
-                Ok(Bracket::of(Vec::new(alloc), ors, xors, eqvs, imps))
+                let ands = mem::replace(&mut self.ands, Vec::new(alloc));
+                let last = row_with(Operator::And, ands, last)?;
+                self.ors.push(last)?;
             }
             Operator::Xor => {
-                xors.push(to_or(ands, ors, last)?)?;
-                Ok(Bracket::of(Vec::new(alloc), Vec::new(alloc), xors, eqvs, imps))
+                let ands = mem::replace(&mut self.ands, Vec::new(alloc));
+                let ors = mem::replace(&mut self.ors, Vec::new(alloc));
+                let last = to_or(ands, ors, last)?;
+                self.xors.push(last)?;
             }
             Operator::Eqv => {
-                eqvs.push(to_xor(ands, ors, xors, last)?)?;
-                Ok(Bracket::of(
-                    Vec::new(alloc),
-                    Vec::new(alloc),
-                    Vec::new(alloc),
-                    eqvs,
-                    imps,
-                ))
+                let ands = mem::replace(&mut self.ands, Vec::new(alloc));
+                let ors = mem::replace(&mut self.ors, Vec::new(alloc));
+                let xors = mem::replace(&mut self.xors, Vec::new(alloc));
+                let last = to_xor(ands, ors, xors, last)?;
+                self.eqvs.push(last)?;
             }
             Operator::Imp => {
-                imps.push(to_eqv(ands, ors, xors, eqvs, last)?)?;
-                Ok(Bracket::of(
-                    Vec::new(alloc),
-                    Vec::new(alloc),
-                    Vec::new(alloc),
-                    Vec::new(alloc),
-                    imps,
-                ))
+                let ands = mem::replace(&mut self.ands, Vec::new(alloc));
+                let ors = mem::replace(&mut self.ors, Vec::new(alloc));
+                let xors = mem::replace(&mut self.xors, Vec::new(alloc));
+                let eqvs = mem::replace(&mut self.eqvs, Vec::new(alloc));
+                let last = to_eqv(ands, ors, xors, eqvs, last)?;
+                self.imps.push(last)?;
             }
         }
+        Ok(())
     }
 
     /// All rows end.

@@ -2,6 +2,7 @@
 
 ghost use Rattle.std.specs.Prelude.{◌≡◌, if◌then◌else◌, nat_eq, Some, None, option_and_then};
 ghost use Rattle.std.specs.Char.{to_ascii_lowercase};
+ghost use Rattle.mi_text.specs.Fold.{folded};
 ghost use Rattle.std.specs.Ordering.{nat_cmp};
 ghost use Rattle.std.specs.Cmp.Lexicographic.{slice_cmp, pointwise};
 ghost use Rattle.std.specs.List.{starts_with, ends_with};
@@ -11,6 +12,7 @@ ghost use Rattle.mi_cond.specs.Value as spec;
 
 use crate::node::Relation;
 use crate::token::is_digit;
+use memchr::memmem;
 use std::cmp::Ordering;
 
 // The largest integer.
@@ -116,15 +118,27 @@ fn ends_with(folds: bool, text: &[u8], part: &[u8]) -> bool
     part.len() <= text.len() && is_same(folds, part, &text[text.len() - part.len()..])
 }
 
-fn contains(folds: bool, text: &[u8], part: &[u8]) -> bool
-    ensures { result ≡ contains (cased folds text.now) (cased folds part.now) }
+// Whether the part begins somewhere in the text, where ASCII letters are alike. It tries each place in turn, since
+// no memory may be taken for folded texts.
+fn contains_folded(text: &[u8], part: &[u8]) -> bool
+    ensures { result ≡ contains (folded text.now) (folded part.now) }
 {
     for i in 0..text.len() {
-        if begins_with(folds, &text[i..], part) {
+        if begins_with(true, &text[i..], part) {
             return true;
         }
     }
     part.is_empty()
+}
+
+fn contains(folds: bool, text: &[u8], part: &[u8]) -> bool
+    ensures { result ≡ contains (cased folds text.now) (cased folds part.now) }
+{
+    if folds {
+        contains_folded(text, part)
+    } else {
+        memmem::find(text, part).is_some()
+    }
 }
 
 /// Whether two texts compare so, where `folds` makes ASCII letters alike (Conditional Statement Syntax,

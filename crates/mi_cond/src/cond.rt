@@ -1,23 +1,25 @@
 //! A condition that has been read.
 
-ghost use Rattle.std.specs.Prelude.{◌≡◌, ℕ, IfOk, IfErr};
+ghost use Rattle.std.specs.Prelude.{◌≡◌, ℕ, IfOk, IfErr, MatchResult};
+ghost use Rattle.mi_cond.specs.View.{tree_of};
 ghost use Rattle.mi_cond.specs.Tree.{Tree};
 ghost use Rattle.mi_cond.specs.Grammar.{Reads};
 ghost use Rattle.mi_cond.specs.Place.{IsCause};
 ghost use Rattle.mi_cond.specs.Value.{value};
-ghost use Rattle.mi_cond.specs.Texts.{ReadsText};
+ghost use Rattle.mi_cond.specs.Answer.{Answers};
 
-use crate::error::{CondError, CondFault, TokenError};
+use crate::error::CondError;
 use crate::node::Node;
-use crate::scan::Scan;
+use crate::read::read_node;
 use mi_text::Env;
 use std::alloc::Global;
+use std::fmt;
 use std::marker::Model;
 
 /// A condition (Conditional Statement Syntax), seen as its tree.
-#[derive(Debug, Drop)]
+#[derive(Drop)]
 pub struct Cond {
-    node: Node,
+    node: Box<Node>,
 }
 
 impl Model for Cond {
@@ -30,32 +32,7 @@ impl Model for Cond {
 
     ghost use Rattle.mi_cond.specs.View.{tree_of};
 
-    ghost view = { λ c. tree_of c.node };
-}
-
-// The node of a condition, byte by byte.
-fn read_node(alloc: Global, text: &str) -> Result<Node, CondError>
-    ensures { ReadsText result text.now }
-{
-    let bytes = text.as_bytes();
-    let mut scan = Scan::new(alloc);
-    for (i, byte) in bytes.iter().enumerate() {
-        match scan.byte(alloc, *byte) {
-            Ok(next) => match next.shallow() {
-                Some(next) => scan = next,
-                None => return Err(CondError::Fault(CondFault::TooDeep(i as u64))),
-            },
-            Err(TokenError::Syntax) => {
-                return Err(CondError::Fault(CondFault::Syntax(i as u64)));
-            }
-            Err(TokenError::NoMemory) => return Err(CondError::NoMemory),
-        }
-    }
-    match scan.end(alloc) {
-        Ok(node) => Ok(node),
-        Err(TokenError::Syntax) => Err(CondError::Fault(CondFault::Syntax(bytes.len() as u64))),
-        Err(TokenError::NoMemory) => Err(CondError::NoMemory),
-    }
+    ghost view = { λ c. tree_of c.node.value };
 }
 
 impl Cond {
@@ -65,8 +42,20 @@ impl Cond {
         ensures reads { IfOk result (λ c. Reads 64 text.now c) }
         ensures only { IfOk result (λ c. (n : ℕ) (t : Tree) → Reads n text.now t → t ≡ c) }
         ensures fault { IfErr result (λ e. IsCause e text.now) }
+
+        // The same as one function of the text.
+        ensures answer { Answers result text.now }
     {
-        let node = read_node(alloc, text)?;
+        match read_node(alloc, text.as_bytes()) {
+            Ok(node) => Cond::of(alloc, node),
+            Err(error) => Err(error),
+        }
+    }
+
+    fn of(alloc: Global, node: Node) -> Result<Cond, CondError>
+        ensures { MatchResult result (λ c. c ≡ tree_of node) (λ e. e ≡ CondError.NoMemory) }
+    {
+        let node = Box::new(alloc, node)?;
         Ok(Cond { node })
     }
 
@@ -75,5 +64,11 @@ impl Cond {
         ensures { result ≡ value self.now (E.lookups env.now) }
     {
         self.node.value(env)
+    }
+}
+
+impl fmt::Debug for Cond {
+    fn fmt<W: fmt::Write>(&self, f: &mut fmt::Formatter<W>) -> fmt::Result {
+        f.write_str("Cond { .. }")
     }
 }

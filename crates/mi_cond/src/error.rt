@@ -2,6 +2,7 @@
 
 ghost use Rattle.std.specs.Prelude.{◌≡◌};
 ghost use Rattle.mi_cond.specs.declared.error.TokenError.TheVariants.{NoMemory as no_memory};
+ghost use Rattle.mi_cond.specs.declared.error.CondError.TheVariants as error;
 
 use mi_text::NoMemory;
 use std::alloc::{AllocError, AllocFailed};
@@ -23,8 +24,8 @@ pub enum CondError {
     Fault(CondFault),
 }
 
-/// Why a byte or a token can't be taken.
-#[derive(Clone, Copy, Debug, PartialEq, Eq)]
+/// Why a token can't be taken.
+#[derive(Clone, Copy)]
 pub enum TokenError {
     NoMemory,
     Syntax,
@@ -51,5 +52,21 @@ impl<T: Drop> From<AllocFailed<T>> for TokenError {
 
     fn from(_e: AllocFailed<T>) -> TokenError {
         TokenError::NoMemory
+    }
+}
+
+impl From<NoMemory> for CondError {
+    ghost from_gives = { λ _ e. e ≡ error.NoMemory };
+
+    fn from(_e: NoMemory) -> CondError {
+        CondError::NoMemory
+    }
+}
+
+impl<T: Drop> From<AllocFailed<T>> for CondError {
+    ghost from_gives = { λ _ e. e ≡ error.NoMemory };
+
+    fn from(_e: AllocFailed<T>) -> CondError {
+        CondError::NoMemory
     }
 }

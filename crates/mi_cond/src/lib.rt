@@ -7,11 +7,10 @@ mod compare;
 mod cond;
 mod error;
 mod evaluate;
+mod front;
 mod node;
+mod read;
 mod reader;
-mod scan;
-#[cfg(test)]
-mod tests;
 mod token;
 
 pub use cond::Cond;

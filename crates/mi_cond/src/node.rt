@@ -3,7 +3,7 @@
 use mi_text::{Bytes, Sign, Text};
 
 /// An operator between conditions (Conditional Statement Syntax, "Logical Operators").
-#[derive(Clone, Copy, Debug, PartialEq, Eq)]
+#[derive(Clone, Copy, PartialEq, Eq)]
 pub enum Operator {
     And,
     Or,
@@ -14,7 +14,7 @@ pub enum Operator {
 
 /// What a comparison asks of its two sides (Conditional Statement Syntax, "Comparison Operators",
 /// "Substring Operators" and "Bitwise Numeric Operators").
-#[derive(Clone, Copy, Debug, PartialEq, Eq)]
+#[derive(Clone, Copy, PartialEq, Eq)]
 pub enum Relation {
     /// `=`
     Equal,
@@ -37,14 +37,14 @@ pub enum Relation {
 }
 
 /// An operator of comparison: what it asks, and whether it has `~` in front, which folds case.
-#[derive(Clone, Copy, Debug, PartialEq, Eq)]
+#[derive(Clone, Copy, PartialEq, Eq)]
 pub struct Comparison {
     pub relation: Relation,
     pub folds: bool,
 }
 
 /// A side of a comparison, or a value that stands alone.
-#[derive(Debug, Drop)]
+#[derive(Drop)]
 pub enum Value {
     /// A property by its name.
     Property(Text),
@@ -59,7 +59,7 @@ pub enum Value {
 
 /// A condition. The operands of a row of equal operators stand in one list, so that the tree is no
 /// deeper than brackets and NOT nest.
-#[derive(Debug, Drop)]
+#[derive(Drop)]
 pub enum Node {
     Alone(Value),
     Compare(Comparison, Value, Value),

@@ -1,19 +1,18 @@
-//! The tokens of a condition, and the token that has begun.
+//! The tokens of a condition.
 
-ghost use Rattle.std.specs.Prelude.{◌≡◌, ◌≤◌, [], IfOk, string_bytes, true, false};
-ghost use Rattle.std.specs.Str.{IsUtf8};
+ghost use Rattle.std.specs.Prelude.{◌≡◌, IfOk, true};
+ghost use Rattle.std.specs.Str.{bytes_eq};
 ghost use Rattle.mi_text.specs.Fold.{folded};
-ghost use Rattle.mi_cond.specs.Integer.{is_digit, signed};
-ghost use Rattle.mi_cond.specs.Lex.{is_blank, is_letter, is_name_byte, is_keyword};
-ghost use Rattle.mi_cond.specs.Moves.{marked_by, relation_by, relation_with, word};
+ghost use Rattle.mi_cond.specs.Integer.{is_digit};
+ghost use Rattle.mi_cond.specs.Lex.{is_blank, is_letter, is_name_byte, are_name_bytes, all_ops, operator_in, is_keyword};
+ghost use Rattle.mi_cond.specs.Moves.{marked_by, relation_by, relation_with, begins_with, begins_operator, word, named};
 
-use crate::error::TokenError;
 use crate::node::{Comparison, Operator, Relation, Value};
-use mi_text::{Bytes, NoMemory, Sign, Text};
+use mi_text::{NoMemory, Sign, Text};
 use std::alloc::Global;
 
 /// A token: a bracket, a keyword, an operator of comparison, or a value.
-#[derive(Debug, Drop)]
+#[derive(Drop)]
 pub enum Token {
     Open,
     Close,
@@ -24,37 +23,14 @@ pub enum Token {
 }
 
 /// What stands before a name that is no property.
-#[derive(Clone, Copy, Debug, PartialEq, Eq)]
+#[derive(Clone, Copy)]
 pub enum Mark {
     Variable,
     State(Sign),
 }
 
-/// The token that has begun.
-#[derive(Debug, Drop)]
-pub enum Begun {
-    Nothing,
-    Word(String),
-    Symbol(Mark, String),
-    Literal(Vec<u8>),
-    Minus,
-    Digits { negative: bool, size: u64 },
-    Tilde,
-    Comparison(Comparison),
-}
-
-/// What a byte does to the token that has begun.
-#[derive(Debug, Drop)]
-pub enum Move {
-    /// The token goes on.
-    Grows(Begun),
-    /// The token ends with the byte.
-    Takes(Token),
-    /// The token ended before the byte.
-    Leaves(Token),
-}
-
-const fn is_blank(byte: u8) -> bool
+/// Whether a byte is a blank or a tab.
+pub const fn is_blank(byte: u8) -> bool
     ensures { result ≡ is_blank byte }
 {
     byte == b' ' || byte == b'\t'
@@ -67,19 +43,22 @@ pub const fn is_digit(byte: u8) -> bool
     matches!(byte, b'0'..=b'9')
 }
 
-const fn is_letter(byte: u8) -> bool
+/// Whether a byte is a letter or `_`.
+pub const fn is_letter(byte: u8) -> bool
     ensures { result ≡ is_letter byte }
 {
     matches!(byte, b'A'..=b'Z' | b'a'..=b'z' | b'_')
 }
 
-const fn is_name_byte(byte: u8) -> bool
+/// Whether a byte may stand in a name.
+pub const fn is_name_byte(byte: u8) -> bool
     ensures { result ≡ is_name_byte byte }
 {
     is_letter(byte) || is_digit(byte) || byte == b'.'
 }
 
-const fn marked_by(byte: u8) -> Option<Mark>
+/// The mark that a byte is.
+pub const fn marked_by(byte: u8) -> Option<Mark>
     ensures { result ≡ marked_by byte }
 {
     match byte {
@@ -92,7 +71,8 @@ const fn marked_by(byte: u8) -> Option<Mark>
     }
 }
 
-const fn relation_by(byte: u8) -> Option<Relation>
+/// The operator that a byte begins.
+pub const fn relation_by(byte: u8) -> Option<Relation>
     ensures { result ≡ relation_by byte }
 {
     match byte {
@@ -103,8 +83,8 @@ const fn relation_by(byte: u8) -> Option<Relation>
     }
 }
 
-// The longer operator.
-const fn relation_with(relation: Relation, byte: u8) -> Option<Relation>
+/// The longer operator.
+pub const fn relation_with(relation: Relation, byte: u8) -> Option<Relation>
     ensures { result ≡ relation_with relation byte }
 {
     match relation {
@@ -124,227 +104,90 @@ const fn relation_with(relation: Relation, byte: u8) -> Option<Relation>
     }
 }
 
-// A keyword, or a property.
-fn word(alloc: Global, text: String) -> Result<Token, NoMemory>
-    ensures { IfOk result (λ t. t ≡ word (string_bytes text)) }
+// Whether a text is this word, in either case.
+fn is_word(text: &[u8], word: &[u8]) -> bool
+    ensures { result ≡ bytes_eq (folded text.now) (folded word.now) }
 {
-    let small = text.to_ascii_lowercase(alloc)?;
-    match small.as_str() {
-        "not" => Ok(Token::Negate),
-        "and" => Ok(Token::Join(Operator::And)),
-        "or" => Ok(Token::Join(Operator::Or)),
-        "xor" => Ok(Token::Join(Operator::Xor)),
-        "eqv" => Ok(Token::Join(Operator::Eqv)),
-        "imp" => Ok(Token::Join(Operator::Imp)),
-        _ => Ok(Token::Operand(Value::Property(Text::from_string(text)))),
+    text.eq_ignore_ascii_case(word)
+}
+
+// Whether a word begins so, in either case.
+fn begins_word(word: &[u8], front: &[u8]) -> bool
+    ensures { result ≡ begins_with (folded word.now) (folded front.now) }
+{
+    front.len() <= word.len() && is_word(&word[..front.len()], front)
+}
+
+/// Whether some operator between conditions begins so, in either case.
+pub fn begins_operator(front: &[u8]) -> bool
+    ensures { result ≡ begins_operator all_ops (folded front.now) }
+{
+    begins_word(b"and", front)
+        || begins_word(b"or", front)
+        || begins_word(b"xor", front)
+        || begins_word(b"eqv", front)
+        || begins_word(b"imp", front)
+}
+
+// The operator between conditions that a name is.
+fn operator_of(name: &[u8]) -> Option<Operator>
+    ensures { result ≡ operator_in all_ops (folded name.now) }
+{
+    if is_word(name, b"and") {
+        Some(Operator::And)
+    } else if is_word(name, b"or") {
+        Some(Operator::Or)
+    } else if is_word(name, b"xor") {
+        Some(Operator::Xor)
+    } else if is_word(name, b"eqv") {
+        Some(Operator::Eqv)
+    } else if is_word(name, b"imp") {
+        Some(Operator::Imp)
+    } else {
+        None
     }
 }
 
 /// Whether a name is a keyword.
-pub fn is_keyword(alloc: Global, name: &str) -> Result<bool, NoMemory>
-    ensures { IfOk result (λ b. b ≡ is_keyword name.now) }
+pub fn is_keyword(name: &[u8]) -> bool
+    ensures { result ≡ is_keyword name.now }
 {
-    let small = name.to_ascii_lowercase(alloc)?;
-    match small.as_str() {
-        "not" | "and" | "or" | "xor" | "eqv" | "imp" => Ok(true),
-        _ => Ok(false),
+    is_word(name, b"not") || operator_of(name).is_some()
+}
+
+// A name as a text.
+fn text_of(alloc: Global, name: &[u8]) -> Result<Text, NoMemory>
+    requires { are_name_bytes name.now ≡ true }
+    ensures { IfOk result (λ t. t ≡ name.now) }
+{
+    match str::from_utf8(name) {
+        Ok(text) => Text::copy_of(alloc, text),
+        Err(_) => unreachable!(),
     }
 }
 
-impl Begun {
-    ghost use Rattle.mi_cond.specs.Begun.{mode_of, is_bounded, Moves};
-    ghost use Rattle.mi_cond.specs.Moves.{begin, begin_name, move, finished, left, grows_to, compares, InWord, InSymbol, InLiteral, AfterMinus, InDigits, AfterTilde, InComparison};
-    ghost use Rattle.mi_cond.specs.Outcome.{Steps};
-
-    /// The token that ends here.
-    pub fn finish(self, alloc: Global) -> Result<Token, TokenError>
-        requires { is_bounded (mode_of self) ≡ true }
-        ensures { Steps (λ x. x) result (finished (mode_of self)) }
-    {
-        match self {
-            Begun::Word(text) => Ok(word(alloc, text)?),
-            Begun::Symbol(mark, name) => {
-                if name.is_empty() {
-                    return Err(TokenError::Syntax);
-                }
-                let name = Text::from_string(name);
-                match mark {
-                    Mark::Variable => Ok(Token::Operand(Value::Variable(name))),
-                    Mark::State(sign) => Ok(Token::Operand(Value::State(sign, name))),
-                }
-            }
-            Begun::Digits { negative, size } => {
-                let size = size as i32;
-                let integer = if negative { -size } else { size };
-                Ok(Token::Operand(Value::Integer(integer)))
-            }
-            Begun::Comparison(comparison) => Ok(Token::Compare(comparison)),
-            Begun::Nothing | Begun::Literal(_) | Begun::Minus | Begun::Tilde => Err(
-                TokenError::Syntax,
-            ),
-        }
+/// A keyword, or a property.
+pub fn word(alloc: Global, name: &[u8]) -> Result<Token, NoMemory>
+    requires { are_name_bytes name.now ≡ true }
+    ensures { IfOk result (λ t. t ≡ word name.now) }
+{
+    if is_word(name, b"not") {
+        return Ok(Token::Negate);
     }
-
-    fn leave(self, alloc: Global) -> Result<Move, TokenError>
-        requires { is_bounded (mode_of self) ≡ true }
-        ensures { Moves result (left (finished (mode_of self))) }
-    {
-        let token = self.finish(alloc)?;
-        Ok(Move::Leaves(token))
+    match operator_of(name) {
+        Some(operator) => Ok(Token::Join(operator)),
+        None => Ok(Token::Operand(Value::Property(text_of(alloc, name)?))),
     }
+}
 
-    // The first byte of a symbol or of an operator of comparison.
-    fn begin_sign(alloc: Global, byte: u8) -> Result<Move, TokenError>
-        ensures { Moves result (compares false (grows_to (λ m. InSymbol m []) (marked_by byte)) (relation_by byte)) }
-    {
-        if let Some(relation) = relation_by(byte) {
-            return Ok(Move::Grows(Begun::Comparison(Comparison {
-                relation,
-                folds: false,
-            })));
-        }
-        match marked_by(byte) {
-            Some(mark) => Ok(Move::Grows(Begun::Symbol(mark, String::new(alloc)))),
-            None => Err(TokenError::Syntax),
-        }
-    }
-
-    // The first byte of an integer, a word, a symbol or an operator of comparison.
-    fn begin_name(alloc: Global, byte: u8) -> Result<Move, TokenError>
-        ensures { Moves result (begin_name byte) }
-    {
-        if is_digit(byte) {
-            let size = (byte - b'0') as u64;
-            return Ok(Move::Grows(Begun::Digits {
-                negative: false,
-                size,
-            }));
-        }
-        if is_letter(byte) {
-            let mut text = String::new(alloc);
-            text.push(byte as char)?;
-            return Ok(Move::Grows(Begun::Word(text)));
-        }
-        Begun::begin_sign(alloc, byte)
-    }
-
-    /// The first byte of a token, or a blank.
-    pub fn begin(alloc: Global, byte: u8) -> Result<Move, TokenError>
-        ensures { Moves result (begin byte) }
-    {
-        if is_blank(byte) {
-            return Ok(Move::Grows(Begun::Nothing));
-        }
-        match byte {
-            b'(' => Ok(Move::Takes(Token::Open)),
-            b')' => Ok(Move::Takes(Token::Close)),
-            b'"' => Ok(Move::Grows(Begun::Literal(Vec::new(alloc)))),
-            b'-' => Ok(Move::Grows(Begun::Minus)),
-            b'~' => Ok(Move::Grows(Begun::Tilde)),
-            _ => Begun::begin_name(alloc, byte),
-        }
-    }
-
-    // A byte behind the letters of a word.
-    fn in_word(alloc: Global, mut text: String, byte: u8) -> Result<Move, TokenError>
-        ensures { Moves result (move (InWord (string_bytes text)) byte) }
-    {
-        if !is_name_byte(byte) {
-            return Begun::Word(text).leave(alloc);
-        }
-        text.push(byte as char)?;
-        Ok(Move::Grows(Begun::Word(text)))
-    }
-
-    // A byte behind a mark and the letters of its name.
-    fn in_symbol(alloc: Global, mark: Mark, mut name: String, byte: u8) -> Result<Move, TokenError>
-        ensures { Moves result (move (InSymbol mark (string_bytes name)) byte) }
-    {
-        if !is_name_byte(byte) {
-            return Begun::Symbol(mark, name).leave(alloc);
-        }
-        name.push(byte as char)?;
-        Ok(Move::Grows(Begun::Symbol(mark, name)))
-    }
-
-    // A byte behind a `"`.
-    fn in_literal(mut text: Vec<u8>, byte: u8) -> Result<Move, TokenError>
-        ensures { Moves result (move (InLiteral text.items) byte) }
-    {
-        if byte == b'"' {
-            let literal = Value::Literal(Bytes::from_vec(text));
-            return Ok(Move::Takes(Token::Operand(literal)));
-        }
-        text.push(byte)?;
-        Ok(Move::Grows(Begun::Literal(text)))
-    }
-
-    // A byte behind a `-`.
-    const fn behind_minus(byte: u8) -> Result<Move, TokenError>
-        ensures { Moves result (move AfterMinus byte) }
-    {
-        if !is_digit(byte) {
-            return Err(TokenError::Syntax);
-        }
-        let size = (byte - b'0') as u64;
-        Ok(Move::Grows(Begun::Digits {
-            negative: true,
-            size,
-        }))
-    }
-
-    // A byte behind digits.
-    fn in_digits(alloc: Global, negative: bool, size: u64, byte: u8) -> Result<Move, TokenError>
-        requires { size ≤ 2147483647 }
-        ensures { Moves result (move (InDigits negative size) byte) }
-    {
-        if !is_digit(byte) {
-            return Begun::Digits { negative, size }.leave(alloc);
-        }
-        let size = 10 * size + (byte - b'0') as u64;
-        Ok(Move::Grows(Begun::Digits { negative, size }))
-    }
-
-    // A byte behind a `~`.
-    const fn behind_tilde(byte: u8) -> Result<Move, TokenError>
-        ensures { Moves result (move AfterTilde byte) }
-    {
-        match relation_by(byte) {
-            Some(relation) => Ok(Move::Grows(Begun::Comparison(Comparison {
-                relation,
-                folds: true,
-            }))),
-            None => Err(TokenError::Syntax),
-        }
-    }
-
-    // A byte behind an operator of comparison.
-    fn in_comparison(alloc: Global, comparison: Comparison, byte: u8) -> Result<Move, TokenError>
-        ensures { Moves result (move (InComparison comparison) byte) }
-    {
-        match relation_with(comparison.relation, byte) {
-            Some(relation) => Ok(Move::Grows(Begun::Comparison(Comparison {
-                relation,
-                folds: comparison.folds,
-            }))),
-            None => Begun::Comparison(comparison).leave(alloc),
-        }
-    }
-
-    /// What the next byte does.
-    pub fn take(self, alloc: Global, byte: u8) -> Result<Move, TokenError>
-        requires { is_bounded (mode_of self) ≡ true }
-        ensures { Moves result (move (mode_of self) byte) }
-    {
-        match self {
-            Begun::Nothing => Begun::begin(alloc, byte),
-            Begun::Word(text) => Begun::in_word(alloc, text, byte),
-            Begun::Symbol(mark, name) => Begun::in_symbol(alloc, mark, name, byte),
-            Begun::Literal(text) => Begun::in_literal(text, byte),
-            Begun::Minus => Begun::behind_minus(byte),
-            Begun::Digits { negative, size } => Begun::in_digits(alloc, negative, size, byte),
-            Begun::Tilde => Begun::behind_tilde(byte),
-            Begun::Comparison(comparison) => Begun::in_comparison(alloc, comparison, byte),
-        }
+/// The value that a mark and a name are.
+pub fn named(alloc: Global, mark: Mark, name: &[u8]) -> Result<Value, NoMemory>
+    requires { are_name_bytes name.now ≡ true }
+    ensures { IfOk result (λ v. v ≡ named mark name.now) }
+{
+    let name = text_of(alloc, name)?;
+    match mark {
+        Mark::Variable => Ok(Value::Variable(name)),
+        Mark::State(sign) => Ok(Value::State(sign, name)),
     }
 }

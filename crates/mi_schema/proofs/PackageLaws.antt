@@ -11,7 +11,7 @@ use Rattle.mi_text.specs.PropertyNames.{is_property_name}
 use Rattle.mi_text.specs.Version.{version_of}
 use Rattle.mi_base.specs.declared.answers.Fault.{Fault}
 use Rattle.mi_base.specs.declared.answers.Fault.TheVariants.{MissingProperty}
-use Rattle.mi_cond.specs.Texts.{IsRead}
+use Rattle.mi_cond.specs.Place.{IsRead}
 use Rattle.mi_schema.specs.declared.cell.Cell.{Cell}
 use Rattle.mi_schema.specs.declared.cell.Cell.TheVariants as cell
 use Rattle.mi_schema.specs.declared.column.Kind.TheVariants as kind

@@ -7,7 +7,7 @@ use Rattle.mi_text.specs.PropertyNames.{is_property_name}
 use Rattle.mi_text.specs.Version.{version_of}
 use Rattle.mi_text.specs.declared.guid.Guid.{Guid}
 use Rattle.mi_idt.specs.Fields.{number_on}
-use Rattle.mi_cond.specs.Texts.{IsRead}
+use Rattle.mi_cond.specs.Place.{IsRead}
 use Rattle.mi_schema.specs.declared.package.Package.{Package}
 use Rattle.mi_schema.specs.declared.typed_rows.ComponentRow.{ComponentRow}
 use Rattle.mi_schema.specs.declared.typed_rows.DirectoryRow.{DirectoryRow}
