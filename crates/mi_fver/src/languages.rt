@@ -1,6 +1,7 @@
-//! Sets of languages. Those of a record rise, so that one is found by halving; any other order is taken too.
+//! Sets of languages. Those of a record rise, so that one is found by halving; any other order is taken too. No two lists
+//! are gone through language by language against each other.
 
-ghost use Rattle.std.specs.Prelude.{◌≡◌};
+ghost use Rattle.std.specs.Prelude.{◌≡◌, ◌<◌, ℕ, false, slice_index_or};
 ghost use Rattle.std.specs.List.Sorted.{IsNonDecreasing};
 ghost use Rattle.mi_fver.specs.Rules.{has, has_all};
 
@@ -24,10 +25,34 @@ fn sorted_has_all(all: &[u16], some: &[u16]) -> bool
     some.iter().all(|language| has_among_sorted(all, *language))
 }
 
-fn any_has_all(all: &[u16], some: &[u16]) -> bool
+/// How many languages there are.
+const LANGUAGES: usize = 65_536;
+
+// Which languages a list has.
+fn marked(languages: &[u16]) -> [bool; LANGUAGES]
+    ensures { (language : ℕ) → language < 65536 → slice_index_or result language false ≡ has languages.now language }
+{
+    let mut table = [false; LANGUAGES];
+    for language in languages {
+        table[*language as usize] = true;
+    }
+    table
+}
+
+fn is_marked(table: &[bool; LANGUAGES], language: u16) -> bool
+    ensures { result ≡ slice_index_or table.now language false }
+{
+    table[language as usize]
+}
+
+// Whether all of some are there, in any order: by a table, since no memory is taken. It stands alone, so that only such
+// lists take the room of the table.
+#[inline(never)]
+fn marked_has_all(all: &[u16], some: &[u16]) -> bool
     ensures { result ≡ has_all all.now some.now }
 {
-    some.iter().all(|language| has(all, *language))
+    let table = marked(all);
+    some.iter().all(|language| is_marked(&table, *language))
 }
 
 /// Whether all of some are there.
@@ -37,6 +62,6 @@ pub fn has_all(all: &[u16], some: &[u16]) -> bool
     if all.is_sorted() {
         sorted_has_all(all, some)
     } else {
-        any_has_all(all, some)
+        marked_has_all(all, some)
     }
 }

@@ -6,8 +6,6 @@ mod laws;
 mod mode;
 mod new_file;
 mod rules;
-#[cfg(test)]
-mod tests;
 
 pub use laws::{replaced_always_or_never, user_changes_stay, versions_stay};
 pub use mode::{BadMode, Mode};

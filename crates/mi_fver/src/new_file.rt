@@ -3,7 +3,7 @@
 use mi_base::{Languages, Version};
 
 /// What a File row says of its file (File table, columns Version and Language).
-#[derive(Debug, Drop)]
+#[derive(Drop)]
 pub struct NewFile {
     /// The version, and None where the file has none.
     pub version: Option<Version>,

@@ -11,7 +11,7 @@ use mi_base::FileHead;
 use std::cmp::Ordering;
 
 /// How a new file stands to the old one.
-#[derive(Clone, Copy, Debug)]
+#[derive(Clone, Copy)]
 pub enum Comparison {
     NewHigher,
     SameVersion,
@@ -25,7 +25,7 @@ pub enum Comparison {
 }
 
 /// What the letters o, e and d say.
-#[derive(Clone, Copy, Debug)]
+#[derive(Clone, Copy)]
 pub struct Answers {
     pub o: bool,
     pub e: bool,
