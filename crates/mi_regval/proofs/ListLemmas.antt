@@ -1,9 +1,7 @@
 -- Items beside an old list, and when they leave it as it is.
 use Rattle.std.proofs.Common.{◌≡◌, ℕ, ◌-◌, Bool, true, false, cond, List, [], ◌∷◌, ◌++◌, length, take, drop, Some, refl, sym, ap, subst, ◌∙◌, length-append, arith, inl, inr, ◌&&◌, ◌||◌}
-use Rattle.std.specs.Prelude.{not, filter, nat_eq, Result, IfOk, Option, None}
+use Rattle.std.specs.Prelude.{not, Result, IfOk, Option, None}
 use Rattle.std.specs.List.{list_all, list_any}
-use Rattle.std.specs.Ordering.{eq_by_cmp}
-use Rattle.std.specs.Cmp.Lexicographic.{pointwise}
 use Rattle.std.proofs.lemmas.Bool.{cases_Bool}
 use Rattle.std.proofs.lemmas.Cmp.{eq_by_cmp_equiv}
 use Rattle.std.proofs.lemmas.List.{append-nil, take-append-drop, append_cancel_left, append_cancel_right}
