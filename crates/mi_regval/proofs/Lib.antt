@@ -1,1 +1,3 @@
 pub mod MarkLemmas
+mod ListLemmas
+mod ChangeLemmas

@@ -1,4 +1,6 @@
 pub mod Lists
+pub mod ListTexts
 pub mod Numbers
-pub mod Reads
 pub mod Values
+pub mod Changes
+pub mod Reads

@@ -1,7 +1,6 @@
 -- Lists of texts, which bytes 0 separate (Registry table, column Value: `[~]`).
-use Rattle.std.specs.Prelude.{ℕ, ◌==◌, not, Bool, true, false, if◌then◌else◌, List, [], ◌∷◌, ◌++◌, filter, Option, Some}
-use Rattle.std.specs.List.{slice_split}
-use Rattle.std.specs.Str.{bytes_eq}
+use Rattle.std.specs.Prelude.{ℕ, ◌==◌, nat_eq, not, Bool, false, if◌then◌else◌, List, [], ◌∷◌, filter}
+use Rattle.std.specs.Cmp.Lexicographic.{pointwise}
 use Rattle.mi_text.specs.Maps.{is_among}
 
 abbrev pub is_zero : ℕ → Bool
@@ -31,16 +30,6 @@ without_end (b ∷ c ∷ bs) = b ∷ without_end (c ∷ bs)
 abbrev pub others : List (List ℕ) → List (List ℕ) → List (List ℕ)
 others added old = filter (λ item. not (is_among item added)) old
 
--- a mark at the front alone appends the items to an old list, one at the end alone puts them before it, else they replace it
-abbrev pub joined : Bool → Bool → List (List ℕ) → Option (List (List ℕ)) → List (List ℕ)
-joined true false items (Some old) = others items old ++ items
-joined false true items (Some old) = items ++ others items old
-joined front end items old = items
-
--- the list that a text with a byte 0 stands for beside an old list; a lone byte 0 is the empty list
-abbrev pub list_of : List ℕ → Option (List (List ℕ)) → List (List ℕ)
-list_of text old =
-    if bytes_eq text (0 ∷ []) then []
-    else
-    let rest = without_front text in
-    joined (has_front text) (has_end rest) (slice_split is_zero (without_end rest)) old
+-- whether two lists have the same items
+abbrev pub same_items : List (List ℕ) → List (List ℕ) → Bool
+same_items = pointwise (pointwise nat_eq)

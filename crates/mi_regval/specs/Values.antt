@@ -7,7 +7,8 @@ use Rattle.mi_base.specs.declared.entry.RegValue.{RegValue}
 use Rattle.mi_base.specs.declared.entry.RegValue.TheVariants as value
 use Rattle.mi_regval.specs.declared.error.ValueFault.{ValueFault}
 use Rattle.mi_regval.specs.declared.error.ValueFault.TheVariants.{BadInt, BadHex}
-use Rattle.mi_regval.specs.Lists.{is_zero, list_of}
+use Rattle.mi_regval.specs.Lists.{is_zero}
+use Rattle.mi_regval.specs.ListTexts.{list_of}
 use Rattle.mi_regval.specs.Numbers.{int_of}
 
 abbrev pub int_value : Option ℕ → Result RegValue ValueFault

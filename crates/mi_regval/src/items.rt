@@ -1,7 +1,7 @@
 //! The items of lists.
 
-ghost use Rattle.std.specs.Prelude.{◌≡◌, ℕ, List, IfOk};
-ghost use Rattle.std.specs.List.{slice_split};
+ghost use Rattle.std.specs.Prelude.{◌≡◌, not, ℕ, List, IfOk};
+ghost use Rattle.std.specs.List.{slice_split, list_all};
 ghost use Rattle.std.specs.BTreeSet.{contains};
 ghost use Rattle.mi_text.specs.Maps.{name_cmp, is_among};
 ghost use Rattle.mi_regval.specs.Lists.{is_zero, others};
@@ -29,6 +29,19 @@ fn set_of(alloc: Global, items: &[Text]) -> Result<BTreeSet<Text>, NoMemory>
         set.insert(Text::copy_of(alloc, item.as_str())?)?;
     }
     Ok(set)
+}
+
+/// Whether none of these items equals one of the added ones.
+pub fn none_among(alloc: Global, added: &[Text], items: &[Text]) -> Result<bool, NoMemory>
+    ensures { IfOk result (λ none. none ≡ list_all (λ item. not (is_among item added.now)) items.now) }
+{
+    let added = set_of(alloc, added)?;
+    for item in items {
+        if added.contains(item) {
+            return Ok(false);
+        }
+    }
+    Ok(true)
 }
 
 /// Copies of the old items that equal none of the added ones.
