@@ -17,6 +17,3 @@ mod write;
 pub use read::read_table;
 pub use table::{Column, IdtError, Row, Table};
 pub use write::write_table;
-
-#[cfg(test)]
-mod tests;

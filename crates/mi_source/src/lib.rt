@@ -14,6 +14,3 @@ pub use mem_sink::MemSink;
 pub use mem_source::MemSource;
 pub use sink::Sink;
 pub use source::{PIECE, Source};
-
-#[cfg(test)]
-mod tests;
