@@ -1,0 +1,109 @@
+//! Formatted texts of any size.
+
+use crate::words::FormattedCall;
+use mi_format::{expand, expand_within};
+use mi_text::PlainEnv;
+use std::alloc::{AllocError, Global};
+use std::io;
+use std::rt::Clock;
+use std::time::Instant;
+
+/// What a text is made of: names, braces, nested names, an escape and text.
+const PIECE: &str = "Part [A] of {[A][B]} in [[N]] and [\\[]rest; ";
+
+/// What a text is made of that passes its limit: a brace that may still vanish.
+const LARGE_PIECE: &str = "{[A]}";
+
+/// How many bytes the value of a name has in a text that passes its limit.
+const LARGE_VALUE: usize = 1_000_000;
+
+/// The limit of a registry key.
+const LIMIT: usize = 500;
+
+fn pair(alloc: Global, name: &str, value: &str) -> Result<(String, String), AllocError> {
+    let name = String::from_str(alloc, name)?;
+    let value = String::from_str(alloc, value)?;
+    Ok((name, value))
+}
+
+// The name A with this value, and N, which is the name A; B is unset.
+fn names(alloc: Global, value: &str) -> Result<Vec<(String, String)>, AllocError> {
+    let mut names = Vec::new(alloc);
+    names.push(pair(alloc, "A", value)?)?;
+    names.push(pair(alloc, "N", "A")?)?;
+    Ok(names)
+}
+
+fn surroundings(alloc: Global, value: &str) -> Result<PlainEnv, AllocError> {
+    let properties = names(alloc, value)?;
+    Ok(PlainEnv {
+        properties,
+        variables: Vec::new(alloc),
+        files: Vec::new(alloc),
+        folders: Vec::new(alloc),
+        states: Vec::new(alloc),
+    })
+}
+
+// The bytes of the value; none where the text is refused.
+fn value_length(alloc: Global, call: FormattedCall, text: &str, env: &PlainEnv) -> usize {
+    match call {
+        FormattedCall::Make => 0,
+        FormattedCall::Expand => match expand(alloc, text, env) {
+            Ok(value) => value.len(),
+            Err(_) => 0,
+        },
+        FormattedCall::ExpandWithin => match expand_within(alloc, text, env, text.len()) {
+            Ok(value) => value.len(),
+            Err(_) => 0,
+        },
+        FormattedCall::ExpandPast => match expand_within(alloc, text, env, LIMIT) {
+            Ok(value) => value.len(),
+            Err(_) => 0,
+        },
+    }
+}
+
+// Writes how many bytes the text and its value have, and to the errors the time, which differs from run to run.
+fn time_text<R: Print + Eprint + Clock>(
+    rt: &R,
+    alloc: Global,
+    call: FormattedCall,
+    text: &str,
+    env: &PlainEnv,
+) -> io::Result<()> {
+    let start = Instant::now(rt)?;
+    let value = value_length(alloc, call, text, env);
+    let microseconds = start.elapsed(rt)?.as_micros();
+    println!(rt; "{} bytes {value} value", text.len())?;
+    eprintln!(rt; "{microseconds} microseconds")
+}
+
+fn time_pieces<R: Print + Eprint + Clock>(
+    rt: &R,
+    alloc: Global,
+    call: FormattedCall,
+    text: &str,
+    value: &str,
+) -> io::Result<()> {
+    match surroundings(alloc, value) {
+        Ok(env) => time_text(rt, alloc, call, text, &env),
+        Err(_) => Err(io::ErrorKind::OutOfMemory.into()),
+    }
+}
+
+/// Makes a text of so many pieces, and does with it what is asked.
+pub fn time_formatted<R: Print + Eprint + Clock>(
+    rt: &R,
+    alloc: Global,
+    call: FormattedCall,
+    pieces: usize,
+) -> io::Result<()> {
+    let (piece, width) = match call {
+        FormattedCall::ExpandPast => (LARGE_PIECE, LARGE_VALUE),
+        FormattedCall::Make | FormattedCall::Expand | FormattedCall::ExpandWithin => (PIECE, 1),
+    };
+    let text = piece.repeat(alloc, pieces)?;
+    let value = "x".repeat(alloc, width)?;
+    time_pieces(rt, alloc, call, text.as_str(), value.as_str())
+}
