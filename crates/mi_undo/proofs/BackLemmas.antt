@@ -47,10 +47,10 @@ noted_keeps s t F ns x keeps noted others dirty = record {
     clash : (q : List ℕ) → q ≡ x → note_of ns q ≡ None → ⊥
     clash q is none = let both : Some noted.0 ≡ None = sym noted.1 ∙ ap (λ (y : List ℕ). note_of ns y) (sym is) ∙ none in cc
 
-note_of-one : (n : Note) (q : List ℕ) → q ≢ n.name → note_of (n ∷ []) q ≡ None
+pub note_of-one : (n : Note) (q : List ℕ) → q ≢ n.name → note_of (n ∷ []) q ≡ None
 note_of-one n q ne = ap (λ b. cond b (Some n.was) None) (same_name-other q n.name ne)
 
-note_of-head : (n : Note) (rest : List Note) → note_of (n ∷ rest) n.name ≡ Some n.was
+pub note_of-head : (n : Note) (rest : List Note) → note_of (n ∷ rest) n.name ≡ Some n.was
 note_of-head n rest = ap (λ b. cond b (Some n.was) (note_of rest n.name)) (same_itself n.name)
 
 -- a note of the list is there
@@ -94,7 +94,7 @@ module _ (s0 s : State) (F : Map) (ns front rest : List Note) (n : Note) (is : n
         (name_cases q n.name);
   }
 
-  new_before : are_new [] ns ≡ true → note_of front n.name ≡ None
+  pub new_before : are_new [] ns ≡ true → note_of front n.name ≡ None
   new_before new = first_here [] front (subst (λ (l : List Note). are_new [] l ≡ true) is new)
     where
       none_of : (o : Option (Option (List ℕ))) → is_none o ≡ true → o ≡ None

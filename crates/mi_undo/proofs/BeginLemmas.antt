@@ -2,7 +2,7 @@
 use Rattle.std.proofs.Common.{◌≡◌, ◌⊎◌, inl, inr, ℕ, ◌+◌, List, [], ◌∷◌, Result, IsErr, OnOk, refl, sym, ap, subst, ◌∙◌}
 use Rattle.std.proofs.lemmas.Result.{on_ok_weaker}
 use Rattle.std.specs.FinMap.{get, insert}
-use Rattle.mi_volume.specs.Maps.{Map, Exceeds, size}
+use Rattle.mi_volume.specs.Maps.{Map, Fits, Exceeds, size}
 use Rattle.mi_volume.specs.State.{State, GoesOn, ImagesOf, NothingDirty, Stays, Rose}
 use Rattle.mi_volume.proofs.Moments.{started, weaker}
 use Rattle.mi_undo.specs.Names.{marker, area_names}
@@ -50,10 +50,14 @@ free_unless s t op.NoMemory free rose stays = inl (free_stays s t free (stays (i
 free_unless s t op.Full free rose stays = inl (free_stays s t free (stays (inr refl)))
 free_unless s t op.Fault free rose stays = inr (rose refl)
 
+begin_size : (s : State) (name : List ℕ) → name ≡ marker → IsFree s → size (insert s.held name (1 ∷ [])) ≡ size s.held + 4
+begin_size s name is free = ap (λ (x : List ℕ). size (insert s.held x (1 ∷ []))) is ∙ size-new s.held marker (1 ∷ []) (free.nothing_inside marker refl)
+
+pub begin_fits : (s : State) (name : List ℕ) → name ≡ marker → IsFree s → Fits s.capacity (size (insert s.held name (1 ∷ []))) → Fits s.capacity (size s.held + 4)
+begin_fits s name is free fits = subst (λ (n : ℕ). Fits s.capacity n) (begin_size s name is free) fits
+
 pub begin_sum : (s : State) (name : List ℕ) → name ≡ marker → IsFree s → Exceeds s.capacity (size (insert s.held name (1 ∷ []))) → Exceeds s.capacity (size s.held + 4)
-begin_sum s name is free over =
-    let sum : size (insert s.held marker (1 ∷ [])) ≡ size s.held + 4 = size-new s.held marker (1 ∷ []) (free.nothing_inside marker refl) in
-    subst (λ (n : ℕ). Exceeds s.capacity n) (ap (λ (x : List ℕ). size (insert s.held x (1 ∷ []))) is ∙ sum) over
+begin_sum s name is free over = subst (λ (n : ℕ). Exceeds s.capacity n) (begin_size s name is free) over
 
 pub opens : (s t : State) (kept : Kept) → GoesOn s t (StandsFor s.held) → IsOpen t s.held [] → outside t.held ≡ outside s.held → kept.marker ≡ marker → kept.area.items ≡ [] → kept.entries ≡ 0 → kept.places.items ≡ [] → Opens s t kept
 unfolding area_names

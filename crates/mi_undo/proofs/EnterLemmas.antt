@@ -4,20 +4,21 @@ use Rattle.std.specs.declared.alloc.Global.{Global}
 use Rattle.std.specs.FinMap.{get, insert}
 use Rattle.mi_text.specs.Maps.{same_name}
 use Rattle.mi_text.proofs.MapLemmas.{from_same}
-use Rattle.mi_volume.specs.Maps.{Map, Exceeds, size}
+use Rattle.mi_volume.specs.Maps.{Map, Fits, Exceeds, size}
 use Rattle.mi_volume.specs.State.{State, NothingDirty}
 use Rattle.mi_volume.proofs.MapLemmas.{get-insert_same}
 use Rattle.mi_undo.specs.Names.{digits, entry_name, gate_name, most_entries}
 use Rattle.mi_undo.specs.Notes.{Note, note_of, notes_for, all_notes, spelled, are_new}
 use Rattle.mi_undo.specs.Keeps.{IsOpen}
 use Rattle.mi_undo.specs.Area.{notes_in}
-use Rattle.mi_undo.specs.Steps.{OnlyChanges}
+use Rattle.mi_undo.specs.Steps.{OnlyChanges, AddsBytes}
 use Rattle.mi_undo.specs.Entry.{AllFit, places_from, Enters}
 use Rattle.mi_undo.specs.declared.kept.Place.{Place}
 use Rattle.mi_undo.specs.declared.fault.OpFault.{OpFault}
 use Rattle.mi_undo.specs.declared.fault.OpFault.TheVariants as op
 use Rattle.mi_undo.proofs.FaultLemmas.{at_err, value_at_err}
 use Rattle.mi_undo.proofs.NameLemmas.{gate_not_entry, same_entry}
+use Rattle.mi_undo.proofs.EntryNumbers.{digits_long}
 use Rattle.mi_undo.proofs.StepLemmas.{exceeds_more, size-new}
 use Rattle.mi_undo.proofs.EncodeLemmas.{notes_of-spelled}
 use Rattle.mi_undo.proofs.EntryLemmas.{notes_in-places}
@@ -31,10 +32,12 @@ notes_for-held m (n ∷ names) q w is =
       | false ↦ λ e rest. notes_for-held m names q w rest
     ] refl is
 
-digits_long : (n k : ℕ) → length (digits n k) ≡ n
-unfolding digits
-digits_long zero k = refl
-digits_long (suc n) k = length-append (digits n (k / 10)) ((48 + k % 10) ∷ []) ∙ ap (λ (m : ℕ). m + 1) (digits_long n (k / 10)) ∙ (let one : n + 1 ≡ suc n = omega arith in one)
+-- an error that says nothing of room, and one that does
+pub adds_nothing : {T : Type 0} (n : ℕ) (s t : State) (r : Result T OpFault) → IsErr r → (IsErrOf r op.Full → ⊥) → AddsBytes n s t r
+adds_nothing n s t r fails never = record { ok = at_err _ r fails; fits = at_err _ r fails; full = λ full. absurd (never full) }
+
+pub adds_failed_so : {T : Type 0} (n : ℕ) (s t : State) (r : Result T OpFault) → IsErr r → (IsErrOf r op.Full → Exceeds s.capacity (size s.held + n)) → AddsBytes n s t r
+adds_failed_so n s t r fails full = record { ok = at_err _ r fails; fits = at_err _ r fails; full = full }
 
 entry_long : (k : ℕ) → length (entry_name k) ≡ 12
 entry_long k = omega (arith, digits_long 8 k)
@@ -65,7 +68,7 @@ module _ (number : ℕ) (s : State) (F : Map) (parts : List (List Note)) (ns : L
     placed = value_at_err r _ fails;
     places = value_at_err r _ fails;
     others = others_kept t only;
-    full = λ is_full. entry_sum (full is_full);
+    adds = record { ok = at_err _ r fails; fits = at_err _ r fails; full = λ is_full. entry_sum (full is_full) };
   }
 
   -- the entry is on the disk
@@ -81,13 +84,15 @@ module _ (number : ℕ) (s : State) (F : Map) (parts : List (List Note)) (ns : L
       others_then : (k : ℕ) → k < length parts → get u.held (entry_name k) ≡ get s.held (entry_name k)
       others_then k below = gate.others (entry_name k) (λ e. gate_not_entry number k (sym e)) ∙ others_kept t only k below
 
-      gate_sum : Exceeds t.capacity (size (insert t.held (gate_name number) (1 ∷ []))) → Exceeds s.capacity (size s.held + (25 + length (spelled ns)))
-      gate_sum over =
+      gate_size : size (insert t.held (gate_name number) (1 ∷ [])) ≡ size s.held + (25 + length (spelled ns))
+      gate_size =
           let no_gate : get t.held (gate_name number) ≡ None = only.others (gate_name number) (gate_not_entry number number) ∙ o.standing.no_gate number (omega (arith, at)) room in
           let first = ap size written ∙ size-new s.held (entry_name number) (spelled ns) absent in
           let second = size-new t.held (gate_name number) (1 ∷ []) no_gate in
-          subst (λ (c : Option ℕ). Exceeds c (size s.held + (25 + length (spelled ns)))) only.goes.capacity
-          (exceeds_more t.capacity (size (insert t.held (gate_name number) (1 ∷ []))) (size s.held + (25 + length (spelled ns))) (omega (arith, first, second, entry_long number, gate_long number)) over)
+          omega (arith, first, second, entry_long number, gate_long number)
+
+      gate_sum : Exceeds t.capacity (size (insert t.held (gate_name number) (1 ∷ []))) → Exceeds s.capacity (size s.held + (25 + length (spelled ns)))
+      gate_sum over = subst (λ (c : Option ℕ). Exceeds c (size s.held + (25 + length (spelled ns)))) only.goes.capacity (subst (λ (k : ℕ). Exceeds t.capacity k) gate_size over)
 
       pub gate_failed : (r : Result (Vec Place Global) OpFault) → IsErr r → (IsErrOf r op.Full → Exceeds t.capacity (size (insert t.held (gate_name number) (1 ∷ [])))) → Enters number F parts ns s u r
       gate_failed r fails full = record {
@@ -96,11 +101,11 @@ module _ (number : ℕ) (s : State) (F : Map) (parts : List (List Note)) (ns : L
         placed = value_at_err r _ fails;
         places = value_at_err r _ fails;
         others = others_then;
-        full = λ is_full. gate_sum (full is_full);
+        adds = record { ok = at_err _ r fails; fits = at_err _ r fails; full = λ is_full. gate_sum (full is_full) };
       }
 
-      pub entered : (places : Vec Place Global) → u.held ≡ insert t.held (gate_name number) (1 ∷ []) → NothingDirty u → places.items ≡ places_from number 0 ns → Enters number F parts ns s u (Ok places)
-      entered places opened clean_now are =
+      pub entered : (places : Vec Place Global) → u.held ≡ insert t.held (gate_name number) (1 ∷ []) → NothingDirty u → places.items ≡ places_from number 0 ns → Fits t.capacity (size (insert t.held (gate_name number) (1 ∷ []))) → Enters number F parts ns s u (Ok places)
+      entered places opened clean_now are fits =
           let tried = trying_gate s F parts o room_here t ns (trying_entry s F parts o room_here t (subst (λ (k : ℕ). OnlyChanges (entry_name k) s t) at only)) stage u (subst (λ (k : ℕ). OnlyChanges (gate_name k) t u) at gate) in
           let entry_now : get u.held (entry_name number) ≡ Some ([] ++ spelled ns) = gate.others (entry_name number) (λ e. gate_not_entry number number (sym e)) ∙ entry_there in
           record {
@@ -109,5 +114,9 @@ module _ (number : ℕ) (s : State) (F : Map) (parts : List (List Note)) (ns : L
             placed = ap (notes_in u.held) are ∙ notes_in-places u.held number 0 [] ns entry_now refl;
             places = are;
             others = others_then;
-            full = λ is_full. absurd (cc);
+            adds = record {
+              ok = ap size opened ∙ gate_size;
+              fits = subst (λ (c : Option ℕ). Fits c (size s.held + (25 + length (spelled ns)))) only.goes.capacity (subst (λ (k : ℕ). Fits t.capacity k) gate_size fits);
+              full = λ is_full. absurd (cc);
+            };
           }

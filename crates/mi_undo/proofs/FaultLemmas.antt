@@ -1,12 +1,15 @@
 -- Answers that a `?` hands on.
-use Rattle.std.proofs.Common.{◌≡◌, Result, Ok, Err, OnOk, OnErr, IfOk, IsErr, IsErrAnd, refl, ap}
+use Rattle.std.proofs.Common.{◌≡◌, ◌≢◌, ◌⊎◌, inl, inr, ℕ, List, Result, Ok, Err, OnOk, OnErr, IfOk, IfErr, IsErr, IsErrOf, IsErrAnd, refl, sym, ap, subst}
+use Rattle.mi_volume.specs.State.{State, Stays}
+use Rattle.mi_volume.specs.Calls.{Writes}
 use Rattle.mi_volume.specs.declared.volume.PutFault.{PutFault}
 use Rattle.mi_volume.specs.declared.volume.PutFault.TheVariants as put
 use Rattle.mi_volume.specs.declared.volume.VolFault.{VolFault}
 use Rattle.mi_volume.specs.declared.volume.VolFault.TheVariants as vol
 use Rattle.mi_undo.specs.declared.fault.OpFault.{OpFault}
 use Rattle.mi_undo.specs.declared.fault.OpFault.TheVariants as op
-use Rattle.mi_undo.specs.Faults.{put_fault_of, vol_fault_of}
+use Rattle.mi_undo.specs.declared.fault.BackFault.TheVariants as back
+use Rattle.mi_undo.specs.Faults.{put_fault_of, vol_fault_of, back_fault_of}
 
 pub at_err : {T E : Type 0} (P : Type 0) (r : Result T E) → IsErr r → OnOk r P
 at_err P (Ok x) h = absurd (cc)
@@ -40,6 +43,28 @@ memory_not_full (Err x) is h = cc
 pub handed_on : {T U : Type 0} (r : Result T OpFault) (e f : OpFault) → IsErrAnd r (λ x. x ≡ e) → r ≡ Err f → ◌≡◌ {A = Result U OpFault} (Err e) (Err f)
 handed_on (Ok x) e f is h = absurd is
 handed_on (Err x) e f is h = ap Err (let same : e ≡ f = cc in same)
+
+-- an error that is handed on has what it had
+pub err_handed : {T E : Type 0} (r : Result T E) (e : E) (P : E → Type 0) → IsErrAnd r (λ x. x ≡ e) → P e → IfErr r P
+err_handed (Ok x) e P is p = absurd is
+err_handed (Err x) e P is p = subst P (sym is) p
+
+pub unless_fault : (P : Type 0) (e : OpFault) → (IsErrOf {T = Unit {0}} (Err e) op.NoMemory ⊎ IsErrOf {T = Unit {0}} (Err e) op.Full → P) → (e ≡ op.Fault → ⊥) → P
+unless_fault P op.NoMemory then other = then (inl refl)
+unless_fault P op.Full then other = then (inr refl)
+unless_fault P op.Fault then other = absurd (other refl)
+
+-- after an error of a write that is no fault
+pub put_stays : {T U : Type 0} (s t : State) (name bytes : List ℕ) (r : Result T OpFault) (e : PutFault) → IsErrAnd r (λ x. x ≡ put_fault_of e) → Writes {T = U} name bytes s t (Err e) → IfErr r (λ x. x ≢ op.Fault → Stays s t)
+put_stays s t name bytes (Ok x) e is writes = absurd is
+put_stays s t name bytes (Err x) put.NoMemory is writes = λ other. writes.no_memory refl
+put_stays s t name bytes (Err x) put.Full is writes = λ other. writes.full refl
+put_stays s t name bytes (Err x) put.Failed is writes = λ other. absurd (other is)
+
+pub back_was_full : (e : OpFault) → back_fault_of e ≡ back.Full → e ≡ op.Full
+back_was_full op.NoMemory is = absurd (cc)
+back_was_full op.Fault is = absurd (cc)
+back_was_full op.Full is = refl
 
 pub on_err : {T E : Type 0} (P : Type 0) (r : Result T E) → IsErr r → OnErr r P → P
 on_err P (Ok x) fails p = absurd (cc)

@@ -9,7 +9,7 @@ use Rattle.mi_text.specs.Maps.{name_cmp, same_name, is_among}
 use Rattle.mi_text.proofs.MapLemmas.{from_same, same_itself, is_among-append}
 use Rattle.mi_volume.specs.Maps.{Map}
 use Rattle.mi_volume.proofs.MapLemmas.{name_cases, same_name-other}
-use Rattle.mi_undo.specs.Area.{Knows, AreOutside, notes_in, place_names}
+use Rattle.mi_undo.specs.Area.{Knows, AreOutside, notes_in, place_names, entries_for}
 use Rattle.mi_undo.specs.declared.kept.Place.{Place}
 use Rattle.mi_undo.proofs.NotesOf.{is_note-outside}
 use Rattle.mi_undo.specs.Names.{is_inside}
@@ -130,6 +130,14 @@ names_in d (p ∷ places) = ap (λ (l : List (List ℕ)). p.name ∷ l) (names_i
 pub nothing_new : (fresh : List (List ℕ)) → true ≡ (length fresh == 0) → fresh ≡ []
 nothing_new [] is = refl
 nothing_new (n ∷ fresh) is = absurd (omega (arith, eqb-true (length (n ∷ fresh)) 0 (sym is)))
+
+pub some_new : (fresh : List (List ℕ)) → false ≡ (length fresh == 0) → fresh ≡ [] → ⊥
+some_new [] is none = absurd (cc)
+some_new (n ∷ fresh) is none = cc
+
+pub one_entry : (fresh : List (List ℕ)) → false ≡ (length fresh == 0) → entries_for fresh ≡ 1
+one_entry [] is = absurd (cc)
+one_entry (n ∷ fresh) is = refl
 
 module _ (m : Map) (places : List Place) (names fresh : List (List ℕ)) (are : fresh ≡ new_names (place_names places) names) (good : AreGood fresh) where
   pub fresh_are_new : are_new (notes_in m places) (notes_for m fresh) ≡ true

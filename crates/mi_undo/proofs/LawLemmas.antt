@@ -5,13 +5,13 @@ use Rattle.mi_volume.specs.Maps.{Map}
 use Rattle.mi_text.proofs.MapLemmas.{same}
 use Rattle.mi_undo.specs.Names.{marker, gate_name, entry_name, most_entries, is_inside}
 use Rattle.mi_undo.specs.Notes.{Note, note_of, all_notes, are_new}
-use Rattle.mi_undo.specs.Stands.{is_one, read_from, noted, restored, outside, back_by, stands, StandsFor}
+use Rattle.mi_undo.specs.Stands.{is_one, read_from, noted, put_over, outside, back_by, stands, StandsFor}
 use Rattle.mi_undo.specs.Keeps.{Opened, AreNew}
 use Rattle.mi_undo.specs.Reading.{IsUnread, first_shut}
 use Rattle.mi_undo.proofs.NameLemmas.{same_entry, gate_not_entry, marker_not_entry}
 use Rattle.mi_undo.proofs.NotesOf.{note_of-append, first_of_two, new_outside}
 use Rattle.mi_undo.proofs.NoteLemmas.{not_both}
-use Rattle.mi_undo.proofs.StandsLemmas.{read_opened, get-outside, get-restored, or_else}
+use Rattle.mi_undo.proofs.StandsLemmas.{read_opened, get-outside, get-put_over, or_else}
 use Rattle.mi_undo.proofs.SettleLemmas.{read_same, read_new, first_at_most}
 
 module _ (d e : Map) (alike : (q : List ℕ) → ¬ IsUnread (first_shut d 0 most_entries) q → get e q ≡ get d q) where
@@ -33,13 +33,13 @@ module _ (d e : Map) (alike : (q : List ℕ) → ¬ IsUnread (first_shut d 0 mos
   unfolding noted
   same_noted = ap (λ (o : Option (List ℕ)). cond (is_one o) (read_from e 0 most_entries []) (Ok [])) at_marker ∙ ap (λ (r : Result (List Note) (List ℕ)). cond (is_one (get d marker)) r (Ok [])) (read_same d e gates 0 most_entries [] entries)
 
-  same_outside : (ns : List Note) → outside (restored ns e) ≡ outside (restored ns d)
-  same_outside ns = same (outside (restored ns e)) (outside (restored ns d)) (λ q. get-outside (restored ns e) q ∙ at q ∙ sym (get-outside (restored ns d) q))
+  same_outside : (ns : List Note) → outside (put_over ns e) ≡ outside (put_over ns d)
+  same_outside ns = same (outside (put_over ns e)) (outside (put_over ns d)) (λ q. get-outside (put_over ns e) q ∙ at q ∙ sym (get-outside (put_over ns d) q))
     where
-      at : (q : List ℕ) → cond (not (is_inside q)) (get (restored ns e) q) None ≡ cond (not (is_inside q)) (get (restored ns d) q) None
-      at q = elim (is_inside q) as (λ b. is_inside q ≡ b → cond (not b) (get (restored ns e) q) None ≡ cond (not b) (get (restored ns d) q) None) [
+      at : (q : List ℕ) → cond (not (is_inside q)) (get (put_over ns e) q) None ≡ cond (not (is_inside q)) (get (put_over ns d) q) None
+      at q = elim (is_inside q) as (λ b. is_inside q ≡ b → cond (not b) (get (put_over ns e) q) None ≡ cond (not b) (get (put_over ns d) q) None) [
         | true ↦ λ is. refl
-        | false ↦ λ is. get-restored ns e q ∙ ap (λ (o : Option (List ℕ)). or_else (note_of ns q) o) (out q is) ∙ sym (get-restored ns d q)
+        | false ↦ λ is. get-put_over ns e q ∙ ap (λ (o : Option (List ℕ)). or_else (note_of ns q) o) (out q is) ∙ sym (get-put_over ns d q)
       ] refl
 
   same_back : (r : Result (List Note) (List ℕ)) → back_by e r ≡ back_by d r
@@ -70,25 +70,25 @@ noted_new d ns is =
       | false ↦ λ e. none_of ns e
     ] is
 
-map_is : (d F : Map) (ns : List Note) → noted d ≡ Ok ns → StandsFor F d → outside (restored ns d) ≡ F
+map_is : (d F : Map) (ns : List Note) → noted d ≡ Ok ns → StandsFor F d → outside (put_over ns d) ≡ F
 unfolding stands
-map_is d F ns is stands_for = one_map (outside (restored ns d)) F (ap (back_by d) (sym is) ∙ stands_for)
+map_is d F ns is stands_for = one_map (outside (put_over ns d)) F (ap (back_by d) (sym is) ∙ stands_for)
 
 pub noted_is : (d F : Map) (ns : List Note) → noted d ≡ Ok ns → StandsFor F d → (q : List ℕ) (w : Option (List ℕ)) → note_of ns q ≡ Some w → get F q ≡ w
 noted_is d F ns is stands_for q w noted_q =
     elim (is_inside q) as (λ b. is_inside q ≡ b → get F q ≡ w) [
       | true ↦ λ inside. let clash : Some w ≡ None = sym noted_q ∙ new_outside [] ns (noted_new d ns is) q inside in absurd (cc)
-      | false ↦ λ out. ap (λ (m : Map). get m q) (sym (map_is d F ns is stands_for)) ∙ get-outside (restored ns d) q ∙ ap (λ b. cond (not b) (get (restored ns d) q) None) out ∙ get-restored ns d q ∙ ap (λ (o : Option (Option (List ℕ))). or_else o (get d q)) noted_q
+      | false ↦ λ out. ap (λ (m : Map). get m q) (sym (map_is d F ns is stands_for)) ∙ get-outside (put_over ns d) q ∙ ap (λ b. cond (not b) (get (put_over ns d) q) None) out ∙ get-put_over ns d q ∙ ap (λ (o : Option (Option (List ℕ))). or_else o (get d q)) noted_q
     ] refl
 
 inside_by : (d F : Map) (r : Result (List Note) (List ℕ)) → back_by d r ≡ Ok F → (q : List ℕ) → is_inside q ≡ true → get F q ≡ None
-inside_by d F (Ok ns) is q inside = ap (λ (m : Map). get m q) (sym (one_map (outside (restored ns d)) F is)) ∙ get-outside (restored ns d) q ∙ ap (λ b. cond (not b) (get (restored ns d) q) None) inside
+inside_by d F (Ok ns) is q inside = ap (λ (m : Map). get m q) (sym (one_map (outside (put_over ns d)) F is)) ∙ get-outside (put_over ns d) q ∙ ap (λ b. cond (not b) (get (put_over ns d) q) None) inside
 inside_by d F (Err name) is q inside = absurd (cc)
 
 pub inside_none : (d F : Map) → StandsFor F d → (q : List ℕ) → is_inside q ≡ true → get F q ≡ None
 unfolding stands
 inside_none d F stands_for q inside = inside_by d F (noted d) stands_for q inside
 
-pub first_stays : (d : Map) (ns later : List Note) (q : List ℕ) (w : Option (List ℕ)) → note_of ns q ≡ Some w → get (restored (ns ++ later) d) q ≡ w
+pub first_stays : (d : Map) (ns later : List Note) (q : List ℕ) (w : Option (List ℕ)) → note_of ns q ≡ Some w → get (put_over (ns ++ later) d) q ≡ w
 first_stays d ns later q w is =
-    get-restored (ns ++ later) d q ∙ ap (λ (o : Option (Option (List ℕ))). or_else o (get d q)) (note_of-append ns later q ∙ ap (λ (o : Option (Option (List ℕ))). first_of_two o (note_of later q)) is)
+    get-put_over (ns ++ later) d q ∙ ap (λ (o : Option (Option (List ℕ))). or_else o (get d q)) (note_of-append ns later q ∙ ap (λ (o : Option (Option (List ℕ))). first_of_two o (note_of later q)) is)

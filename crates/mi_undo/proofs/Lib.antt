@@ -15,6 +15,7 @@ mod EntryLemmas
 mod EntrySteps
 mod FreshLemmas
 mod EnterLemmas
+mod EntryNumbers
 pub mod AreaLemmas
 pub mod ClearLemmas
 pub mod CloseLemmas
@@ -25,6 +26,7 @@ mod SettleBits
 pub mod ChangeLemmas
 pub mod BackLemmas
 mod ReturnLemmas
+mod OverLemmas
 pub mod PutLemmas
 pub mod BeginLemmas
 mod DecodeLemmas
@@ -35,4 +37,5 @@ pub mod SpareLemmas
 mod InsideLemmas
 mod SweepLemmas
 pub mod SettleSteps
+mod ShortLemmas
 mod LawLemmas

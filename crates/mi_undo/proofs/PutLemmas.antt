@@ -18,7 +18,7 @@ use Rattle.mi_undo.proofs.AreaLemmas.{all_of_area, area_inside}
 use Rattle.mi_undo.specs.Commit.{IsHalfway}
 use Rattle.mi_undo.specs.Clear.{IsShut, AreInside, AreAll, Clears}
 use Rattle.mi_undo.specs.Back.{InsideStays, Removed, Returned, PutsBack, Shuts}
-use Rattle.mi_undo.proofs.FaultLemmas.{at_err}
+use Rattle.mi_undo.proofs.FaultLemmas.{at_err, all_err}
 use Rattle.mi_undo.proofs.StepLemmas.{image_is_of}
 use Rattle.mi_undo.proofs.BackSteps.{keeps_byte, keeps_image, keeps_stays, back_halfway}
 use Rattle.mi_undo.proofs.CloseLemmas.{halfway_image, halfway_step, closed}
@@ -101,7 +101,7 @@ shut_cleared s t u F r first clears = record { goes = joined s t u (StandsFor F)
 -- The area is gone back over, by its answers.
 module _ (s : State) (kept : Kept) (F : Map) (can : CanGoBack s kept F) (t : State) where
   pub not_gone : {T E : Type 0} (r : Result T E) (e : Result (Unit {0}) BackFault) → PutsBack s t F can.notes r → IsErr e → GoesBack s t F e
-  not_gone r e puts fails = record { goes = puts.goes; leaves = keeps_image t F can.notes puts.keeps; outside = at_err _ e fails; free = at_err _ e fails }
+  not_gone r e puts fails = record { goes = puts.goes; leaves = keeps_image t F can.notes puts.keeps; outside = at_err _ e fails; free = at_err _ e fails; marked = all_err _ e puts.keeps.marked }
 
   pub byte_after : {T E : Type 0} (r : Result T E) → PutsBack s t F can.notes r → HoldsByte t.held kept.marker
   byte_after r puts = keeps_byte t F can.notes kept.marker can.marker puts.keeps
@@ -115,7 +115,7 @@ module _ (s : State) (kept : Kept) (F : Map) (can : CanGoBack s kept F) (t : Sta
   area_within = subst AreInside (sym can.area) (area_inside can.tried)
 
   pub gone_back : {T E : Type 0} (r : Result T E) → PutsBack s t F can.notes r → Passes s t → (u : State) (w : Result (Unit {0}) Failed) → Shuts t u F w → (IsErr w → Rose t u) → GoesBack {T = Unit {0}} {E = BackFault} s u F (Ok tt)
-  gone_back r puts passes u w shuts rose = record { goes = joined s t u (StandsFor F) puts.goes shuts.goes; leaves = shuts.leaves; outside = shuts.outside; free = free w shuts.free rose }
+  gone_back r puts passes u w shuts rose = record { goes = joined s t u (StandsFor F) puts.goes shuts.goes; leaves = shuts.leaves; outside = shuts.outside; free = free w shuts.free rose; marked = tt }
     where
       free : (w : Result (Unit {0}) Failed) → OnOk w (IsFree u) → (IsErr w → Rose t u) → IsFreeUnlessRose s u
       free (Ok x) ok up = inl ok

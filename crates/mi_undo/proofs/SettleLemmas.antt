@@ -6,11 +6,11 @@ use Rattle.mi_volume.specs.State.{State, NothingDirty}
 use Rattle.mi_text.proofs.MapLemmas.{same}
 use Rattle.mi_undo.specs.Names.{marker, gate_name, entry_name, most_entries, is_inside}
 use Rattle.mi_undo.specs.Notes.{Note, note_of, notes_of, are_new}
-use Rattle.mi_undo.specs.Stands.{is_one, only_new, entry_notes, or_bad, read_from, noted, restored, outside, back_by, stands, StandsFor}
+use Rattle.mi_undo.specs.Stands.{is_one, only_new, entry_notes, or_bad, read_from, noted, put_over, outside, back_by, stands, StandsFor}
 use Rattle.mi_undo.specs.Keeps.{IsNoted}
 use Rattle.mi_undo.specs.Reading.{first_shut, IsUnread, Spare}
 use Rattle.mi_undo.proofs.NameLemmas.{same_entry, gate_not_entry, marker_not_entry}
-use Rattle.mi_undo.proofs.StandsLemmas.{get-outside, get-restored, or_else}
+use Rattle.mi_undo.proofs.StandsLemmas.{get-outside, get-put_over, or_else}
 use Rattle.mi_undo.proofs.NotesOf.{new_outside, are_new-append}
 
 or_bad_same : (o : Option (List Note)) (name : List ℕ) (f g : List Note → Result (List Note) (List ℕ)) → ((ns : List Note) → f ns ≡ g ns) → or_bad o name f ≡ or_bad o name g
@@ -76,12 +76,12 @@ module _ (s : State) (ns : List Note) (clean : NothingDirty s) (marked : is_one 
   inside_unnoted : (q : List ℕ) → is_inside q ≡ true → note_of ns q ≡ None
   inside_unnoted q inside = new_outside [] ns notes_new q inside
 
-  at_f : (q : List ℕ) → is_inside q ≡ false → get (outside (restored ns s.held)) q ≡ or_else (note_of ns q) (get s.held q)
-  at_f q out = get-outside (restored ns s.held) q ∙ ap (λ b. cond (not b) (get (restored ns s.held) q) None) out ∙ get-restored ns s.held q
+  at_f : (q : List ℕ) → is_inside q ≡ false → get (outside (put_over ns s.held)) q ≡ or_else (note_of ns q) (get s.held q)
+  at_f q out = get-outside (put_over ns s.held) q ∙ ap (λ b. cond (not b) (get (put_over ns s.held) q) None) out ∙ get-put_over ns s.held q
 
-  old : (q : List ℕ) (w : Option (List ℕ)) → note_of ns q ≡ Some w → get (outside (restored ns s.held)) q ≡ w
+  old : (q : List ℕ) (w : Option (List ℕ)) → note_of ns q ≡ Some w → get (outside (put_over ns s.held)) q ≡ w
   old q w noted_q =
-      elim (is_inside q) as (λ b. is_inside q ≡ b → get (outside (restored ns s.held)) q ≡ w) [
+      elim (is_inside q) as (λ b. is_inside q ≡ b → get (outside (put_over ns s.held)) q ≡ w) [
         | true ↦ λ inside. let clash : Some w ≡ None = sym noted_q ∙ inside_unnoted q inside in absurd (cc)
         | false ↦ λ out. at_f q out ∙ ap (λ (o : Option (Option (List ℕ))). or_else o (get s.held q)) noted_q
       ] refl
@@ -104,24 +104,24 @@ module _ (s : State) (ns : List Note) (clean : NothingDirty s) (marked : is_one 
     still_outside : (q : List ℕ) → is_inside q ≡ false → note_of ns q ≡ None → get d q ≡ get s.held q
     still_outside q out none = still q none (λ u. let clash : true ≡ false = sym (ap is_inside u.1.1.1) ∙ out in cc)
 
-    same_outside : outside (restored ns d) ≡ outside (restored ns s.held)
-    same_outside = same (outside (restored ns d)) (outside (restored ns s.held)) (λ q. get-outside (restored ns d) q ∙ by_side q ∙ sym (get-outside (restored ns s.held) q))
+    same_outside : outside (put_over ns d) ≡ outside (put_over ns s.held)
+    same_outside = same (outside (put_over ns d)) (outside (put_over ns s.held)) (λ q. get-outside (put_over ns d) q ∙ by_side q ∙ sym (get-outside (put_over ns s.held) q))
       where
         at : (q : List ℕ) (o : Option (Option (List ℕ))) → is_inside q ≡ false → note_of ns q ≡ o → or_else (note_of ns q) (get d q) ≡ or_else (note_of ns q) (get s.held q)
         at q None out none = ap (λ (x : Option (List ℕ)). or_else (note_of ns q) x) (still_outside q out none)
         at q (Some w) out some = ap (λ (o : Option (Option (List ℕ))). or_else o (get d q)) some ∙ sym (ap (λ (o : Option (Option (List ℕ))). or_else o (get s.held q)) some)
 
-        by_side : (q : List ℕ) → cond (not (is_inside q)) (get (restored ns d) q) None ≡ cond (not (is_inside q)) (get (restored ns s.held) q) None
-        by_side q = elim (is_inside q) as (λ b. is_inside q ≡ b → cond (not b) (get (restored ns d) q) None ≡ cond (not b) (get (restored ns s.held) q) None) [
+        by_side : (q : List ℕ) → cond (not (is_inside q)) (get (put_over ns d) q) None ≡ cond (not (is_inside q)) (get (put_over ns s.held) q) None
+        by_side q = elim (is_inside q) as (λ b. is_inside q ≡ b → cond (not b) (get (put_over ns d) q) None ≡ cond (not b) (get (put_over ns s.held) q) None) [
           | true ↦ λ inside. refl
-          | false ↦ λ out. get-restored ns d q ∙ at q (note_of ns q) out refl ∙ sym (get-restored ns s.held q)
+          | false ↦ λ out. get-put_over ns d q ∙ at q (note_of ns q) out refl ∙ sym (get-put_over ns s.held q)
         ] refl
 
-    whole : StandsFor (outside (restored ns s.held)) d
+    whole : StandsFor (outside (put_over ns s.held)) d
     unfolding stands noted
     whole = rw (ap is_one still_marker ∙ marked) (ap (back_by d) (read_same s.held d still_gate 0 most_entries [] still_entry ∙ read) ∙ ap Ok same_outside)
 
-  pub keeps_read : Spare s (outside (restored ns s.held)) ns (first_shut s.held 0 most_entries)
+  pub keeps_read : Spare s (outside (put_over ns s.held)) ns (first_shut s.held 0 most_entries)
   keeps_read = record {
     keeps = record {
       robust = λ d agrees. whole d (λ q free. agrees q (λ loose. free (inl loose)));
@@ -129,7 +129,7 @@ module _ (s : State) (ns : List Note) (clean : NothingDirty s) (marked : is_one 
       others = λ q out none. sym (at_f q out ∙ ap (λ (o : Option (Option (List ℕ))). or_else o (get s.held q)) none);
       olds = λ q w noted_q. old q w noted_q;
       outside = inside_unnoted;
-      nothing_inside = λ q inside. get-outside (restored ns s.held) q ∙ ap (λ b. cond (not b) (get (restored ns s.held) q) None) inside;
+      nothing_inside = λ q inside. get-outside (put_over ns s.held) q ∙ ap (λ b. cond (not b) (get (put_over ns s.held) q) None) inside;
     };
     spare = whole;
   }

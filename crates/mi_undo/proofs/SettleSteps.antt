@@ -9,7 +9,7 @@ use Rattle.mi_volume.specs.declared.volume.Failed.{Failed}
 use Rattle.mi_volume.proofs.Moments.{weaker, joined}
 use Rattle.mi_undo.specs.Names.{marker, is_inside, most_entries}
 use Rattle.mi_undo.specs.Notes.{Note, note_of, are_new}
-use Rattle.mi_undo.specs.Stands.{is_one, read_from, noted, restored, outside, stands, settled, StandsFor}
+use Rattle.mi_undo.specs.Stands.{is_one, read_from, noted, put_over, outside, stands, settled, StandsFor}
 use Rattle.mi_undo.specs.Keeps.{Keeps, IsFree}
 use Rattle.mi_undo.specs.Area.{note_in, notes_in, place_names}
 use Rattle.mi_undo.specs.Steps.{SealsByte}
@@ -35,10 +35,10 @@ one_map a b e = cc
 
 -- what a volume stands for, by its marker
 pub stands_shut : (h : Map) → is_one (get h marker) ≡ false → stands h ≡ Ok (outside h)
-unfolding stands noted restored
+unfolding stands noted put_over
 stands_shut h shut = rw shut refl
 
-pub stands_read : (h : Map) (ns : List Note) → is_one (get h marker) ≡ true → read_from h 0 most_entries [] ≡ Ok ns → stands h ≡ Ok (outside (restored ns h))
+pub stands_read : (h : Map) (ns : List Note) → is_one (get h marker) ≡ true → read_from h 0 most_entries [] ≡ Ok ns → stands h ≡ Ok (outside (put_over ns h))
 unfolding stands noted
 stands_read h ns marked read = rw (marked, read) refl
 
@@ -53,8 +53,8 @@ noted_read h ns marked read = rw marked read
 pub shut_is : (h F : Map) → is_one (get h marker) ≡ false → StandsFor F h → outside h ≡ F
 shut_is h F shut is = one_map (outside h) F (sym (stands_shut h shut) ∙ is)
 
-pub read_is : (h F : Map) (ns : List Note) → is_one (get h marker) ≡ true → read_from h 0 most_entries [] ≡ Ok ns → StandsFor F h → outside (restored ns h) ≡ F
-read_is h F ns marked read is = one_map (outside (restored ns h)) F (sym (stands_read h ns marked read) ∙ is)
+pub read_is : (h F : Map) (ns : List Note) → is_one (get h marker) ≡ true → read_from h 0 most_entries [] ≡ Ok ns → StandsFor F h → outside (put_over ns h) ≡ F
+read_is h F ns marked read is = one_map (outside (put_over ns h)) F (sym (stands_read h ns marked read) ∙ is)
 
 -- it can't be refused and not be
 pub not_both_read : (h F : Map) (bad : List ℕ) → StandsFor F h → stands h ≡ Err bad → ⊥
@@ -64,17 +64,12 @@ pub settled_clean : (h : Map) → is_one (get h marker) ≡ false → Clean ≡ 
 unfolding settled
 settled_clean h shut = rw shut refl
 
-notes_long : (d : Map) (places : List Place) → length (notes_in d places) ≡ length places
+pub notes_long : (d : Map) (places : List Place) → length (notes_in d places) ≡ length places
 notes_long d places = length-map places (note_in d)
 
 pub settled_undone : (h : Map) (places : List Place) → is_one (get h marker) ≡ true → read_from h 0 most_entries [] ≡ Ok (notes_in h places) → Undone (length places) ≡ settled h
 unfolding settled noted
 settled_undone h places marked read = rw (marked, read) (ap Undone (sym (notes_long h places)))
-
--- the names of the notes
-pub names_of_notes : (d : Map) (places : List Place) → map (λ (n : Note). n.name) (notes_in d places) ≡ place_names places
-names_of_notes d [] = refl
-names_of_notes d (p ∷ places) = ap (λ (l : List (List ℕ)). p.name ∷ l) (names_of_notes d places)
 
 -- with nothing dirty each crash image stands for what the volume does
 pub clean_image : (s : State) (h F : Map) → s.held ≡ h → NothingDirty s → StandsFor F h → (d : Map) → Images s d → StandsFor F d
@@ -183,7 +178,7 @@ settles_after s t u F r clean stands_for looks then = record {
   ok = then.ok;
 }
 
-one_list : (a b : List Note) → ◌≡◌ {A = Result (List Note) (List ℕ)} (Ok a) (Ok b) → a ≡ b
+pub one_list : (a b : List Note) → ◌≡◌ {A = Result (List Note) (List ℕ)} (Ok a) (Ok b) → a ≡ b
 one_list a b e = cc
 
 -- where putting back has failed
@@ -214,15 +209,12 @@ full_handed {A} B (Err Fault) e P Q is then full = tt
 full_handed {A} B (Err (BadRollback name)) e P Q is then full = tt
 full_handed {A} B (Err (Full name)) e P Q is then full = then name (subst (λ (x : UndoError). IfFull {A = B} (Err x) P) (sym is) full)
 
--- a name among those of the notes
-pub noted_name : (h : Map) (items places : List Place) (name : List ℕ) → places ≡ items → is_one (get h marker) ≡ true → read_from h 0 most_entries [] ≡ Ok (notes_in h items) → Contains (place_names places) name → (ns : List Note) × ((noted h ≡ Ok ns) × Contains (map (λ n. n.name) ns) name)
-noted_name h items places name same_places marked read among =
-    (notes_in h items, (noted_read h (notes_in h items) marked read, subst (λ (l : List (List ℕ)). Contains l name) (ap place_names same_places ∙ sym (names_of_notes h items)) among))
-
-pub named_at : (places : List Place) (i : ℕ) (p : Place) (name : List ℕ) → i < length places → name ≡ (slice_index_or places i p).name → Contains (place_names places) name
-named_at [] i p name below is = absurd (omega arith)
-named_at (q ∷ places) zero p name below is = (zero, omega arith, sym is)
-named_at (q ∷ places) (suc i) p name below is = let rest = named_at places i p name (omega arith) is in (suc rest.0, omega (arith, rest.1), rest.2)
+pub full_weaker : {A : Type 0} (r : Result A UndoError) (P Q : List ℕ → Type 0) → ((name : List ℕ) → P name → Q name) → IfFull r P → IfFull r Q
+full_weaker (Ok x) P Q then full = tt
+full_weaker (Err NoMemory) P Q then full = tt
+full_weaker (Err Fault) P Q then full = tt
+full_weaker (Err (BadRollback name)) P Q then full = tt
+full_weaker (Err (Full name)) P Q then full = then name full
 
 pub must_fail : {T E : Type 0} (r : Result T E) → IfOk r (λ x. ⊥) → IsErr r
 must_fail (Ok x) never = absurd never

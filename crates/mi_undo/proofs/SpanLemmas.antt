@@ -1,6 +1,6 @@
 -- Bytes that are added to a name by pieces.
-use Rattle.std.proofs.Common.{◌≡◌, ◌≢◌, ℕ, ◌+◌, ◌-◌, ◌≤◌, ◌<◌, List, [], ◌++◌, length, take, drop, Option, Some, Result, IsErr, IsErrOf, sym, ap, subst, ◌∙◌, arith, append_assoc, length-append}
-use Rattle.std.proofs.lemmas.List.{append-nil, drop-drop}
+use Rattle.std.proofs.Common.{◌≡◌, ◌≢◌, ℕ, ◌+◌, ◌-◌, ◌≤◌, ◌<◌, List, [], ◌++◌, length, take, drop, Option, Some, Result, IsErr, IsErrOf, sym, ap, subst, ◌∙◌, arith, append_assoc, length-append, length-take, length-drop}
+use Rattle.std.proofs.lemmas.List.{append-nil, drop-drop, take_all}
 use Rattle.std.proofs.Math.Seq.{take-add}
 use Rattle.std.specs.FinMap.{get, insert}
 use Rattle.mi_volume.specs.Maps.{Map, Exceeds, size, bytes_or_none}
@@ -86,6 +86,13 @@ pub run_whole : (m : Map) (name before bytes : List ℕ) (from : ℕ) {at end : 
 run_whole m name before bytes from {at} {end} low high past =
     let same_length : at - from ≡ end - from = grind (arith, low, high, past) in
     ap (λ (k : ℕ). insert m name (before ++ take k (drop from bytes))) same_length
+
+-- where nothing is read, nothing is left of the run
+pub run_ended : (bytes : List ℕ) (from at n end : ℕ) → from ≤ at → at ≤ end → 0 < n → length (take n (drop at bytes)) ≡ 0 → take (at - from) (drop from bytes) ≡ take (end - from) (drop from bytes)
+run_ended bytes from at n end low high some none =
+    let short : length bytes ≤ at = omega (arith, none, length-take n (drop at bytes), length-drop at bytes) in
+    let rest = length-drop from bytes in
+    take_all (at - from) (drop from bytes) (omega (arith, rest)) ∙ sym (take_all (end - from) (drop from bytes) (omega (arith, rest)))
 
 -- the next piece wasn't written
 pub piece_fails : {T U : Type 0} (s t u v : State) (name before other piece : List ℕ) (from at n end : ℕ) (r : Result T OpFault) (w : Result U PutFault)

@@ -1,9 +1,9 @@
 -- Entries that aren't read.
-use Rattle.std.proofs.Common.{◌≡◌, ◌≢◌, ◌⊎◌, inl, inr, ⊎_elim, ℕ, ◌≤◌, ◌<◌, true, false, List, refl, sym, ap, ◌∙◌, arith}
-use Rattle.std.specs.FinMap.{get}
+use Rattle.std.proofs.Common.{◌≡◌, ◌≢◌, ◌⊎◌, inl, inr, ⊎_elim, ℕ, ◌≤◌, ◌<◌, true, false, List, None, refl, sym, ap, ◌∙◌, arith}
+use Rattle.std.specs.FinMap.{get, remove}
 use Rattle.mi_volume.specs.Maps.{Map, OthersStay}
 use Rattle.mi_volume.specs.State.{State, GoesOn, Images, ImagesOf, OnlyDirties, Stays}
-use Rattle.mi_volume.proofs.MapLemmas.{name_cases}
+use Rattle.mi_volume.proofs.MapLemmas.{name_cases, get-remove_same, get-remove_other}
 use Rattle.mi_volume.proofs.Moments.{started, joined, weaker}
 use Rattle.mi_undo.specs.Names.{marker, entry_name, most_entries, is_inside}
 use Rattle.mi_undo.specs.Notes.{Note}
@@ -15,13 +15,14 @@ use Rattle.mi_undo.proofs.OpenLemmas.{robust_step}
 use Rattle.mi_undo.proofs.BackSteps.{keeps_stays}
 
 pub spares_start : (s : State) (F : Map) (ns : List Note) (n : ℕ) → Spare s F ns n → Spares s s F ns n
-spares_start s F ns n spare = record { goes = started s (StandsFor F); spare = spare; below = λ k less. refl }
+spares_start s F ns n spare = record { goes = started s (StandsFor F); spare = spare; below = λ k less. refl; others = λ q read. refl }
 
 pub spares_then : (s t u : State) (F : Map) (ns : List Note) (n : ℕ) → Spares s t F ns n → Spares t u F ns n → Spares s u F ns n
 spares_then s t u F ns n first second = record {
   goes = joined s t u (StandsFor F) first.goes second.goes;
   spare = second.spare;
   below = λ k less. second.below k less ∙ first.below k less;
+  others = λ q read. second.others q read ∙ first.others q read;
 }
 
 module _ (s t : State) (F : Map) (ns : List Note) (n : ℕ) (spare : Spare s F ns n) where
@@ -34,6 +35,7 @@ module _ (s t : State) (F : Map) (ns : List Note) (n : ℕ) (spare : Spare s F n
           (λ q loose. ⊎_elim (λ now. inl (⊎_elim (λ d. inl (stays.dirty q d)) (λ noted. inr noted) now)) (λ unread. inr unread) loose);
     };
     below = λ k less. ap (λ (m : Map). get m (entry_name k)) stays.held;
+    others = λ q read. ap (λ (m : Map). get m q) stays.held;
   }
 
   module _ (k : ℕ) (le : n ≤ k) (few : k < most_entries) (x : List ℕ) (is : x ≡ entry_name k) (goes : GoesOn s t (ImagesOf x s)) (others : OthersStay x s.held t.held) (dirty : OnlyDirties x s t) where
@@ -48,6 +50,7 @@ module _ (s t : State) (F : Map) (ns : List Note) (n : ℕ) (spare : Spare s F n
       goes = weaker s t (ImagesOf x s) (StandsFor F) (λ d image. spare.spare d (λ q free. image.agrees q (⊎_elim (λ now. free (inl (inl now))) (λ same. free (inr (at_x q same)))))) goes;
       spare = record { keeps = keeps_removed; spare = spare_removed };
       below = λ j less. others (entry_name j) (λ same. let number = same_entry j k (omega (arith, less, le, few)) few (same ∙ is) in omega (arith, number, less, le));
+      others = λ q read. others q (λ same. read (at_x q same));
     }
       where
         spare_removed : Robust t.held (λ q. Loose t ns q ⊎ IsUnread n q) F
@@ -63,3 +66,7 @@ module _ (s t : State) (F : Map) (ns : List Note) (n : ℕ) (spare : Spare s F n
           outside = spare.keeps.outside;
           nothing_inside = spare.keeps.nothing_inside;
         }
+
+-- a name that isn't held isn't after a removal
+pub still_none : (m : Map) (n q : List ℕ) → get m q ≡ None → get (remove m n) q ≡ None
+still_none m n q none = ⊎_elim (λ (is : q ≡ n). ap (λ (x : List ℕ). get (remove m n) x) is ∙ get-remove_same m n) (λ other. get-remove_other m n q other ∙ none) (name_cases q n)

@@ -8,7 +8,7 @@ use Rattle.mi_volume.specs.Maps.{Map}
 use Rattle.mi_volume.specs.State.{State, Images, NothingDirty}
 use Rattle.mi_undo.specs.Names.{marker, gate_name, most_entries, is_inside}
 use Rattle.mi_undo.specs.Notes.{Note, note_of, all_notes}
-use Rattle.mi_undo.specs.Stands.{is_one, entry_notes, read_from, noted, restored, outside, back_by, stands, StandsFor}
+use Rattle.mi_undo.specs.Stands.{is_one, entry_notes, read_from, noted, put_over, outside, back_by, stands, StandsFor}
 use Rattle.mi_undo.specs.Keeps.{Opened, AreNew}
 
 -- the entries that are spelled are read
@@ -32,25 +32,25 @@ abbrev pub or_else : Option (Option (List ℕ)) → Option (List ℕ) → Option
 or_else None old = old
 or_else (Some w) old = w
 
-pub get-restored : (ns : List Note) (d : Map) (q : List ℕ) → get (restored ns d) q ≡ or_else (note_of ns q) (get d q)
-unfolding restored
-get-restored [] d q = refl
-get-restored (n ∷ ns) d q =
-    get-set_to (restored ns d) n.name n.was q
-    ∙ elim (same_name q n.name) as (λ b. cond b n.was (get (restored ns d) q) ≡ or_else (cond b (Some n.was) (note_of ns q)) (get d q)) [ true ↦ refl | false ↦ get-restored ns d q ]
+pub get-put_over : (ns : List Note) (d : Map) (q : List ℕ) → get (put_over ns d) q ≡ or_else (note_of ns q) (get d q)
+unfolding put_over
+get-put_over [] d q = refl
+get-put_over (n ∷ ns) d q =
+    get-set_to (put_over ns d) n.name n.was q
+    ∙ elim (same_name q n.name) as (λ b. cond b n.was (get (put_over ns d) q) ≡ or_else (cond b (Some n.was) (note_of ns q)) (get d q)) [ true ↦ refl | false ↦ get-put_over ns d q ]
 
-pub is_restored : (d F : Map) (ns : List Note) → ((q : List ℕ) → is_inside q ≡ false → note_of ns q ≡ None → get d q ≡ get F q) → ((q : List ℕ) (w : Option (List ℕ)) → note_of ns q ≡ Some w → get F q ≡ w) → ((q : List ℕ) → is_inside q ≡ true → get F q ≡ None) → outside (restored ns d) ≡ F
-is_restored d F ns others olds nothing = same _ F (λ q. get-outside (restored ns d) q ∙ at q)
+pub is_put_over : (d F : Map) (ns : List Note) → ((q : List ℕ) → is_inside q ≡ false → note_of ns q ≡ None → get d q ≡ get F q) → ((q : List ℕ) (w : Option (List ℕ)) → note_of ns q ≡ Some w → get F q ≡ w) → ((q : List ℕ) → is_inside q ≡ true → get F q ≡ None) → outside (put_over ns d) ≡ F
+is_put_over d F ns others olds nothing = same _ F (λ q. get-outside (put_over ns d) q ∙ at q)
   where
     noted_or_not : (q : List ℕ) (o : Option (Option (List ℕ))) → is_inside q ≡ false → note_of ns q ≡ o → or_else o (get d q) ≡ get F q
     noted_or_not q None out is = others q out is
     noted_or_not q (Some w) out is = sym (olds q w is)
 
-    at : (q : List ℕ) → cond (not (is_inside q)) (get (restored ns d) q) None ≡ get F q
+    at : (q : List ℕ) → cond (not (is_inside q)) (get (put_over ns d) q) None ≡ get F q
     at q =
-        elim (is_inside q) as (λ b. is_inside q ≡ b → cond (not b) (get (restored ns d) q) None ≡ get F q) [
+        elim (is_inside q) as (λ b. is_inside q ≡ b → cond (not b) (get (put_over ns d) q) None ≡ get F q) [
           | true ↦ λ is. sym (nothing q is)
-          | false ↦ λ is. get-restored ns d q ∙ noted_or_not q (note_of ns q) is refl
+          | false ↦ λ is. get-put_over ns d q ∙ noted_or_not q (note_of ns q) is refl
         ] refl
 
 pub stands_for : (d F : Map) (parts : List (List Note)) → is_one (get d marker) ≡ true → Opened d 0 parts → ((j : ℕ) → j ≡ length parts → j < most_entries → is_one (get d (gate_name j)) ≡ false) → AreNew [] parts → length parts ≤ most_entries → ((q : List ℕ) → is_inside q ≡ false → note_of (all_notes parts) q ≡ None → get d q ≡ get F q) → ((q : List ℕ) (w : Option (List ℕ)) → note_of (all_notes parts) q ≡ Some w → get F q ≡ w) → ((q : List ℕ) → is_inside q ≡ true → get F q ≡ None) → StandsFor F d
@@ -58,12 +58,12 @@ unfolding stands noted
 stands_for d F parts marked opened shut new few others olds nothing =
     rw marked
     (ap (back_by d) (read_opened d 0 [] parts most_entries opened (λ j at below. shut j (omega arith) below) new few (omega arith))
-    ∙ ap Ok (is_restored d F (all_notes parts) others olds nothing))
+    ∙ ap Ok (is_put_over d F (all_notes parts) others olds nothing))
 
 -- with a marker that isn't open, a map stands for what is outside the area
 pub stands_unmarked : (d F : Map) → is_one (get d marker) ≡ false → ((q : List ℕ) → is_inside q ≡ false → get d q ≡ get F q) → ((q : List ℕ) → is_inside q ≡ true → get F q ≡ None) → StandsFor F d
 unfolding stands noted
-stands_unmarked d F shut others nothing = rw shut (ap Ok (is_restored d F [] (λ q out none. others q out) (λ q w is. absurd (cc)) nothing))
+stands_unmarked d F shut others nothing = rw shut (ap Ok (is_put_over d F [] (λ q out none. others q out) (λ q w is. absurd (cc)) nothing))
 
 -- where nothing is inside the area, a map stands for itself
 pub stands_itself : (d : Map) → ((q : List ℕ) → is_inside q ≡ true → get d q ≡ None) → StandsFor d d
@@ -77,6 +77,6 @@ clean_same s held is clean d image = same d held (λ q. image.agrees q (clean q)
 pub unnoted_is : (h F : Map) (ns : List Note) → stands h ≡ Ok F → noted h ≡ Ok ns → (q : List ℕ) → is_inside q ≡ false → note_of ns q ≡ None → get h q ≡ get F q
 unfolding stands
 unnoted_is h F ns sf is q out none =
-    let here : Ok (outside (restored ns h)) ≡ Ok F = ap (λ (r : Result (List Note) (List ℕ)). back_by h r) (sym is) ∙ sf in
-    let map : outside (restored ns h) ≡ F = cc in
-    sym (ap (λ (m : Map). get m q) (sym map) ∙ get-outside (restored ns h) q ∙ ap (λ b. cond (not b) (get (restored ns h) q) None) out ∙ get-restored ns h q ∙ ap (λ (w : Option (Option (List ℕ))). or_else w (get h q)) none)
+    let here : Ok (outside (put_over ns h)) ≡ Ok F = ap (λ (r : Result (List Note) (List ℕ)). back_by h r) (sym is) ∙ sf in
+    let map : outside (put_over ns h) ≡ F = cc in
+    sym (ap (λ (m : Map). get m q) (sym map) ∙ get-outside (put_over ns h) q ∙ ap (λ b. cond (not b) (get (put_over ns h) q) None) out ∙ get-put_over ns h q ∙ ap (λ (w : Option (Option (List ℕ))). or_else w (get h q)) none)

@@ -1,5 +1,5 @@
 -- Calls that change one name, or nothing.
-use Rattle.std.proofs.Common.{◌≡◌, inl, inr, ⊎_elim, ℕ, ◌+◌, ◌≤◌, List, length, Option, Some, None, refl, sym, ap, subst, ◌∙◌, arith}
+use Rattle.std.proofs.Common.{◌≡◌, inl, inr, ⊎_elim, ℕ, ◌+◌, ◌≤◌, List, length, Option, Some, None, Ok, refl, sym, ap, subst, ◌∙◌, arith}
 use Rattle.std.specs.FinMap.{get, insert}
 use Rattle.mi_text.proofs.MapLemmas.{same}
 use Rattle.mi_volume.specs.Maps.{Map, Fits, Exceeds, size, slot_size}
@@ -7,7 +7,8 @@ use Rattle.mi_volume.specs.State.{State, GoesOn, Images, ImagesOf, Stays}
 use Rattle.mi_volume.proofs.MapLemmas.{name_cases, get-insert_same, get-insert_other}
 use Rattle.mi_volume.proofs.Moments.{started, joined, weaker}
 use Rattle.mi_volume.proofs.SizeLemmas.{size-insert}
-use Rattle.mi_undo.specs.Steps.{OnlyChanges}
+use Rattle.mi_volume.specs.Calls.{Writes}
+use Rattle.mi_undo.specs.Steps.{OnlyChanges, IsWithin}
 
 image_of_earlier : (s t : State) (x : List ℕ) → OnlyChanges x s t → (d : Map) → ImagesOf x t d → ImagesOf x s d
 image_of_earlier s t x first d image = record {
@@ -60,6 +61,15 @@ exceeds_longer capacity m n b c le over =
     let one = size-insert m n b in
     let two = size-insert m n c in
     exceeds_more capacity (size (insert m n b)) (size (insert m n c)) (omega (arith, one, two, le)) over
+
+-- what is held still fits where nothing is changed
+pub within_stays : (s t : State) → t.capacity ≡ s.capacity → Stays s t → IsWithin s → IsWithin t
+within_stays s t same_capacity stays fits = subst (λ (m : Map). Fits t.capacity (size m)) (sym stays.held) (subst (λ (c : Option ℕ). Fits c (size s.held)) (sym same_capacity) fits)
+
+-- and after a good write
+pub within_put : {T : Type 0} (s t : State) (name bytes : List ℕ) (x : T) → t.capacity ≡ s.capacity → Writes name bytes s t (Ok x) → IsWithin t
+within_put s t name bytes x same_capacity writes =
+    subst (λ (m : Map). Fits t.capacity (size m)) (sym writes.ok) (subst (λ (c : Option ℕ). Fits c (size (insert s.held name bytes))) (sym same_capacity) writes.fits)
 
 pub size-new : (m : Map) (n b : List ℕ) → get m n ≡ None → size (insert m n b) ≡ size m + (length n + length b)
 size-new m n b none =

@@ -20,7 +20,7 @@ use Rattle.mi_undo.proofs.InsideLemmas.{past_inside, at_top}
 use Rattle.mi_undo.proofs.ClearLemmas.{shut_image, shut_image_of, shut_kept, shut_stays, shut_outside, shut_held}
 
 -- a name that isn't held, or a contradiction
-held_not : (o : Option (List ℕ)) → ((x : List ℕ) → o ≡ Some x → ⊥) → o ≡ None
+pub held_not : (o : Option (List ℕ)) → ((x : List ℕ) → o ≡ Some x → ⊥) → o ≡ None
 held_not None never = refl
 held_not (Some x) never = absurd (never x refl)
 

@@ -1,8 +1,10 @@
 -- What the calls of an area leave, by their answers.
-use Rattle.std.specs.Prelude.{◌≡◌, ◌⊎◌, ℕ, ◌-◌, ◌^◌, ◌≤◌, ◌<◌, List, Result, Ok, Err, OnOk, IsErrOf}
+use Rattle.std.specs.Prelude.{◌≡◌, ◌⊎◌, ℕ, ◌-◌, ◌^◌, ◌≤◌, ◌<◌, true, List, Result, Ok, Err, OnOk, OnErr, IsErrOf}
+use Rattle.std.specs.FinMap.{get}
 use Rattle.mi_volume.specs.Maps.{Map}
 use Rattle.mi_volume.specs.State.{State, GoesOn, Rose}
-use Rattle.mi_undo.specs.Stands.{StandsFor, outside}
+use Rattle.mi_undo.specs.Names.{marker}
+use Rattle.mi_undo.specs.Stands.{StandsFor, is_one, outside}
 use Rattle.mi_undo.specs.Keeps.{Each, EitherFor, IsFree}
 use Rattle.mi_undo.specs.Area.{Works, CanGoBack}
 use Rattle.mi_undo.specs.declared.kept.Kept.{Kept}
@@ -78,6 +80,8 @@ pub record GoesBack {T E : Type 0} (old new : State) (F : Map) (result : Result 
   pub leaves : Each new (StandsFor F)
   pub outside : OnOk result (outside new.held ≡ F)
   pub free : OnOk result (IsFreeUnlessRose old new)
+  -- after an error the old bytes aren't all on the disk, and the marker is open still
+  pub marked : OnErr result (is_one (get new.held marker) ≡ true)
 
 abbrev pub IfBad : {A : Type 0} → Result A UndoError → (List ℕ → Type 0) → Type 0
 IfBad (Ok x) P = Unit {0}

@@ -68,6 +68,11 @@ module _ {V : Type 0} where
     pub names : noted_names o ≡ []
     pub entries : entry_count o ≡ 0
 
+-- how many entries are made to note these names: none where there are none
+abbrev pub entries_for : List (List ℕ) → ℕ
+entries_for [] = 0
+entries_for (n ∷ names) = 1
+
 -- The area is in order, and F is the former map.
 pub record Works (s : State) (kept : Kept) (F : Map) : Type 0 where
   pub parts : List (List Note)

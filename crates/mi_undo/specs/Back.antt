@@ -1,13 +1,16 @@
 -- Going back.
-use Rattle.std.specs.Prelude.{◌≡◌, ℕ, true, List, Option, None, Some, Result, OnOk}
+use Rattle.std.specs.Prelude.{◌≡◌, ℕ, ◌+◌, true, List, take, Option, None, Some, Result, OnOk, IsErrOf}
 use Rattle.std.specs.FinMap.{get}
-use Rattle.mi_volume.specs.Maps.{Map}
+use Rattle.mi_text.specs.Maps.{set_to}
+use Rattle.mi_volume.specs.Maps.{Map, Fits, Exceeds, size}
 use Rattle.mi_volume.specs.State.{State, GoesOn, NothingDirty}
 use Rattle.mi_undo.specs.Names.{is_inside}
 use Rattle.mi_undo.specs.Notes.{Note, note_of}
-use Rattle.mi_undo.specs.Stands.{StandsFor, outside}
+use Rattle.mi_undo.specs.Stands.{StandsFor, put_over, outside}
 use Rattle.mi_undo.specs.Keeps.{Each, Keeps, IsFree}
-use Rattle.mi_undo.specs.Steps.{OnlyChanges}
+use Rattle.mi_undo.specs.Steps.{OnlyChanges, IsWithin}
+use Rattle.mi_undo.specs.declared.fault.OpFault.{OpFault}
+use Rattle.mi_undo.specs.declared.fault.OpFault.TheVariants.{Full}
 
 -- the names inside the area hold what they held
 abbrev pub InsideStays : Map → Map → Type 0
@@ -36,9 +39,21 @@ pub record Removed {T E : Type 0} (old new : State) (F : Map) (ns : List Note) (
   pub ok : OnOk result ((q : List ℕ) (w : Option (List ℕ)) → note_of ns q ≡ Some w → get new.held q ≡ None)
 
 -- after the old bytes of one name were put back
-pub record PutsOne {T E : Type 0} (name : List ℕ) (was : Option (List ℕ)) (old new : State) (result : Result T E) : Type 0 where
+pub record PutsOne {T : Type 0} (name : List ℕ) (was : Option (List ℕ)) (old new : State) (result : Result T OpFault) : Type 0 where
   pub only : OnlyChanges name old new
   pub ok : OnOk result (get new.held name ≡ was)
+  pub full : IsErrOf result Full → Exceeds old.capacity (size (set_to old.held name was))
+  pub fits : IsWithin old → OnOk result (IsWithin new)
+
+-- The old bytes before this note fit beside a map, and with its own they pass the capacity.
+pub record IsStuck (capacity : Option ℕ) (base : Map) (ns : List Note) (at : ℕ) : Type 0 where
+  pub passes : Exceeds capacity (size (put_over (take (at + 1) ns) base))
+  pub before : Fits capacity (size base) → Fits capacity (size (put_over (take at ns) base))
+
+-- a map without the names of these notes
+pub record IsWithout (ns : List Note) (d base : Map) : Type 0 where
+  pub away : (q : List ℕ) (w : Option (List ℕ)) → note_of ns q ≡ Some w → get base q ≡ None
+  pub others : (q : List ℕ) → note_of ns q ≡ None → get base q ≡ get d q
 
 -- after each was put back
 pub record Returned {T E : Type 0} (old new : State) (F : Map) (ns : List Note) (result : Result T E) : Type 0 where

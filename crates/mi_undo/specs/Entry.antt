@@ -1,21 +1,20 @@
 -- Writing an entry.
-use Rattle.std.specs.Prelude.{◌≡◌, ℕ, ◌+◌, ◌<◌, ◌^◌, true, ◌&&◌, nat_le, not, List, [], ◌∷◌, ◌++◌, length, Option, Result, OnOk, IfOk, IsErrOf}
+use Rattle.std.specs.Prelude.{◌≡◌, ℕ, ◌+◌, ◌<◌, ◌^◌, true, ◌&&◌, nat_le, not, List, [], ◌∷◌, ◌++◌, length, Option, Result, OnOk, IfOk}
 use Rattle.std.specs.Prelude.{Vec}
 use Rattle.std.specs.declared.alloc.Global.{Global}
 use Rattle.std.specs.Option.{option_map}
 use Rattle.std.specs.Str.{is_utf8}
 use Rattle.std.specs.FinMap.{get}
-use Rattle.mi_volume.specs.Maps.{Map, Exceeds, size}
+use Rattle.mi_volume.specs.Maps.{Map}
 use Rattle.mi_volume.specs.State.{State, GoesOn}
 use Rattle.mi_undo.specs.Names.{is_inside, entry_name}
 use Rattle.mi_undo.specs.Notes.{Note, all_notes, head_bytes, old_bytes, spelled_note, spelled}
 use Rattle.mi_undo.specs.Stands.{StandsFor, outside}
 use Rattle.mi_undo.specs.Keeps.{Keeps, IsOpen, OnlyBelow}
 use Rattle.mi_undo.specs.Area.{notes_in}
-use Rattle.mi_undo.specs.Steps.{Adds}
+use Rattle.mi_undo.specs.Steps.{Adds, AddsBytes}
 use Rattle.mi_undo.specs.declared.kept.Place.{Place}
 use Rattle.mi_undo.specs.declared.fault.OpFault.{OpFault}
-use Rattle.mi_undo.specs.declared.fault.OpFault.TheVariants.{Full}
 
 -- its lengths have room in their fields
 pub record Fits (n : Note) : Type 0 where
@@ -74,4 +73,4 @@ pub record Enters (number : ℕ) (F : Map) (parts : List (List Note)) (ns : List
   pub placed : IfOk result (λ v. notes_in new.held v.items ≡ ns)
   pub places : IfOk result (λ v. v.items ≡ places_from number 0 ns)
   pub others : (k : ℕ) → k < length parts → get new.held (entry_name k) ≡ get old.held (entry_name k)
-  pub full : IsErrOf result Full → Exceeds old.capacity (size old.held + (25 + length (spelled ns)))
+  pub adds : AddsBytes (25 + length (spelled ns)) old new result

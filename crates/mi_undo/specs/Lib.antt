@@ -12,5 +12,6 @@ pub mod Commit
 pub mod Begins
 pub mod Back
 pub mod Reading
+pub mod Short
 pub mod Sweep
 pub mod Settle

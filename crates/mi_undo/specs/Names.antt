@@ -28,6 +28,14 @@ is_inside [] = false
 is_inside (a ∷ []) = false
 is_inside (a ∷ b ∷ rest) = (a == 106) && (b == 47)
 
+-- the names that begin with j/e/
+abbrev pub is_entry_like : List ℕ → Bool
+is_entry_like [] = false
+is_entry_like (a ∷ []) = false
+is_entry_like (a ∷ b ∷ []) = false
+is_entry_like (a ∷ b ∷ c ∷ []) = false
+is_entry_like (a ∷ b ∷ c ∷ d ∷ rest) = (a == 106) && (b == 47) && (c == 101) && (d == 47)
+
 -- the names of so many entries and of their gates
 unfoldable pub area_names : ℕ → List (List ℕ)
 area_names zero = []

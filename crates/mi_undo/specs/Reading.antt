@@ -88,3 +88,4 @@ pub record Spares (old new : State) (F : Map) (ns : List Note) (n : ℕ) : Type 
   pub goes : GoesOn old new (StandsFor F)
   pub spare : Spare new F ns n
   pub below : (k : ℕ) → k < n → get new.held (entry_name k) ≡ get old.held (entry_name k)
+  pub others : (q : List ℕ) → ¬ IsUnread n q → get new.held q ≡ get old.held q

@@ -42,16 +42,20 @@ unfoldable pub noted : Map → Result (List Note) (List ℕ)
 noted d = if is_one (get d marker) then read_from d 0 most_entries [] else Ok []
 
 -- every noted name has its old bytes or absence
-unfoldable pub restored : List Note → Map → Map
-restored [] d = d
-restored (n ∷ ns) d = set_to (restored ns d) n.name n.was
+unfoldable pub put_over : List Note → Map → Map
+put_over [] d = d
+put_over (n ∷ ns) d = set_to (put_over ns d) n.name n.was
 
 -- the names that aren't in the rollback area
 unfoldable pub outside : Map → Map
 outside d = retain_keys d (λ q. not (is_inside q))
 
+-- the names that are in it
+unfoldable pub area_of : Map → Map
+area_of d = retain_keys d is_inside
+
 abbrev pub back_by : Map → Result (List Note) (List ℕ) → Result Map (List ℕ)
-back_by d (Ok ns) = Ok (outside (restored ns d))
+back_by d (Ok ns) = Ok (outside (put_over ns d))
 back_by d (Err name) = Err name
 
 -- the map that it stands for, or the name of the first entry that is read and absent or not spelled

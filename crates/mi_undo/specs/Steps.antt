@@ -1,10 +1,14 @@
 -- Calls of a volume that go together.
-use Rattle.std.specs.Prelude.{◌≡◌, List, ℕ, [], ◌∷◌, ◌++◌, Result, OnOk, IsErrOf}
+use Rattle.std.specs.Prelude.{◌≡◌, List, ℕ, ◌+◌, [], ◌∷◌, ◌++◌, Result, OnOk, IsErrOf}
 use Rattle.std.specs.FinMap.{insert}
-use Rattle.mi_volume.specs.Maps.{OthersStay, HoldsByte, Exceeds, size}
+use Rattle.mi_volume.specs.Maps.{OthersStay, HoldsByte, Fits, Exceeds, size}
 use Rattle.mi_volume.specs.State.{State, GoesOn, ImagesOf, OnlyDirties, NothingDirty}
 use Rattle.mi_undo.specs.declared.fault.OpFault.{OpFault}
 use Rattle.mi_undo.specs.declared.fault.OpFault.TheVariants.{Full}
+
+-- what is held fits the capacity
+abbrev pub IsWithin : State → Type 0
+IsWithin s = Fits s.capacity (size s.held)
 
 -- No other name than this has changed, and a crash in between has left no other changed.
 pub record OnlyChanges (name : List ℕ) (old new : State) : Type 0 where
@@ -22,6 +26,12 @@ pub record SealsByte {T E : Type 0} (name : List ℕ) (byte : ℕ) (old new : St
   pub only : OnlyChanges name old new
   pub ok : OnOk result ((new.held ≡ insert old.held name (byte ∷ [])) × NothingDirty new)
   pub one_byte : HoldsByte new.held name
+
+-- after a call that adds so many bytes: it fits, or is Full where they pass the capacity
+pub record AddsBytes {T : Type 0} (n : ℕ) (old new : State) (result : Result T OpFault) : Type 0 where
+  pub ok : OnOk result (size new.held ≡ size old.held + n)
+  pub fits : OnOk result (Fits old.capacity (size old.held + n))
+  pub full : IsErrOf result Full → Exceeds old.capacity (size old.held + n)
 
 -- Behind what the name held these bytes are added.
 pub record Adds {T : Type 0} (name before bytes : List ℕ) (old new : State) (result : Result T OpFault) : Type 0 where

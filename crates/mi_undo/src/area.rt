@@ -1,15 +1,17 @@
 //! An open rollback area over a lent volume.
 
-ghost use Rattle.std.specs.Prelude.{◌≡◌, ◌≢◌, ◌+◌, ◌≤◌, ◌<◌, ◌++◌, [], List, ℕ, length, take, drop, IsErrOf, IfOk, IfErr, OnOk, OnErr, MatchResult, IsSome, Contains};
+ghost use Rattle.std.specs.Prelude.{◌≡◌, ◌≢◌, ◌+◌, ◌≤◌, ◌<◌, ◌++◌, [], List, ℕ, length, take, drop, IsErrOf, IfOk, IfErr, OnOk, OnErr, IsOkUnless, MatchResult, IsSome, Contains};
 ghost use Rattle.std.specs.Option.{option_map};
 ghost use Rattle.std.specs.FinMap.{get, insert, remove};
-ghost use Rattle.mi_volume.specs.Maps.{Map, OthersStay, Exceeds, size, bytes_or_none};
-ghost use Rattle.mi_volume.specs.State.{Passes, Rose, Stays, GoesOn, Images};
+ghost use Rattle.mi_volume.specs.Maps.{Map, OthersStay, Fits, Exceeds, size, bytes_or_none};
+ghost use Rattle.mi_text.specs.Bytes.{AreBytes};
+ghost use Rattle.mi_volume.specs.State.{Passes, Rose, Stays, StaysDirty, GoesOn, Images};
 ghost use Rattle.mi_undo.specs.Names.{marker, most_entries};
 ghost use Rattle.mi_undo.specs.Notes.{new_names, notes_for, spelled};
-ghost use Rattle.mi_undo.specs.Stands.{outside};
+ghost use Rattle.mi_undo.specs.Stands.{outside, area_of};
 ghost use Rattle.mi_undo.specs.Keeps.{IsFree};
-ghost use Rattle.mi_undo.specs.Area.{AreOutside, Knows, volume, noted_names, entry_count, IsWorking, IsLive, IsFresh, Works, CanGoBack};
+ghost use Rattle.mi_undo.specs.Area.{AreOutside, Knows, entries_for, volume, noted_names, entry_count, IsWorking, IsLive, IsFresh, Works, CanGoBack};
+ghost use Rattle.mi_undo.specs.Steps.{AddsBytes};
 ghost use Rattle.mi_undo.specs.Begins.{Begins, progress_of};
 ghost use Rattle.mi_undo.specs.Answers.{IsFreeUnlessRose, Opens, Declines, Notes, Changes, Commits, CountsRise, IfUnknown, GoesBack};
 
@@ -39,7 +41,8 @@ pub struct Refused<'a, V> {
     pub fault: OpFault,
 }
 
-/// Begins an area on a settled volume. Full comes only where the size and 4 bytes pass the capacity.
+/// Begins an area on a settled volume. Full comes only where the size and 4 bytes pass the capacity,
+/// and Ok only where they fit. After another error than Fault nothing is changed.
 pub fn begin<'a, V: Volume>(alloc: Global, vol: &'a mut V) -> Result<Open<'a, V>, Refused<'a, V>>
     requires free { V.told → IsFree (V.state vol.old) }
     ensures reference { IfOk result (λ o. o.vol.ghost_name ≡ vol.entry.ghost_name) }
@@ -50,6 +53,8 @@ pub fn begin<'a, V: Volume>(alloc: Global, vol: &'a mut V) -> Result<Open<'a, V>
     ensures passes { MatchResult result (λ o. Passes (V.state vol.old) (V.state (volume o))) (λ r. Passes (V.state vol.old) (V.state r.vol.now)) }
     ensures fault { IfErr result (λ r. r.fault ≡ OpFault.Fault → Rose (V.state vol.old) (V.state r.vol.now)) }
     ensures full { IfErr result (λ r. r.fault ≡ OpFault.Full → V.told × Exceeds (V.state vol.old).capacity (size (V.state vol.old).held + 4)) }
+    ensures fits { V.told → IfOk result (λ o. Fits (V.state vol.old).capacity (size (V.state vol.old).held + 4)) }
+    ensures stays { V.told → IfErr result (λ r. r.fault ≢ OpFault.Fault → Stays (V.state vol.old) (V.state r.vol.now)) }
 {
     match begin_area(alloc, vol) {
         Ok(marker) => Ok(Open {
@@ -70,6 +75,8 @@ fn begin_area<V: Volume>(alloc: Global, vol: &mut V) -> Result<Name, OpFault>
     ensures passes { Passes (V.state vol.old) (V.state vol.new) }
     ensures fault { IsErrOf result OpFault.Fault → Rose (V.state vol.old) (V.state vol.new) }
     ensures full { IsErrOf result OpFault.Full → V.told × Exceeds (V.state vol.old).capacity (size (V.state vol.old).held + 4) }
+    ensures fits { V.told → OnOk result (Fits (V.state vol.old).capacity (size (V.state vol.old).held + 4)) }
+    ensures stays { V.told → IfErr result (λ fault. fault ≢ OpFault.Fault → Stays (V.state vol.old) (V.state vol.new)) }
 {
     let name = marker_of(alloc)?;
     put_synced(alloc, vol, &name, &[1])?;
@@ -105,7 +112,8 @@ fn progress_after(outcome: &Result<(), CommitFault>) -> Progress
 
 impl<'a, V: Volume> Open<'a, V> {
     /// Notes the old bytes or absence of each name that isn't noted yet, as one entry. Where all are
-    /// noted, nothing is done. Full comes only where the size, 25 bytes and the notes pass the capacity.
+    /// noted, nothing is done, and the answer is Ok or NoMemory. Else the size grows by 25 bytes and the
+    /// notes: Full comes only where that passes the capacity, and Ok only where it fits.
     pub fn note(&mut self, alloc: Global, names: &[Name]) -> Result<(), OpFault>
         requires working { IsWorking self.old }
         requires outside { AreOutside names.now }
@@ -114,11 +122,15 @@ impl<'a, V: Volume> Open<'a, V> {
         ensures live { IsLive self.new }
         ensures working { OnOk result (IsWorking self.new) }
         ensures names { OnOk result (noted_names self.new ≡ noted_names self.old ++ new_names (noted_names self.old) names.now) }
-        ensures entries { entry_count self.new ≤ entry_count self.old + 1 }
+        ensures entries { OnOk result (entry_count self.new ≡ entry_count self.old + entries_for (new_names (noted_names self.old) names.now)) }
+        ensures entries_stay { OnErr result (entry_count self.new ≡ entry_count self.old) }
+        ensures all_noted { new_names (noted_names self.old) names.now ≡ [] → IsOkUnless result OpFault.NoMemory }
+        ensures untouched { new_names (noted_names self.old) names.now ≡ [] → volume self.new ≡ volume self.old }
         ensures notes { V.told → (F : Map) → Works (V.state (volume self.old)) self.old.kept F → Notes (V.state (volume self.old)) (V.state (volume self.new)) self.new.kept F result }
         ensures passes { Passes (V.state (volume self.old)) (V.state (volume self.new)) }
         ensures fault { IsErrOf result OpFault.Fault → Rose (V.state (volume self.old)) (V.state (volume self.new)) }
         ensures full { IsErrOf result OpFault.Full → V.told × ((F : Map) → Works (V.state (volume self.old)) self.old.kept F → Exceeds (V.state (volume self.old)).capacity (size (V.state (volume self.old)).held + (25 + length (spelled (notes_for (V.state (volume self.old)).held (new_names (noted_names self.old) names.now)))))) }
+        ensures adds { V.told → (F : Map) → Works (V.state (volume self.old)) self.old.kept F → new_names (noted_names self.old) names.now ≢ [] → AddsBytes (25 + length (spelled (notes_for (V.state (volume self.old)).held (new_names (noted_names self.old) names.now)))) (V.state (volume self.old)) (V.state (volume self.new)) result }
     {
         self.progress = Progress::Failed;
         match note_names(alloc, self.vol, &mut self.kept, names) {
@@ -130,7 +142,8 @@ impl<'a, V: Volume> Open<'a, V> {
         }
     }
 
-    /// Gives a noted name exactly these bytes.
+    /// Gives a noted name exactly these bytes. Full comes only where the size then would pass the
+    /// capacity, and Ok only where it fits. After another error than Fault nothing is changed.
     pub fn put(&mut self, alloc: Global, name: &Name, bytes: &[u8]) -> Result<(), OpFault>
         requires working { IsWorking self.old }
         requires noted { Contains (noted_names self.old) name.now }
@@ -145,6 +158,8 @@ impl<'a, V: Volume> Open<'a, V> {
         ensures passes { Passes (V.state (volume self.old)) (V.state (volume self.new)) }
         ensures fault { IsErrOf result OpFault.Fault → Rose (V.state (volume self.old)) (V.state (volume self.new)) }
         ensures full { IsErrOf result OpFault.Full → V.told × Exceeds (V.state (volume self.old)).capacity (size (insert (V.state (volume self.old)).held name.now bytes.now)) }
+        ensures fits { V.told → OnOk result (Fits (V.state (volume self.old)).capacity (size (insert (V.state (volume self.old)).held name.now bytes.now))) }
+        ensures stays { V.told → IfErr result (λ fault. fault ≢ OpFault.Fault → Stays (V.state (volume self.old)) (V.state (volume self.new))) }
     {
         self.progress = Progress::Failed;
         self.vol.put(alloc, name, bytes)?;
@@ -152,7 +167,8 @@ impl<'a, V: Volume> Open<'a, V> {
         Ok(())
     }
 
-    /// Adds bytes at the end of a noted name, and makes it where it isn't held.
+    /// Adds bytes at the end of a noted name, and makes it where it isn't held. Full, Ok and other
+    /// errors come as for `put`.
     pub fn append(&mut self, alloc: Global, name: &Name, bytes: &[u8]) -> Result<(), OpFault>
         requires working { IsWorking self.old }
         requires noted { Contains (noted_names self.old) name.now }
@@ -167,6 +183,8 @@ impl<'a, V: Volume> Open<'a, V> {
         ensures passes { Passes (V.state (volume self.old)) (V.state (volume self.new)) }
         ensures fault { IsErrOf result OpFault.Fault → Rose (V.state (volume self.old)) (V.state (volume self.new)) }
         ensures full { IsErrOf result OpFault.Full → V.told × Exceeds (V.state (volume self.old)).capacity (size (insert (V.state (volume self.old)).held name.now (bytes_or_none (get (V.state (volume self.old)).held name.now) ++ bytes.now))) }
+        ensures fits { V.told → OnOk result (Fits (V.state (volume self.old)).capacity (size (insert (V.state (volume self.old)).held name.now (bytes_or_none (get (V.state (volume self.old)).held name.now) ++ bytes.now)))) }
+        ensures stays { V.told → IfErr result (λ fault. fault ≢ OpFault.Fault → Stays (V.state (volume self.old)) (V.state (volume self.new))) }
     {
         self.progress = Progress::Failed;
         self.vol.append(alloc, name, bytes)?;
@@ -201,7 +219,9 @@ impl<'a, V: Volume> Open<'a, V> {
         ensures kept { self.new.kept ≡ self.old.kept }
         ensures progress { self.new.progress ≡ self.old.progress }
         ensures value { V.told → IfOk result (λ n. n ≡ option_map length (get (V.state (volume self.old)).held name.now)) }
+        ensures bytes { V.told → IfOk result (λ n. AreBytes (bytes_or_none (get (V.state (volume self.old)).held name.now))) }
         ensures stays { V.told → Stays (V.state (volume self.old)) (V.state (volume self.new)) }
+        ensures still { V.told → StaysDirty (V.state (volume self.old)) (V.state (volume self.new)) }
         ensures moments { GoesOn (V.state (volume self.old)) (V.state (volume self.new)) (Images (V.state (volume self.old))) }
         ensures works { V.told → (F : Map) → Works (V.state (volume self.old)) self.old.kept F → Changes (V.state (volume self.old)) (V.state (volume self.new)) self.new.kept F }
         ensures can_go_back { V.told → (F : Map) → CanGoBack (V.state (volume self.old)) self.old.kept F → CanGoBack (V.state (volume self.new)) self.new.kept F }
@@ -225,6 +245,7 @@ impl<'a, V: Volume> Open<'a, V> {
         ensures value { V.told → IfOk result (λ bytes. bytes ≡ take want (drop at (bytes_or_none (get (V.state (volume self.old)).held name.now)))) }
         ensures short { IfOk result (λ bytes. length bytes ≤ want) }
         ensures stays { V.told → Stays (V.state (volume self.old)) (V.state (volume self.new)) }
+        ensures still { V.told → StaysDirty (V.state (volume self.old)) (V.state (volume self.new)) }
         ensures moments { GoesOn (V.state (volume self.old)) (V.state (volume self.new)) (Images (V.state (volume self.old))) }
         ensures works { V.told → (F : Map) → Works (V.state (volume self.old)) self.old.kept F → Changes (V.state (volume self.old)) (V.state (volume self.new)) self.new.kept F }
         ensures can_go_back { V.told → (F : Map) → CanGoBack (V.state (volume self.old)) self.old.kept F → CanGoBack (V.state (volume self.new)) self.new.kept F }
@@ -262,7 +283,8 @@ impl<'a, V: Volume> Open<'a, V> {
     }
 
     /// Puts every noted name back, and takes the area away. Faults that come once the old bytes are
-    /// on the disk are no fault.
+    /// on the disk are no fault, and after an error the marker is open still. Full comes only where
+    /// the former map and the area pass the capacity, and Ok only where they fit.
     pub fn back(self, alloc: Global) -> Result<(), BackFault>
         requires live { IsLive self }
         requires can_go_back { V.told → (F : Map) × CanGoBack (V.state (volume self)) self.kept F }
@@ -270,6 +292,8 @@ impl<'a, V: Volume> Open<'a, V> {
         ensures passes { Passes (V.state self.entry.vol.now) (V.state self.exit.0.now) }
         ensures fault { IsErrOf result BackFault.Fault → Rose (V.state self.entry.vol.now) (V.state self.exit.0.now) }
         ensures full { IsErrOf result BackFault.Full → V.told × IsSome (V.state self.entry.vol.now).capacity }
+        ensures exceeds { V.told → (F : Map) → CanGoBack (V.state self.entry.vol.now) self.entry.kept F → IsErrOf result BackFault.Full → Exceeds (V.state self.entry.vol.now).capacity (size F + size (area_of (V.state self.entry.vol.now).held)) }
+        ensures fits { V.told → (F : Map) → CanGoBack (V.state self.entry.vol.now) self.entry.kept F → OnOk result (Fits (V.state self.entry.vol.now).capacity (size F + size (area_of (V.state self.entry.vol.now).held))) }
     {
         let Open {
             vol,
@@ -290,6 +314,3 @@ impl<'a, V: Volume> Open<'a, V> {
         } = self;
     }
 }
-
-#[cfg(test)]
-mod tests;

@@ -1,17 +1,18 @@
 //! Going back.
 
-ghost use Rattle.std.specs.Prelude.{◌≡◌, ◌≢◌, ◌-◌, take, drop, true, false, [], List, ℕ, Option, Some, None, length, ◌<◌, IfErr, IsErrOf, OnErr, IsSome};
+ghost use Rattle.std.specs.Prelude.{◌≡◌, ◌≢◌, ◌+◌, ◌-◌, take, drop, true, false, [], List, ℕ, Option, Some, None, length, ◌<◌, IfErr, IsErrOf, OnOk, OnErr};
 ghost use Rattle.std.specs.FinMap.{get};
-ghost use Rattle.mi_volume.specs.Maps.{Map, HoldsByte, bytes_or_none};
+ghost use Rattle.mi_volume.specs.Maps.{Map, size, HoldsByte, Fits, Exceeds, bytes_or_none};
 ghost use Rattle.mi_volume.specs.State.{Passes, Rose, NothingDirty};
 ghost use Rattle.mi_undo.specs.Names.{marker, is_inside};
 ghost use Rattle.mi_undo.specs.Notes.{Note, note_of, are_new};
-ghost use Rattle.mi_undo.specs.Stands.{outside};
+ghost use Rattle.mi_undo.specs.Stands.{outside, area_of};
 ghost use Rattle.mi_undo.specs.Keeps.{Keeps};
 ghost use Rattle.mi_undo.specs.Area.{notes_in, note_in, CanGoBack};
 ghost use Rattle.mi_undo.specs.Clear.{AreInside, AreAll};
 ghost use Rattle.mi_undo.specs.Answers.{GoesBack};
-ghost use Rattle.mi_undo.specs.Back.{PutsOne, Removed, Returned, PutsBack, Shuts};
+ghost use Rattle.mi_undo.specs.Back.{PutsOne, Removed, Returned, PutsBack, IsStuck, IsWithout, Shuts};
+ghost use Rattle.mi_undo.specs.Steps.{IsWithin};
 
 use crate::clear::clear_area;
 use crate::fault::{BackFault, OpFault};
@@ -53,7 +54,7 @@ fn return_bytes<V: Volume>(
     ensures puts { V.told → entry.now ≢ name.now → PutsOne name.now (Some (take (end - at) (drop at (bytes_or_none (get (V.state vol.old).held entry.now))))) (V.state vol.old) (V.state vol.new) result }
     ensures passes { Passes (V.state vol.old) (V.state vol.new) }
     ensures fault { IsErrOf result OpFault.Fault → Rose (V.state vol.old) (V.state vol.new) }
-    ensures full { IsErrOf result OpFault.Full → V.told × IsSome (V.state vol.old).capacity }
+    ensures told { IsErrOf result OpFault.Full → V.told }
 {
     let first = end.saturating_sub(at).min(PIECE as u64);
     let bytes = vol.read(alloc, entry, at, first as usize)?;
@@ -67,7 +68,7 @@ fn return_one<V: Volume>(alloc: Global, vol: &mut V, place: &Place) -> Result<()
         → PutsOne place.now.name (note_in (V.state vol.old).held place.now).was (V.state vol.old) (V.state vol.new) result }
     ensures passes { Passes (V.state vol.old) (V.state vol.new) }
     ensures fault { IsErrOf result OpFault.Fault → Rose (V.state vol.old) (V.state vol.new) }
-    ensures full { IsErrOf result OpFault.Full → V.told × IsSome (V.state vol.old).capacity }
+    ensures told { IsErrOf result OpFault.Full → V.told }
 {
     let Some(span) = place.old else {
         return Ok(());
@@ -83,7 +84,10 @@ fn return_all<V: Volume>(alloc: Global, vol: &mut V, places: &[Place]) -> Result
         → Returned (V.state vol.old) (V.state vol.new) F ns result }
     ensures passes { Passes (V.state vol.old) (V.state vol.new) }
     ensures fault { IfErr result (λ s. s.fault ≡ OpFault.Fault → Rose (V.state vol.old) (V.state vol.new)) }
-    ensures full { IfErr result (λ s. s.fault ≡ OpFault.Full → V.told × IsSome (V.state vol.old).capacity × (s.at < length places.now)) }
+    ensures full { IfErr result (λ s. s.fault ≡ OpFault.Full → V.told × (s.at < length places.now)) }
+    ensures stuck { V.told → (F : Map) (ns : List Note) → notes_in (V.state vol.old).held places.now ≡ ns → Keeps (V.state vol.old) F ns → are_new [] ns ≡ true
+        → ((q : List ℕ) (w : Option (List ℕ)) → note_of ns q ≡ Some w → get (V.state vol.old).held q ≡ None)
+        → IfErr result (λ s. s.fault ≡ OpFault.Full → IsStuck (V.state vol.old).capacity (V.state vol.old).held ns s.at) }
 {
     for (at, place) in places.iter().enumerate() {
         if let Err(fault) = return_one(alloc, vol, place) {
@@ -98,7 +102,10 @@ pub(crate) fn put_back<V: Volume>(alloc: Global, vol: &mut V, places: &[Place]) 
     ensures back { V.told → (F : Map) (ns : List Note) → notes_in (V.state vol.old).held places.now ≡ ns → Keeps (V.state vol.old) F ns → are_new [] ns ≡ true → PutsBack (V.state vol.old) (V.state vol.new) F ns result }
     ensures passes { Passes (V.state vol.old) (V.state vol.new) }
     ensures fault { IfErr result (λ s. s.fault ≡ OpFault.Fault → Rose (V.state vol.old) (V.state vol.new)) }
-    ensures full { IfErr result (λ s. s.fault ≡ OpFault.Full → V.told × IsSome (V.state vol.old).capacity × (s.at < length places.now)) }
+    ensures full { IfErr result (λ s. s.fault ≡ OpFault.Full → V.told × (s.at < length places.now)) }
+    ensures stuck { V.told → (F : Map) (ns : List Note) → notes_in (V.state vol.old).held places.now ≡ ns → Keeps (V.state vol.old) F ns → are_new [] ns ≡ true
+        → IfErr result (λ s. s.fault ≡ OpFault.Full → (base : Map) × (IsWithout ns (V.state vol.old).held base × IsStuck (V.state vol.old).capacity base ns s.at)) }
+    ensures fits { V.told → OnOk result (IsWithin (V.state vol.new)) }
 {
     if remove_all(vol, places).is_err() {
         return Err(Stuck {
@@ -135,7 +142,9 @@ pub(crate) fn back_area<V: Volume>(alloc: Global, vol: &mut V, kept: &Kept) -> R
     ensures back { V.told → (F : Map) → CanGoBack (V.state vol.old) kept.now F → GoesBack (V.state vol.old) (V.state vol.new) F result }
     ensures passes { Passes (V.state vol.old) (V.state vol.new) }
     ensures fault { IsErrOf result BackFault.Fault → Rose (V.state vol.old) (V.state vol.new) }
-    ensures full { IsErrOf result BackFault.Full → V.told × IsSome (V.state vol.old).capacity }
+    ensures told { IsErrOf result BackFault.Full → V.told }
+    ensures exceeds { V.told → (F : Map) → CanGoBack (V.state vol.old) kept.now F → IsErrOf result BackFault.Full → Exceeds (V.state vol.old).capacity (size F + size (area_of (V.state vol.old).held)) }
+    ensures fits { V.told → (F : Map) → CanGoBack (V.state vol.old) kept.now F → OnOk result (Fits (V.state vol.old).capacity (size F + size (area_of (V.state vol.old).held))) }
 {
     if let Err(stuck) = put_back(alloc, vol, &kept.places) {
         return Err(BackFault::from(stuck.fault));

@@ -5,7 +5,7 @@ ghost use Rattle.std.specs.FinMap.{get};
 ghost use Rattle.mi_volume.specs.Maps.{Map};
 ghost use Rattle.mi_undo.specs.Names.{marker, gate_name, most_entries, is_inside};
 ghost use Rattle.mi_undo.specs.Notes.{Note, note_of, all_notes, spelled, notes_of};
-ghost use Rattle.mi_undo.specs.Stands.{StandsFor, is_one, noted, outside, restored, stands};
+ghost use Rattle.mi_undo.specs.Stands.{StandsFor, is_one, noted, outside, put_over, stands};
 ghost use Rattle.mi_undo.specs.Keeps.{Opened, AreNew};
 ghost use Rattle.mi_undo.specs.Entry.{AllFit};
 ghost use Rattle.mi_undo.specs.Reading.{IsUnread, first_shut};
@@ -42,5 +42,5 @@ pub fn noted_names_are_restored()
 
 /// The first old bytes of a name stay, whatever is noted later.
 pub fn the_first_old_bytes_stay()
-    ensures { (d : Map) (ns later : List Note) (q : List ℕ) (w : Option (List ℕ)) → note_of ns q ≡ Some w → get (restored (ns ++ later) d) q ≡ w }
+    ensures { (d : Map) (ns later : List Note) (q : List ℕ) (w : Option (List ℕ)) → note_of ns q ≡ Some w → get (put_over (ns ++ later) d) q ≡ w }
 {}

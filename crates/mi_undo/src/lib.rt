@@ -28,6 +28,3 @@ pub use laws::{
     the_first_old_bytes_stay,
 };
 pub use settling::settle;
-
-#[cfg(test)]
-mod tests;

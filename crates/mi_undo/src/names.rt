@@ -1,7 +1,7 @@
 //! The names of the area.
 
-ghost use Rattle.std.specs.Prelude.{◌≡◌, ◌<◌, ◌∷◌, [], IfOk, IfSome, IsTrue};
-ghost use Rattle.mi_undo.specs.Names.{marker, digits, gate_name, entry_name, is_inside, most_entries};
+ghost use Rattle.std.specs.Prelude.{◌≡◌, ◌≢◌, ◌<◌, ℕ, ◌∷◌, [], IfOk, IfSome, IfNone};
+ghost use Rattle.mi_undo.specs.Names.{marker, digits, gate_name, entry_name, is_inside, is_entry_like, most_entries};
 
 use mi_text::{Name, NoMemory};
 use std::alloc::Global;
@@ -38,7 +38,9 @@ pub(crate) fn top_of(alloc: Global) -> Result<Name, NoMemory>
 }
 
 /// The name that stands before all names of entries.
-pub(crate) fn entries_of(alloc: Global) -> Result<Name, NoMemory> {
+pub(crate) fn entries_of(alloc: Global) -> Result<Name, NoMemory>
+    ensures { IfOk result (λ n. n ≡ 106 ∷ 47 ∷ 101 ∷ 47 ∷ []) }
+{
     name_of(alloc, b"j/e/")
 }
 
@@ -90,35 +92,38 @@ pub(crate) fn is_within(name: &Name) -> bool
     matches!(name.as_bytes(), [b'j', b'/', ..])
 }
 
-/// The number that these digits spell, below 100,000,000.
-fn number_of(digits: &[u8]) -> Option<u32>
-    ensures { IfSome result (λ k. k < 100000000) }
+/// Whether a name begins with `j/e/`.
+pub(crate) fn is_entry_like(name: &Name) -> bool
+    ensures { result ≡ is_entry_like name.now }
 {
+    matches!(name.as_bytes(), [b'j', b'/', b'e', b'/', ..])
+}
+
+/// The number that these eight decimal digits spell, if they are such.
+fn number_of(bytes: &[u8]) -> Option<u32>
+    ensures some { IfSome result (λ k. (k < 100000000) × (bytes.now ≡ digits 8 k)) }
+    ensures none { IfNone result ((k : ℕ) → bytes.now ≢ digits 8 k) }
+{
+    if bytes.len() != 8 {
+        return None;
+    }
     let mut number: u32 = 0;
-    for digit in digits {
+    for digit in bytes {
         if !digit.is_ascii_digit() {
             return None;
         }
-        number = number
-            .checked_mul(10)?
-            .checked_add(u32::from(*digit - b'0'))?;
+        number = number * 10 + u32::from(*digit - b'0');
     }
-    if number < MOST_ENTRIES {
-        Some(number)
-    } else {
-        None
-    }
+    Some(number)
 }
 
-/// The number of the entry of this name, if it is one's.
+/// The number of the entry of this name, or None where it is no entry's.
 pub(crate) fn entry_number(name: &Name) -> Option<u32>
-    ensures { IfSome result (λ k. (k < most_entries) × (name.now ≡ entry_name k)) }
+    ensures some { IfSome result (λ k. (k < most_entries) × (name.now ≡ entry_name k)) }
+    ensures none { IfNone result ((k : ℕ) → name.now ≢ entry_name k) }
 {
-    let bytes = name.as_bytes();
-    let number = number_of(bytes.strip_prefix(b"j/e/")?)?;
-    if bytes == numbered(b'e', number).as_slice() {
-        Some(number)
-    } else {
-        None
+    if !is_entry_like(name) {
+        return None;
     }
+    number_of(&name.as_bytes()[4..])
 }

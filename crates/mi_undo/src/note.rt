@@ -1,12 +1,13 @@
 //! Noting names.
 
-ghost use Rattle.std.specs.Prelude.{true, false, ◌≡◌, ◌+◌, ◌<◌, ◌≤◌, ◌++◌, ◌∷◌, [], List, ℕ, length, IfOk, OnOk, OnErr, IsErrOf};
-ghost use Rattle.mi_volume.specs.Maps.{Map, Exceeds, size};
+ghost use Rattle.std.specs.Prelude.{true, false, ◌≡◌, ◌≢◌, ◌+◌, ◌<◌, ◌++◌, ◌∷◌, [], List, ℕ, length, IfOk, OnOk, OnErr, IsOkUnless, IsErrOf};
+ghost use Rattle.mi_volume.specs.Maps.{Map};
 ghost use Rattle.mi_volume.specs.State.{Passes, Rose};
 ghost use Rattle.mi_undo.specs.Names.{entry_name, gate_name, most_entries, is_inside};
 ghost use Rattle.mi_undo.specs.Notes.{Note, all_notes, new_names, notes_for, spelled, are_new};
 ghost use Rattle.mi_undo.specs.Keeps.{IsOpen};
-ghost use Rattle.mi_undo.specs.Area.{AreOutside, Knows, Works, place_names, notes_in};
+ghost use Rattle.mi_undo.specs.Area.{AreOutside, Knows, Works, place_names, notes_in, entries_for};
+ghost use Rattle.mi_undo.specs.Steps.{AddsBytes};
 ghost use Rattle.mi_undo.specs.Answers.{Notes};
 ghost use Rattle.mi_undo.specs.Entry.{AreGood, Enters};
 
@@ -107,14 +108,15 @@ fn note_fresh<V: Volume>(
     requires outside { AreOutside names.now }
     ensures seen { kept.new.seen ≡ kept.old.seen }
     ensures names { OnOk result (place_names kept.new.places.items ≡ place_names kept.old.places.items ++ names.now) }
-    ensures entries { kept.new.entries ≤ kept.old.entries + 1 }
+    ensures entries { OnOk result (kept.new.entries ≡ kept.old.entries + 1) }
+    ensures entries_stay { OnErr result (kept.new.entries ≡ kept.old.entries) }
     ensures notes { V.told → (F : Map) → Works (V.state vol.old) kept.old F → are_new (notes_in (V.state vol.old).held kept.old.places.items) (notes_for (V.state vol.old).held names.now) ≡ true
         → Notes (V.state vol.old) (V.state vol.new) kept.new F result }
     ensures passes { Passes (V.state vol.old) (V.state vol.new) }
     ensures fault { IsErrOf result OpFault.Fault → Rose (V.state vol.old) (V.state vol.new) }
     ensures told { IsErrOf result OpFault.Full → V.told }
-    ensures full { V.told → IsErrOf result OpFault.Full → (F : Map) → Works (V.state vol.old) kept.old F → are_new (notes_in (V.state vol.old).held kept.old.places.items) (notes_for (V.state vol.old).held names.now) ≡ true
-        → Exceeds (V.state vol.old).capacity (size (V.state vol.old).held + (25 + length (spelled (notes_for (V.state vol.old).held names.now)))) }
+    ensures adds { V.told → (F : Map) → Works (V.state vol.old) kept.old F → are_new (notes_in (V.state vol.old).held kept.old.places.items) (notes_for (V.state vol.old).held names.now) ≡ true
+        → AddsBytes (25 + length (spelled (notes_for (V.state vol.old).held names.now))) (V.state vol.old) (V.state vol.new) result }
 {
     let entry = entry_of(alloc, kept.entries)?;
     let gate = gate_of(alloc, kept.entries)?;
@@ -137,13 +139,16 @@ pub(crate) fn note_names<V: Volume>(
     requires outside { AreOutside names.now }
     ensures knows { OnOk result (Knows kept.new.seen (place_names kept.new.places.items)) }
     ensures names { OnOk result (place_names kept.new.places.items ≡ place_names kept.old.places.items ++ new_names (place_names kept.old.places.items) names.now) }
-    ensures entries { kept.new.entries ≤ kept.old.entries + 1 }
+    ensures entries { OnOk result (kept.new.entries ≡ kept.old.entries + entries_for (new_names (place_names kept.old.places.items) names.now)) }
+    ensures entries_stay { OnErr result (kept.new.entries ≡ kept.old.entries) }
+    ensures all_noted { new_names (place_names kept.old.places.items) names.now ≡ [] → IsOkUnless result OpFault.NoMemory }
+    ensures untouched { new_names (place_names kept.old.places.items) names.now ≡ [] → vol.new ≡ vol.old }
     ensures notes { V.told → (F : Map) → Works (V.state vol.old) kept.old F → Notes (V.state vol.old) (V.state vol.new) kept.new F result }
     ensures passes { Passes (V.state vol.old) (V.state vol.new) }
     ensures fault { IsErrOf result OpFault.Fault → Rose (V.state vol.old) (V.state vol.new) }
     ensures told { IsErrOf result OpFault.Full → V.told }
-    ensures full { V.told → IsErrOf result OpFault.Full → (F : Map) → Works (V.state vol.old) kept.old F
-        → Exceeds (V.state vol.old).capacity (size (V.state vol.old).held + (25 + length (spelled (notes_for (V.state vol.old).held (new_names (place_names kept.old.places.items) names.now))))) }
+    ensures adds { V.told → (F : Map) → Works (V.state vol.old) kept.old F → new_names (place_names kept.old.places.items) names.now ≢ []
+        → AddsBytes (25 + length (spelled (notes_for (V.state vol.old).held (new_names (place_names kept.old.places.items) names.now)))) (V.state vol.old) (V.state vol.new) result }
 {
     let fresh = fresh_names(alloc, &mut kept.seen, names)?;
     let fresh = fresh.as_slice();

@@ -1,6 +1,6 @@
 //! Settling a volume.
 
-ghost use Rattle.std.specs.Prelude.{◌≡◌, ◌<◌, true, false, List, ℕ, None, Ok, Err, IfOk, OnOk, IsErrOf, IsSome, Contains, map, length};
+ghost use Rattle.std.specs.Prelude.{◌≡◌, ◌<◌, true, false, List, ℕ, None, Ok, Err, IfOk, OnOk, IsErr, IsErrOf, IsSome, slice_index_or, length};
 ghost use Rattle.std.specs.FinMap.{get};
 ghost use Rattle.mi_volume.specs.Maps.{Map};
 ghost use Rattle.mi_volume.specs.State.{NothingDirty, Passes, Rose, GoesOn};
@@ -9,7 +9,9 @@ ghost use Rattle.mi_undo.specs.Notes.{Note, note_of};
 ghost use Rattle.mi_undo.specs.Stands.{StandsFor, is_one, stands, noted, settled};
 ghost use Rattle.mi_undo.specs.Keeps.{Each, IsFree};
 ghost use Rattle.mi_undo.specs.Area.{notes_in, place_names};
+ghost use Rattle.mi_undo.specs.Steps.{IsWithin};
 ghost use Rattle.mi_undo.specs.Reading.{Looks};
+ghost use Rattle.mi_undo.specs.Short.{IsShort};
 ghost use Rattle.mi_undo.specs.Settle.{IsRead, Undoes, Settles};
 ghost use Rattle.mi_undo.specs.Answers.{IfBad, IfFull};
 
@@ -31,7 +33,7 @@ fn refused(alloc: Global, places: &[Place], stuck: Stuck) -> Result<(), UndoErro
     ensures refuses { IfOk result (λ x. ⊥) }
     ensures fault { IsErrOf result UndoError.Fault → stuck.fault ≡ OpFault.Fault }
     ensures never_bad { IfBad result (λ name. ⊥) }
-    ensures full { IfFull result (λ name. (stuck.fault ≡ OpFault.Full) × Contains (place_names places.now) name) }
+    ensures full { IfFull result (λ name. (stuck.fault ≡ OpFault.Full) × (slice_index_or (place_names places.now) stuck.at name ≡ name)) }
 {
     match stuck.fault {
         OpFault::NoMemory => Err(UndoError::NoMemory),
@@ -54,11 +56,13 @@ fn undo_read<V: Volume>(
 ) -> Result<(), UndoError>
     requires name { marker_name.now ≡ marker }
     requires read { V.told → IsRead (V.state vol.old) places.now entries }
+    requires within { V.told → IsWithin (V.state vol.old) }
     ensures undoes { V.told → (F : Map) → StandsFor F (V.state vol.old).held → Undoes (V.state vol.old) (V.state vol.new) F (notes_in (V.state vol.old).held places.now) result }
     ensures passes { Passes (V.state vol.old) (V.state vol.new) }
     ensures fault { IsErrOf result UndoError.Fault → Rose (V.state vol.old) (V.state vol.new) }
     ensures never_bad { IfBad result (λ name. ⊥) }
-    ensures full { IfFull result (λ name. V.told × IsSome (V.state vol.old).capacity × Contains (place_names places.now) name) }
+    ensures full { IfFull result (λ name. V.told × IsSome (V.state vol.old).capacity × IsShort (V.state vol.old).capacity (V.state vol.old).held name) }
+    ensures short { V.told → (name : List ℕ) → IsShort (V.state vol.old).capacity (V.state vol.old).held name → IsErr result }
 {
     remove_unread(alloc, vol, entries)?;
     if let Err(stuck) = put_back(alloc, vol, places) {
@@ -76,6 +80,7 @@ fn settle_open<V: Volume>(
 ) -> Result<Settled, UndoError>
     requires name { marker_name.now ≡ marker }
     requires clean { V.told → NothingDirty (V.state vol.old) }
+    requires within { V.told → IsWithin (V.state vol.old) }
     requires marked { V.told → is_one (get (V.state vol.old).held marker) ≡ true }
     ensures settled { V.told → IfOk result (λ s. s ≡ settled (V.state vol.old).held) }
     ensures known { V.told → OnOk result ((F : Map) × StandsFor F (V.state vol.old).held) }
@@ -84,7 +89,8 @@ fn settle_open<V: Volume>(
     ensures bad { V.told → IfBad result (λ bad. stands (V.state vol.old).held ≡ Err bad) }
     ensures passes { Passes (V.state vol.old) (V.state vol.new) }
     ensures fault { IsErrOf result UndoError.Fault → Rose (V.state vol.old) (V.state vol.new) }
-    ensures full { IfFull result (λ name. V.told × IsSome (V.state vol.old).capacity × ((ns : List Note) × ((noted (V.state vol.old).held ≡ Ok ns) × Contains (map (λ n. n.name) ns) name))) }
+    ensures full { IfFull result (λ name. V.told × IsSome (V.state vol.old).capacity × IsShort (V.state vol.old).capacity (V.state vol.old).held name) }
+    ensures short { V.told → (name : List ℕ) → IsShort (V.state vol.old).capacity (V.state vol.old).held name → IsErr result }
 {
     let (places, entries) = read_area(alloc, vol)?;
     undo_read(alloc, vol, marker_name, &places, entries)?;
@@ -100,6 +106,7 @@ fn settle_synced<V: Volume>(
 ) -> Result<Settled, UndoError>
     requires name { marker_name.now ≡ marker }
     requires clean { V.told → NothingDirty (V.state vol.old) }
+    requires within { V.told → IsWithin (V.state vol.old) }
     ensures settled { V.told → IfOk result (λ s. s ≡ settled (V.state vol.old).held) }
     ensures known { V.told → OnOk result ((F : Map) × StandsFor F (V.state vol.old).held) }
     ensures settles { V.told → (F : Map) → StandsFor F (V.state vol.old).held → Settles (V.state vol.old) (V.state vol.new) F result }
@@ -107,7 +114,8 @@ fn settle_synced<V: Volume>(
     ensures bad { V.told → IfBad result (λ bad. stands (V.state vol.old).held ≡ Err bad) }
     ensures passes { Passes (V.state vol.old) (V.state vol.new) }
     ensures fault { IsErrOf result UndoError.Fault → Rose (V.state vol.old) (V.state vol.new) }
-    ensures full { IfFull result (λ name. V.told × IsSome (V.state vol.old).capacity × ((ns : List Note) × ((noted (V.state vol.old).held ≡ Ok ns) × Contains (map (λ n. n.name) ns) name))) }
+    ensures full { IfFull result (λ name. V.told × IsSome (V.state vol.old).capacity × IsShort (V.state vol.old).capacity (V.state vol.old).held name) }
+    ensures short { V.told → (name : List ℕ) → IsShort (V.state vol.old).capacity (V.state vol.old).held name → IsErr result }
 {
     if is_open(alloc, vol, marker_name)? {
         return settle_open(alloc, vol, marker_name);
@@ -119,7 +127,8 @@ fn settle_synced<V: Volume>(
 /// Makes the volume what it stands for, with no rollback area (this project's own). It may be stopped
 /// at any moment, and called again after any answer. Fault comes only where the volume's count rose.
 /// BadRollback names the first entry that is read and absent or not spelled; all stays as it was then.
-/// Full names a noted name for whose old bytes there is no room.
+/// Full names the first noted name at which the old bytes, in the order of the notes, pass the capacity
+/// beside what is held otherwise; where there is such a name, the answer is an error.
 pub fn settle<V: Volume>(alloc: Global, vol: &mut V) -> Result<Settled, UndoError>
     ensures settled { V.told → IfOk result (λ s. s ≡ settled (V.state vol.old).held) }
     ensures free { V.told → IfOk result (λ s. IsFree (V.state vol.new)) }
@@ -134,7 +143,8 @@ pub fn settle<V: Volume>(alloc: Global, vol: &mut V) -> Result<Settled, UndoErro
     ensures bad { V.told → IfBad result (λ bad. stands (V.state vol.old).held ≡ Err bad) }
     ensures passes { Passes (V.state vol.old) (V.state vol.new) }
     ensures fault { IsErrOf result UndoError.Fault → Rose (V.state vol.old) (V.state vol.new) }
-    ensures full { IfFull result (λ name. V.told × IsSome (V.state vol.old).capacity × ((ns : List Note) × ((noted (V.state vol.old).held ≡ Ok ns) × Contains (map (λ n. n.name) ns) name))) }
+    ensures full { IfFull result (λ name. V.told × IsSome (V.state vol.old).capacity × IsShort (V.state vol.old).capacity (V.state vol.old).held name) }
+    ensures short { V.told → (name : List ℕ) → IsShort (V.state vol.old).capacity (V.state vol.old).held name → IsErr result }
 {
     let marker_name = marker_of(alloc)?;
     vol.sync()?;

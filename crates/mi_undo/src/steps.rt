@@ -1,10 +1,10 @@
 //! Calls of a volume that go together.
 
-ghost use Rattle.std.specs.Prelude.{◌≡◌, ◌≢◌, ◌⊎◌, ◌≤◌, ◌-◌, ◌++◌, List, ℕ, Some, take, drop, length, IsErrOf, IsSome, OnErr};
+ghost use Rattle.std.specs.Prelude.{◌≡◌, ◌≢◌, ◌⊎◌, ◌≤◌, ◌-◌, ◌++◌, List, ℕ, Some, take, drop, length, IsErrOf, OnOk, OnErr};
 ghost use Rattle.std.specs.FinMap.{get, insert};
-ghost use Rattle.mi_volume.specs.Maps.{HoldsByte, Exceeds, size, bytes_or_none};
+ghost use Rattle.mi_volume.specs.Maps.{HoldsByte, Fits, Exceeds, size, bytes_or_none};
 ghost use Rattle.mi_volume.specs.State.{Passes, Rose, Stays};
-ghost use Rattle.mi_undo.specs.Steps.{Adds, Seals, SealsByte};
+ghost use Rattle.mi_undo.specs.Steps.{Adds, Seals, SealsByte, IsWithin};
 
 use crate::fault::OpFault;
 use mi_text::Name;
@@ -24,6 +24,7 @@ pub(crate) fn put_synced<V: Volume>(
     ensures fault { IsErrOf result OpFault.Fault → Rose (V.state vol.old) (V.state vol.new) }
     ensures stays { V.told → IsErrOf result OpFault.NoMemory ⊎ IsErrOf result OpFault.Full → Stays (V.state vol.old) (V.state vol.new) }
     ensures full { IsErrOf result OpFault.Full → V.told × Exceeds (V.state vol.old).capacity (size (insert (V.state vol.old).held name.now bytes.now)) }
+    ensures fits { V.told → OnOk result (Fits (V.state vol.old).capacity (size (insert (V.state vol.old).held name.now bytes.now))) }
 {
     vol.put(alloc, name, bytes)?;
     vol.sync()?;
@@ -42,7 +43,8 @@ pub(crate) fn mark_synced<V: Volume>(vol: &mut V, name: &Name, byte: u8) -> Resu
     Ok(())
 }
 
-/// Adds the bytes of `from`, from `at` up to `end`, at the end of `to`, by pieces.
+/// Adds the bytes of `from`, from `at` up to `end`, at the end of `to`, by pieces. It ends where a
+/// read gives nothing, whatever length was told.
 pub(crate) fn append_span<V: Volume>(
     alloc: Global,
     vol: &mut V,
@@ -55,12 +57,16 @@ pub(crate) fn append_span<V: Volume>(
         → Adds to.now before (take (end - at) (drop at (bytes_or_none (get (V.state vol.old).held from.now)))) (V.state vol.old) (V.state vol.new) result }
     ensures passes { Passes (V.state vol.old) (V.state vol.new) }
     ensures fault { IsErrOf result OpFault.Fault → Rose (V.state vol.old) (V.state vol.new) }
-    ensures full { IsErrOf result OpFault.Full → V.told × IsSome (V.state vol.old).capacity }
+    ensures told { IsErrOf result OpFault.Full → V.told }
+    ensures fits { V.told → IsWithin (V.state vol.old) → OnOk result (IsWithin (V.state vol.new)) }
 {
     let mut at = at;
     while at < end {
         let want = (end - at).min(PIECE as u64);
         let bytes = vol.read(alloc, from, at, want as usize)?;
+        if bytes.is_empty() {
+            return Ok(());
+        }
         vol.append(alloc, to, bytes.as_slice())?;
         at += want;
     }

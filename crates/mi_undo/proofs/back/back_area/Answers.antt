@@ -1,6 +1,9 @@
-use Rattle.std.proofs.Common.{ap, ◌∙◌, refl}
+use Rattle.std.proofs.Common.{◌≡◌, ℕ, ◌+◌, Option, sym, ap, subst, ◌∙◌, refl}
+use Rattle.mi_volume.specs.Maps.{Fits, size}
 use Rattle.mi_undo.specs.Area.{notes_in}
-use Rattle.mi_undo.proofs.FaultLemmas.{on_err}
+use Rattle.mi_undo.specs.declared.fault.BackFault.TheVariants as back
+use Rattle.mi_undo.proofs.FaultLemmas.{on_err, back_was_full}
+use Rattle.mi_undo.proofs.OverLemmas.{stuck_exceeds, area_within_all, fits_less}
 use Rattle.mi_undo.proofs.PutLemmas.{not_gone, byte_after, area_after, area_within, gone_back}
 use Rattle.mi_undo.proofs.back.back_area.Goals as goal
 
@@ -14,6 +17,20 @@ pub returns-in-Err-clause-back : goal.returns-in-Err-clause-back
 returns-in-Err-clause-back g c = λ told F can.
     let s = g.V.Volume.state c.args.vol.now in let t = g.V.Volume.state c.put_back.new.vol in
     not_gone s c.args.kept.now F can t c.put_back.result _ (c.put_back.ensures.back told F can.notes (ap (notes_in s.held) c.deref.ensures.value ∙ can.placed) can.keeps can.are_new) refl
+
+pub returns-in-Err-clause-exceeds : goal.returns-in-Err-clause-exceeds
+returns-in-Err-clause-exceeds g c = λ told F can full.
+    let s = g.V.Volume.state c.args.vol.now in
+    let answer : c.from.result ≡ back.Full = cc in
+    let stuck = c.in-Err.ensures.stuck told F can.notes (ap (notes_in s.held) c.deref.ensures.value ∙ can.placed) can.keeps can.are_new (back_was_full c.in-Err.stuck.fault (sym c.from.ensures ∙ answer)) in
+    stuck_exceeds s F can.notes stuck.0 (c.in-Err.stuck.at + 1) can.keeps stuck.1.0 stuck.1.1.passes
+
+pub returns-clause-fits : goal.returns-clause-fits
+returns-clause-fits g c = λ told F can.
+    let s = g.V.Volume.state c.args.vol.now in let t = g.V.Volume.state c.put_back.new.vol in
+    let done = c.in_default.ensures.back told F can.notes (ap (notes_in s.held) c.deref.ensures.value ∙ can.placed) can.keeps can.are_new in
+    fits_less s.capacity _ _ (area_within_all s.held t.held F can.keeps.nothing_inside done.inside done.back)
+    (subst (λ (k : Option ℕ). Fits k (size t.held)) c.put_back.ensures.passes.capacity (c.in_default.ensures.fits told))
 
 pub returns-clause-back : goal.returns-clause-back
 returns-clause-back g c = λ told F can.

@@ -1,10 +1,14 @@
-use Rattle.std.proofs.Common.{sym, ◌∙◌}
-use Rattle.std.proofs.lemmas.Slice.Eq.{slice_eq-Decides}
-use Rattle.std.proofs.lemmas.Bool.Decides.{Decides-eqb}
-use Rattle.mi_undo.proofs.NameLemmas.{few_are}
+use Rattle.std.proofs.Common.{ℕ, List, drop, sym, ap, ◌∙◌, arith, length-drop}
+use Rattle.std.proofs.lemmas.List.{take_all}
+use Rattle.mi_undo.proofs.EntryNumbers.{entry_some, entry_none}
 use Rattle.mi_undo.proofs.names.entry_number.Goals as goal
 
-pub returns-then-eq : goal.returns-then-eq
-returns-then-eq c =
-    let same = (slice_eq-Decides Decides-eqb _ _ _ c.eq.ensures).0 c.if-eq.true in
-    (few_are _ c.in_ok-number.ensures, sym c.as_bytes-bytes.ensures.bytes ∙ same ∙ c.as_slice.ensures ∙ c.numbered.ensures)
+pub returns-clause-some : goal.returns-clause-some
+returns-clause-some c =
+    entry_some c.number_of.result c.args.name.now _ (take_all _ (drop 4 c.as_bytes.result.now) (omega (arith, length-drop 4 c.as_bytes.result.now)) ∙ ap (λ (l : List ℕ). drop 4 l) c.as_bytes.ensures.bytes)
+    (sym c.is_entry_like.ensures ∙ c.if-not-is_entry_like.false) c.number_of.ensures.some
+
+pub returns-clause-none : goal.returns-clause-none
+returns-clause-none c =
+    entry_none c.number_of.result c.args.name.now _ (take_all _ (drop 4 c.as_bytes.result.now) (omega (arith, length-drop 4 c.as_bytes.result.now)) ∙ ap (λ (l : List ℕ). drop 4 l) c.as_bytes.ensures.bytes)
+    c.number_of.ensures.none

@@ -1,6 +1,6 @@
 use Rattle.std.proofs.Common.{ℕ, List, [], ◌∷◌, Ok, Err, ap, subst, ◌∙◌}
 use Rattle.std.specs.FinMap.{insert}
-use Rattle.mi_volume.specs.Maps.{Exceeds, size}
+use Rattle.mi_volume.specs.Maps.{Fits, Exceeds, size}
 use Rattle.mi_undo.specs.Notes.{notes_for}
 use Rattle.mi_undo.specs.Names.{is_inside}
 use Rattle.mi_undo.specs.Steps.{Seals}
@@ -55,3 +55,4 @@ returns-clause-enters g c = λ told F parts o at new.
     let seals = subst (λ (n : List ℕ). Seals {T = Unit {0}} {E = OpFault} n (1 ∷ []) t (g.V.Volume.state c.put_synced.new.vol) (Ok tt)) c.requires.gate (c.in_ok-put_synced.ensures.seals told) in
     entered c.args.number s F parts (notes_for s.held c.args.names.now) o at c.requires.few t only (syncs.stays.held ∙ writes.adds.ok) syncs.ok new writes.fit (notes_for-held s.held c.args.names.now)
     (g.V.Volume.state c.put_synced.new.vol) seals.only c.in_ok-places.places seals.ok.0 seals.ok.1 writes.places
+    (subst (λ (n : List ℕ). Fits t.capacity (size (insert t.held n (1 ∷ [])))) c.requires.gate (c.in_ok-put_synced.ensures.fits told))

@@ -1,11 +1,13 @@
-use Rattle.std.proofs.Common.{ℕ, ◌+◌, List, ◌++◌, length, refl, sym, ap, subst, ◌∙◌}
+use Rattle.std.proofs.Common.{◌≡◌, ℕ, ◌+◌, List, ◌++◌, length, refl, sym, ap, subst, ◌∙◌, arith}
 use Rattle.std.proofs.lemmas.List.{append-nil}
 use Rattle.std.proofs.lemmas.Result.{on_ok_weaker}
-use Rattle.mi_volume.specs.Maps.{Exceeds, size}
-use Rattle.mi_undo.specs.Notes.{notes_for, spelled}
-use Rattle.mi_undo.specs.Area.{Knows, AreOutside, place_names}
+use Rattle.mi_undo.specs.Notes.{new_names, notes_for, spelled}
+use Rattle.mi_undo.specs.Area.{Knows, AreOutside, place_names, entries_for}
+use Rattle.mi_undo.specs.Steps.{AddsBytes}
+use Rattle.mi_undo.proofs.FaultLemmas.{memory_not_full}
+use Rattle.mi_undo.proofs.EnterLemmas.{adds_nothing}
 use Rattle.mi_undo.specs.Entry.{AreGood}
-use Rattle.mi_undo.proofs.FreshLemmas.{good_outside, nothing_new, fresh_are_new, knows_same}
+use Rattle.mi_undo.proofs.FreshLemmas.{good_outside, nothing_new, one_entry, some_new, fresh_are_new, knows_same}
 use Rattle.mi_undo.proofs.AreaLemmas.{unwritten, noted_before}
 use Rattle.mi_undo.proofs.note.note_names.Goals as goal
 
@@ -52,11 +54,43 @@ returns-clause-notes g c = λ told F w.
     c.note_fresh.ensures.notes told F (record { parts = w.parts; is_open = w.is_open; placed = w.placed; numbers = w.numbers; entries = w.entries; area = w.area; marker = w.marker })
     (fresh_are_new (g.V.Volume.state c.args.vol.now).held c.args.kept.now.places.items c.args.names.now c.as_slice-fresh.result.now are (subst AreGood (sym c.as_slice-fresh.ensures.value) c.in_ok-fresh.ensures.good))
 
-pub returns-clause-full : goal.returns-clause-full
-returns-clause-full g c = λ told full F w.
+pub returns-in_err-fresh-clause-adds : goal.returns-in_err-fresh-clause-adds
+returns-in_err-fresh-clause-adds g c = λ told F w some. adds_nothing _ (g.V.Volume.state c.args.vol.now) (g.V.Volume.state c.args.vol.now) _ c.from_residual.ensures.0 (memory_not_full _ c.from_residual.ensures.1)
+
+pub returns-then-is_empty-clause-adds : goal.returns-then-is_empty-clause-adds
+returns-then-is_empty-clause-adds g c = λ told F w some.
+    absurd (some (sym (c.in_ok-fresh.ensures.fresh (place_names c.args.kept.now.places.items) c.requires.knows) ∙ (sym c.as_slice-fresh.ensures.value ∙ nothing_new c.as_slice-fresh.result.now c.if-is_empty.ensures)))
+
+pub returns-then-is_empty-clause-entries : goal.returns-then-is_empty-clause-entries
+returns-then-is_empty-clause-entries g c =
+    let none = sym (c.in_ok-fresh.ensures.fresh (place_names c.args.kept.now.places.items) c.requires.knows) ∙ (sym c.as_slice-fresh.ensures.value ∙ nothing_new c.as_slice-fresh.result.now c.if-is_empty.ensures) in
+    let e : entries_for (new_names (place_names c.args.kept.now.places.items) c.args.names.now) ≡ 0 = ap entries_for none in
+    omega (arith, e)
+
+pub returns-clause-entries : goal.returns-clause-entries
+returns-clause-entries g c =
+    let known = place_names c.args.kept.now.places.items in
+    let are = c.as_slice-fresh.ensures.value ∙ c.in_ok-fresh.ensures.fresh known c.requires.knows in
+    let e : entries_for (new_names known c.args.names.now) ≡ 1 = ap entries_for (sym are) ∙ one_entry c.as_slice-fresh.result.now c.if-is_empty.ensures in
+    on_ok_weaker c.note_fresh.result (λ one. omega (arith, one, e)) c.note_fresh.ensures.entries
+
+pub returns-clause-all_noted : goal.returns-clause-all_noted
+returns-clause-all_noted g c = λ none.
+    let known = place_names c.args.kept.now.places.items in
+    let are = c.as_slice-fresh.ensures.value ∙ c.in_ok-fresh.ensures.fresh known c.requires.knows in
+    absurd (some_new c.as_slice-fresh.result.now c.if-is_empty.ensures (are ∙ none))
+
+pub returns-clause-untouched : goal.returns-clause-untouched
+returns-clause-untouched g c = λ none.
+    let known = place_names c.args.kept.now.places.items in
+    let are = c.as_slice-fresh.ensures.value ∙ c.in_ok-fresh.ensures.fresh known c.requires.knows in
+    absurd (some_new c.as_slice-fresh.result.now c.if-is_empty.ensures (are ∙ none))
+
+pub returns-clause-adds : goal.returns-clause-adds
+returns-clause-adds g c = λ told F w some.
     let s = g.V.Volume.state c.args.vol.now in
     let known = place_names c.args.kept.now.places.items in
     let are = c.as_slice-fresh.ensures.value ∙ c.in_ok-fresh.ensures.fresh known c.requires.knows in
-    subst (λ (l : List (List ℕ)). Exceeds s.capacity (size s.held + (25 + length (spelled (notes_for s.held l))))) are
-    (c.note_fresh.ensures.full told full F (record { parts = w.parts; is_open = w.is_open; placed = w.placed; numbers = w.numbers; entries = w.entries; area = w.area; marker = w.marker })
+    subst (λ (l : List (List ℕ)). AddsBytes (25 + length (spelled (notes_for s.held l))) s (g.V.Volume.state c.note_fresh.new.vol) c.note_fresh.result) are
+    (c.note_fresh.ensures.adds told F (record { parts = w.parts; is_open = w.is_open; placed = w.placed; numbers = w.numbers; entries = w.entries; area = w.area; marker = w.marker })
     (fresh_are_new s.held c.args.kept.now.places.items c.args.names.now c.as_slice-fresh.result.now are (subst AreGood (sym c.as_slice-fresh.ensures.value) c.in_ok-fresh.ensures.good)))

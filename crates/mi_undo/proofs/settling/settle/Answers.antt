@@ -1,10 +1,11 @@
-use Rattle.std.proofs.Common.{refl, ap, ◌∙◌}
+use Rattle.std.proofs.Common.{ℕ, Option, IsSome, refl, sym, ap, subst, ◌∙◌}
 use Rattle.std.specs.FinMap.{get}
 use Rattle.mi_volume.specs.Maps.{Map}
 use Rattle.mi_volume.proofs.Moments.{joined, weaker}
 use Rattle.mi_undo.specs.Stands.{StandsFor, stands, noted}
 use Rattle.mi_undo.proofs.StandsLemmas.{clean_same, unnoted_is}
-use Rattle.mi_undo.proofs.SettleSteps.{clean_image, known_free, known_value}
+use Rattle.mi_undo.proofs.SettleSteps.{clean_image, known_free, known_value, full_weaker}
+use Rattle.mi_undo.proofs.ShortLemmas.{short_same}
 use Rattle.mi_undo.proofs.settling.settle.Goals as goal
 
 pub returns-in_err-marker_name-clause-leaves : goal.returns-in_err-marker_name-clause-leaves
@@ -72,3 +73,16 @@ returns-clause-unread_leaves g c = λ told clean bad refused d image.
     let stays = (c.sync.ensures.syncs told).stays in
     let looks = c.settle_synced.ensures.unread told bad (ap stands stays.held ∙ refused) in
     clean_same u s.held (looks.stays.held ∙ stays.held) (λ q now. clean q (stays.dirty q (looks.stays.dirty q now))) d image
+
+pub settle_synced-requires-clause-within : goal.settle_synced-requires-clause-within
+settle_synced-requires-clause-within g c = λ told. (c.in_ok-sync.ensures.syncs told).fits
+
+pub returns-clause-full : goal.returns-clause-full
+returns-clause-full g c =
+    let s = g.V.Volume.state c.args.vol.now in
+    full_weaker c.settle_synced.result _ _ (λ name h. (h.0, subst (λ (k : Option ℕ). IsSome k) c.sync.ensures.moments.capacity h.1, short_same s.capacity _ s.held _ name c.sync.ensures.moments.capacity (c.sync.ensures.syncs h.0).stays.held h.2)) c.settle_synced.ensures.full
+
+pub returns-clause-short : goal.returns-clause-short
+returns-clause-short g c = λ told name short.
+    let s = g.V.Volume.state c.args.vol.now in let t = g.V.Volume.state c.sync.new.self in
+    c.settle_synced.ensures.short told name (short_same t.capacity s.capacity t.held s.held name (sym c.sync.ensures.moments.capacity) (sym (c.sync.ensures.syncs told).stays.held) short)

@@ -1,10 +1,12 @@
-use Rattle.std.proofs.Common.{◌≡◌, length, vec_len, arith, IsSome, ℕ, Option, ap, subst, ◌∙◌}
+use Rattle.std.proofs.Common.{◌≡◌, length, vec_len, arith, IsSome, ℕ, Option, sym, ap, subst, ◌∙◌}
 use Rattle.mi_text.specs.declared.answers.Settled.TheVariants.{Undone}
 use Rattle.mi_volume.proofs.Moments.{joined}
-use Rattle.mi_undo.specs.Stands.{StandsFor, restored, outside}
+use Rattle.mi_undo.specs.Stands.{StandsFor, put_over, outside}
 use Rattle.mi_undo.specs.Area.{notes_in}
+use Rattle.mi_undo.proofs.StepLemmas.{within_stays}
 use Rattle.mi_undo.proofs.FaultLemmas.{at_err}
-use Rattle.mi_undo.proofs.SettleSteps.{stands_read, stands_bad, not_both_read, settled_undone, looked_goes, looked_stands, settles_looked, settles_undone, settles_cleared, bad_handed, full_handed, noted_name}
+use Rattle.mi_undo.proofs.SettleSteps.{stands_read, stands_bad, not_both_read, settled_undone, looked_goes, looked_stands, settles_looked, settles_undone, settles_cleared, bad_handed, full_handed}
+use Rattle.mi_undo.proofs.ShortLemmas.{short_same}
 use Rattle.mi_undo.proofs.settling.settle_open.Goals as goal
 
 pub returns-in_err-places-clause-settles : goal.returns-in_err-places-clause-settles
@@ -27,13 +29,13 @@ pub returns-in_err-undo_read-clause-unread : goal.returns-in_err-undo_read-claus
 returns-in_err-undo_read-clause-unread g c = λ told bad refused.
     let s = g.V.Volume.state c.args.vol.now in let t = g.V.Volume.state c.read_area.new.vol in let items = c.in_ok-places.places.items in
     let looks = c.read_area.ensures.looks told in let clean = c.requires.clean told in let marked = c.requires.marked told in let reads = c.in_ok-places.ensures.reads told in
-    absurd (not_both_read s.held (outside (restored (notes_in s.held items) s.held)) bad (stands_read s.held (notes_in s.held items) marked reads) refused)
+    absurd (not_both_read s.held (outside (put_over (notes_in s.held items) s.held)) bad (stands_read s.held (notes_in s.held items) marked reads) refused)
 
 pub returns-in_err-undo_read-clause-full : goal.returns-in_err-undo_read-clause-full
 returns-in_err-undo_read-clause-full g c =
     let s = g.V.Volume.state c.args.vol.now in
     full_handed (Unit {0}) c.from_residual-in_err-undo_read.result c.in_err-undo_read.field-0.0 _ _ c.from_residual-in_err-undo_read.ensures.1
-    (λ name h. (h.0, subst (λ (k : Option ℕ). IsSome k) c.read_area.ensures.passes.capacity h.1, noted_name s.held c.in_ok-places.places.items c.deref.result.now name c.deref.ensures.value (c.requires.marked h.0) (c.in_ok-places.ensures.reads h.0) h.2))
+    (λ name h. (h.0, subst (λ (k : Option ℕ). IsSome k) c.read_area.ensures.passes.capacity h.1, short_same s.capacity _ s.held _ name c.read_area.ensures.passes.capacity (c.read_area.ensures.looks h.0).stays.held h.2))
     c.in_err-undo_read.ensures.full
 
 pub returns-in_err-clear_rest-clause-settles : goal.returns-in_err-clear_rest-clause-settles
@@ -49,7 +51,7 @@ pub returns-in_err-clear_rest-clause-unread : goal.returns-in_err-clear_rest-cla
 returns-in_err-clear_rest-clause-unread g c = λ told bad refused.
     let s = g.V.Volume.state c.args.vol.now in let t = g.V.Volume.state c.read_area.new.vol in let items = c.in_ok-places.places.items in
     let looks = c.read_area.ensures.looks told in let clean = c.requires.clean told in let marked = c.requires.marked told in let reads = c.in_ok-places.ensures.reads told in
-    absurd (not_both_read s.held (outside (restored (notes_in s.held items) s.held)) bad (stands_read s.held (notes_in s.held items) marked reads) refused)
+    absurd (not_both_read s.held (outside (put_over (notes_in s.held items) s.held)) bad (stands_read s.held (notes_in s.held items) marked reads) refused)
 
 pub returns-clause-settled : goal.returns-clause-settled
 returns-clause-settled g c = λ told.
@@ -62,7 +64,7 @@ pub returns-clause-known : goal.returns-clause-known
 returns-clause-known g c = λ told.
     let s = g.V.Volume.state c.args.vol.now in let t = g.V.Volume.state c.read_area.new.vol in let items = c.in_ok-places.places.items in
     let looks = c.read_area.ensures.looks told in let clean = c.requires.clean told in let marked = c.requires.marked told in let reads = c.in_ok-places.ensures.reads told in
-    (outside (restored (notes_in s.held items) s.held), stands_read s.held (notes_in s.held items) marked reads)
+    (outside (put_over (notes_in s.held items) s.held), stands_read s.held (notes_in s.held items) marked reads)
 
 pub returns-clause-settles : goal.returns-clause-settles
 returns-clause-settles g c = λ told F sf.
@@ -77,4 +79,13 @@ pub returns-clause-unread : goal.returns-clause-unread
 returns-clause-unread g c = λ told bad refused.
     let s = g.V.Volume.state c.args.vol.now in let t = g.V.Volume.state c.read_area.new.vol in let items = c.in_ok-places.places.items in
     let looks = c.read_area.ensures.looks told in let clean = c.requires.clean told in let marked = c.requires.marked told in let reads = c.in_ok-places.ensures.reads told in
-    absurd (not_both_read s.held (outside (restored (notes_in s.held items) s.held)) bad (stands_read s.held (notes_in s.held items) marked reads) refused)
+    absurd (not_both_read s.held (outside (put_over (notes_in s.held items) s.held)) bad (stands_read s.held (notes_in s.held items) marked reads) refused)
+
+pub undo_read-requires-clause-within : goal.undo_read-requires-clause-within
+undo_read-requires-clause-within g c = λ told. within_stays (g.V.Volume.state c.args.vol.now) (g.V.Volume.state c.read_area.new.vol) c.read_area.ensures.passes.capacity (c.read_area.ensures.looks told).stays (c.requires.within told)
+
+pub returns-clause-short : goal.returns-clause-short
+returns-clause-short g c = λ told name short.
+    let s = g.V.Volume.state c.args.vol.now in let t = g.V.Volume.state c.read_area.new.vol in
+    let undone = c.in_ok-undo_read.ensures.short told name (short_same t.capacity s.capacity t.held s.held name (sym c.read_area.ensures.passes.capacity) (sym (c.read_area.ensures.looks told).stays.held) short) in
+    absurd (cc)

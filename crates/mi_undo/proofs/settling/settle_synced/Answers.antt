@@ -1,8 +1,10 @@
-use Rattle.std.proofs.Common.{false, OnOk, subst}
+use Rattle.std.proofs.Common.{ℕ, Option, IsSome, false, OnOk, sym, subst}
 use Rattle.mi_volume.specs.Maps.{Map}
 use Rattle.mi_undo.specs.Stands.{StandsFor, outside}
 use Rattle.mi_undo.proofs.FaultLemmas.{at_err}
-use Rattle.mi_undo.proofs.SettleSteps.{stands_shut, not_both_read, settled_clean, looked_goes, looked_stands, settles_looked, settles_after, settles_cleared, at_marker, shut_looked}
+use Rattle.mi_undo.proofs.SettleSteps.{stands_shut, not_both_read, settled_clean, looked_goes, looked_stands, settles_looked, settles_after, settles_cleared, at_marker, shut_looked, full_weaker}
+use Rattle.mi_undo.proofs.StepLemmas.{within_stays}
+use Rattle.mi_undo.proofs.ShortLemmas.{short_same, shut_not_short}
 use Rattle.mi_undo.proofs.settling.settle_synced.Goals as goal
 
 pub returns-in_err-is_open-clause-settles : goal.returns-in_err-is_open-clause-settles
@@ -63,3 +65,21 @@ returns-clause-unread g c = λ told bad refused.
     let looks = c.is_open.ensures.looks told in let clean = c.requires.clean told in
     let shut = at_marker s.held c.args.marker_name.now c.in_ok-is_open.field-0 false (c.in_ok-is_open.ensures.value told) c.requires.name c.if-branch.false in
     absurd (not_both_read s.held (outside s.held) bad (stands_shut s.held shut) refused)
+
+pub returns-then-branch-clause-full : goal.returns-then-branch-clause-full
+returns-then-branch-clause-full g c =
+    let s = g.V.Volume.state c.args.vol.now in
+    full_weaker c.settle_open.result _ _ (λ name h. (h.0, subst (λ (k : Option ℕ). IsSome k) c.is_open.ensures.passes.capacity h.1, short_same s.capacity _ s.held _ name c.is_open.ensures.passes.capacity (c.is_open.ensures.looks h.0).stays.held h.2)) c.settle_open.ensures.full
+
+pub returns-then-branch-clause-short : goal.returns-then-branch-clause-short
+returns-then-branch-clause-short g c = λ told name short.
+    let s = g.V.Volume.state c.args.vol.now in let t = g.V.Volume.state c.is_open.new.vol in
+    c.settle_open.ensures.short told name (short_same t.capacity s.capacity t.held s.held name (sym c.is_open.ensures.passes.capacity) (sym (c.is_open.ensures.looks told).stays.held) short)
+
+pub settle_open-requires-clause-within : goal.settle_open-requires-clause-within
+settle_open-requires-clause-within g c = λ told. within_stays (g.V.Volume.state c.args.vol.now) (g.V.Volume.state c.is_open.new.vol) c.is_open.ensures.passes.capacity (c.is_open.ensures.looks told).stays (c.requires.within told)
+
+pub returns-clause-short : goal.returns-clause-short
+returns-clause-short g c = λ told name short.
+    let s = g.V.Volume.state c.args.vol.now in
+    absurd (shut_not_short s.capacity s.held name (at_marker s.held c.args.marker_name.now c.in_ok-is_open.field-0 false (c.in_ok-is_open.ensures.value told) c.requires.name c.if-branch.false) short)

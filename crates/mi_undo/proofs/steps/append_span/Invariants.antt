@@ -2,6 +2,7 @@ use Rattle.std.proofs.Common.{◌≡◌, ◌≢◌, ℕ, ◌<◌, ◌≤◌, ◌
 use Rattle.std.specs.FinMap.{get}
 use Rattle.mi_volume.specs.Maps.{bytes_or_none}
 use Rattle.mi_volume.specs.State.{Passes}
+use Rattle.mi_undo.specs.Steps.{IsWithin}
 use Rattle.mi_undo.proofs.SpanLemmas.{Added}
 use Rattle.mi_undo.proofs.steps.append_span.Given as goal
 
@@ -12,6 +13,7 @@ invariant-loop-at g l = record {
   passes : Passes (g.V.Volume.state l.fn.vol) (g.V.Volume.state l.vol);
   added : g.V.Volume.told → l.from ≢ l.to → (before : List ℕ) → get (g.V.Volume.state l.fn.vol).held l.to ≡ Some before
       → Added l.to before (take (l.at - l.fn.at) (drop l.fn.at (bytes_or_none (get (g.V.Volume.state l.fn.vol).held l.from)))) (g.V.Volume.state l.fn.vol) (g.V.Volume.state l.vol);
+  fits : g.V.Volume.told → IsWithin (g.V.Volume.state l.fn.vol) → IsWithin (g.V.Volume.state l.vol);
 }
 
 abbrev pub decreases-loop-at : goal.decreases-loop-at

@@ -1,4 +1,5 @@
-use Rattle.std.proofs.Common.{refl, sym, subst}
+use Rattle.std.proofs.Common.{◌≡◌, refl, sym, subst, ◌∙◌}
+use Rattle.mi_undo.specs.declared.fault.OpFault.TheVariants as op
 use Rattle.mi_undo.specs.Area.{AreOutside}
 use Rattle.mi_undo.proofs.FreshLemmas.{outside-append, new_outside_names}
 use Rattle.mi_undo.proofs.area.Open+V.note.Goals as goal
@@ -11,4 +12,7 @@ returns-in-Ok-clause-working g c = record {
 }
 
 pub returns-in-Err-clause-full : goal.returns-in-Err-clause-full
-returns-in-Err-clause-full g c = λ full. let told = c.in-Err.ensures.told full in (told, λ F w. c.in-Err.ensures.full told full F w)
+returns-in-Err-clause-full g c = λ full.
+    let told = c.in-Err.ensures.told full in
+    let answer : c.in-Err.fault ≡ op.Full = cc in
+    (told, λ F w. (c.in-Err.ensures.adds told F w (λ none. let clash : op.Full ≡ op.NoMemory = sym answer ∙ c.in-Err.ensures.all_noted none in cc)).full full)

@@ -3,6 +3,7 @@ use Rattle.mi_undo.specs.Stands.{outside}
 use Rattle.mi_undo.proofs.FreshLemmas.{contains_outside}
 use Rattle.mi_undo.proofs.OutsideLemmas.{outside_set_to}
 use Rattle.mi_undo.proofs.ChangeLemmas.{works_changed}
+use Rattle.mi_undo.proofs.FaultLemmas.{put_stays}
 use Rattle.mi_undo.proofs.area.Open+V.put.Goals as goal
 
 pub returns-in_err-put-clause-changes : goal.returns-in_err-put-clause-changes
@@ -14,6 +15,13 @@ pub returns-clause-changes : goal.returns-clause-changes
 returns-clause-changes g c = λ told F w.
     let call = c.put.ensures.writes told in
     works_changed _ _ _ F c.args.name.now w c.requires.noted (record { goes = c.put.ensures.moments; others = call.others; dirty = call.dirty })
+
+pub returns-in_err-put-clause-stays : goal.returns-in_err-put-clause-stays
+returns-in_err-put-clause-stays g c = λ told.
+    put_stays _ _ _ _ c.from_residual.result c.in_err-put.field-0.0 c.from_residual.ensures.1 (c.in_err-put.ensures.writes told)
+
+pub returns-clause-fits : goal.returns-clause-fits
+returns-clause-fits g c = λ told. (c.in_ok-put.ensures.writes told).fits
 
 pub returns-clause-working : goal.returns-clause-working
 returns-clause-working g c = record { working = refl; knows = c.requires.working.knows; outside = c.requires.working.outside }
