@@ -81,8 +81,22 @@ impl Image {
         ensures ok { OnOk result (self.new ≡ tree.insert self.old name.now item) }
         ensures err { OnErr result (self.new ≡ self.old) }
     {
-        let key = Vec::from_slice(alloc, name.as_bytes())?;
-        self.items.insert(key, item)?;
+        match Vec::from_slice(alloc, name.as_bytes()) {
+            Ok(key) => self.put_at(key, item),
+            Err(_) => {
+                drop(item);
+                Err(NoMemory)
+            }
+        }
+    }
+
+    fn put_at(&mut self, key: Vec<u8>, item: Item) -> Result<(), NoMemory>
+        requires { MayStand key.items item }
+        ensures ok { OnOk result (self.new ≡ tree.insert self.old key.items item) }
+        ensures err { OnErr result (self.new ≡ self.old) }
+    {
+        let former = self.items.insert(key, item)?;
+        drop(former);
         Ok(())
     }
 }

@@ -19,6 +19,3 @@ mod under;
 pub use fault::ImageError;
 pub use image::Image;
 pub use item::Content;
-
-#[cfg(test)]
-mod tests;

@@ -60,10 +60,11 @@ fn head_item(alloc: Global, name: &Name, front: &[u8], size: u64) -> Result<Item
     ensures right { IfOk result (MayStand name.now) }
     ensures no_fault { ¬ IsErrOf result ImageError.Fault }
 {
+    let held = name.copy(alloc)?;
     match dec_file_head(alloc, name.as_str(), front, size) {
-        Ok(head) => Ok(Item::Head(head, Content::Held(name.copy(alloc)?))),
+        Ok(head) => Ok(Item::Head(head, Content::Held(held))),
         Err(RecError::NoMemory) => Err(ImageError::NoMemory),
-        Err(RecError::Fault(_)) => Err(ImageError::BadImage(name.copy(alloc)?)),
+        Err(RecError::Fault(_)) => Err(ImageError::BadImage(held)),
     }
 }
 

@@ -9,6 +9,3 @@ mod words;
 pub use listings::{clients_text, products_text};
 pub use log::report;
 pub use outcome::Outcome;
-
-#[cfg(test)]
-mod tests;
