@@ -1,0 +1,13 @@
+//! Tests of the edges on real folders.
+#![tactic(auto)]
+
+#[cfg(test)]
+mod folder;
+#[cfg(test)]
+mod many_names;
+#[cfg(test)]
+mod source_tests;
+#[cfg(test)]
+mod step;
+#[cfg(test)]
+mod volume_tests;
