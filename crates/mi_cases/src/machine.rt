@@ -11,7 +11,7 @@ use mi_text::Name;
 use mi_volume::{Call, Choice, MemVolume};
 use std::alloc::Global;
 
-/// What a run may lack of the calls that a volume lists: those that filled it.
+/// The volume of a case, and what its last run left.
 #[derive(Drop)]
 pub struct Machine {
     /// The volume, of which nothing is dirty and no call fails.
