@@ -7,7 +7,7 @@ mod tables;
 mod words;
 
 use mi_idt::read_table;
-use mi_schema::{LoadError, Package};
+use mi_schema::Package;
 use mi_source::MemSource;
 use package::{FOLDER, MadePackage, package};
 use std::alloc::Global;
@@ -18,25 +18,36 @@ use tables::table;
 use words::{Call, Request, request_of};
 
 /// What is written where the words are no request.
-const USAGE: &str = "usage: mi_bench (make_table|read_table) ROWS WIDTH";
+const USAGE: &str =
+    "usage: mi_bench (make_table|read_table) ROWS WIDTH | (make_package|load_package) ROWS";
 
 // The words behind the program's name.
 fn words_of<R: Env + AllocGlobal>(rt: &R) -> io::Result<Vec<String>> {
     Ok(env::args(rt)?.skip(1).collect(rt.alloc())?)
 }
 
-// Reads the table, and writes how many rows were read and the time that it took.
-fn time_reading<R: Print + Clock>(rt: &R, alloc: Global, bytes: &[u8]) -> io::Result<()> {
-    let start = Instant::now(rt)?;
-    let rows = match read_table(alloc, bytes) {
-        Ok(table) => table.rows.len(),
-        Err(_) => 0,
-    };
-    let microseconds = start.elapsed(rt)?.as_micros();
-    println!(rt; "{rows} rows {microseconds} microseconds")
+// Writes how many rows there were, and to the errors the time that they took, which differs from run to run.
+fn write_rows<R: Print + Eprint>(rt: &R, rows: usize, microseconds: u128) -> io::Result<()> {
+    println!(rt; "{rows} rows")?;
+    eprintln!(rt; "{microseconds} microseconds")
 }
 
-fn carry_out_table<R: Print + Clock>(
+// How many rows were read; none where the table is refused.
+fn read_rows(alloc: Global, bytes: &[u8]) -> usize {
+    match read_table(alloc, bytes) {
+        Ok(table) => table.rows.len(),
+        Err(_) => 0,
+    }
+}
+
+// Reads the table, and writes how many rows were read and the time that it took.
+fn time_reading<R: Print + Eprint + Clock>(rt: &R, alloc: Global, bytes: &[u8]) -> io::Result<()> {
+    let start = Instant::now(rt)?;
+    let rows = read_rows(alloc, bytes);
+    write_rows(rt, rows, start.elapsed(rt)?.as_micros())
+}
+
+fn carry_out_table<R: Print + Eprint + Clock>(
     rt: &R,
     alloc: Global,
     call: Call,
@@ -80,40 +91,51 @@ fn rows_in(loaded: &Package) -> usize {
         .fold(0usize, |sum, rows| sum.saturating_add(*rows))
 }
 
-// Loads the package, counts its rows, and lets it go.
-fn load_rows(alloc: Global, mut source: MemSource) -> Result<usize, LoadError> {
-    let loaded = Package::load(alloc, &mut source, FOLDER)?;
-    Ok(rows_in(&loaded))
-}
-
-// Loads the package, and writes how many rows were loaded and the time that it took. A package that is refused has no time.
-fn time_loading<R: Print + Clock>(rt: &R, alloc: Global, made: MadePackage) -> io::Result<()> {
-    let start = Instant::now(rt)?;
-    let loaded = load_rows(alloc, made.source);
-    let microseconds = start.elapsed(rt)?.as_micros();
-    match loaded {
-        Ok(rows) => println!(rt; "{rows} rows {microseconds} microseconds"),
-        Err(error) => println!(rt; "refused: {error:?}"),
+// How many rows are loaded; none where the package is refused.
+fn load_rows(alloc: Global, source: &mut MemSource) -> usize {
+    match Package::load(alloc, source, FOLDER) {
+        Ok(loaded) => rows_in(&loaded),
+        Err(_) => 0,
     }
 }
 
-fn carry_out_package<R: Print + Clock>(
+// Loads the package, and writes how many rows were loaded and the time that it took.
+fn time_loading<R: Print + Eprint + Clock>(
+    rt: &R,
+    alloc: Global,
+    source: &mut MemSource,
+) -> io::Result<()> {
+    let start = Instant::now(rt)?;
+    let rows = load_rows(alloc, source);
+    write_rows(rt, rows, start.elapsed(rt)?.as_micros())
+}
+
+fn carry_out_made<R: Print + Eprint + Clock>(
+    rt: &R,
+    alloc: Global,
+    call: Call,
+    made: &mut MadePackage,
+) -> io::Result<()> {
+    println!(rt; "{} bytes", made.bytes)?;
+    match call {
+        Call::Make => Ok(()),
+        Call::Read => time_loading(rt, alloc, &mut made.source),
+    }
+}
+
+fn carry_out_package<R: Print + Eprint + Clock>(
     rt: &R,
     alloc: Global,
     call: Call,
     rows: u32,
 ) -> io::Result<()> {
-    let Ok(made) = package(alloc, rows) else {
-        return Err(io::ErrorKind::OutOfMemory.into());
-    };
-    println!(rt; "{} bytes", made.bytes)?;
-    match call {
-        Call::Make => Ok(()),
-        Call::Read => time_loading(rt, alloc, made),
+    match package(alloc, rows) {
+        Ok(mut made) => carry_out_made(rt, alloc, call, &mut made),
+        Err(_) => Err(io::ErrorKind::OutOfMemory.into()),
     }
 }
 
-fn carry_out<R: Print + Clock>(rt: &R, alloc: Global, request: Request) -> io::Result<()> {
+fn carry_out<R: Print + Eprint + Clock>(rt: &R, alloc: Global, request: Request) -> io::Result<()> {
     match request {
         Request::Table { call, rows, width } => carry_out_table(rt, alloc, call, rows, width),
         Request::Package { call, rows } => carry_out_package(rt, alloc, call, rows),
@@ -127,6 +149,3 @@ fn main(rt: HostRuntime) -> io::Result<()> {
         None => println!(rt; "{USAGE}"),
     }
 }
-
-#[cfg(test)]
-mod tests;

@@ -1,7 +1,7 @@
 //! The words of a request.
 
 /// What is done with the input that is made.
-#[derive(Clone, Copy, Debug, PartialEq, Eq)]
+#[derive(Clone, Copy)]
 pub enum Call {
     /// Nothing, so that its memory is told apart from that of the call.
     Make,
@@ -10,7 +10,7 @@ pub enum Call {
 }
 
 /// An input that is made, and what is done with it.
-#[derive(Clone, Copy, Debug, PartialEq, Eq)]
+#[derive(Clone, Copy)]
 pub enum Request {
     /// A table of so many rows, each with a text of `width` bytes.
     Table { call: Call, rows: u32, width: usize },
