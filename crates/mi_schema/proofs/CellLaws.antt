@@ -2,6 +2,7 @@
 use Rattle.std.proofs.Common.{◌≡◌, ℕ, zero, suc, ◌+◌, ◌<◌, Bool, true, false, cond, List, [], ◌∷◌, ◌++◌, length, map, take, get_or, append_assoc, Option, Some, None, Result, Ok, Err, refl, sym, ap, subst, arith, inl, inr}
 use Rattle.std.specs.Prelude.{option_map}
 use Rattle.std.proofs.lemmas.List.{append-nil}
+use Rattle.mi_text.specs.FileNames.{is_file_name, is_file_pattern}
 use Rattle.mi_text.specs.Maps.{Name}
 use Rattle.mi_base.specs.declared.answers.Fault.{Fault}
 use Rattle.mi_base.specs.declared.answers.Fault.TheVariants.{Reference}
@@ -17,7 +18,6 @@ use Rattle.mi_schema.specs.Lawful.{AreRowsOf, AreTables}
 use Rattle.mi_schema.specs.Rows.{◌or_else◌, keys_of, rows_in, cell_fault, cells_fault, fault_at, row_fault, rows_fault}
 use Rattle.mi_schema.specs.Suits.{suits, all_suit, each_suits}
 use Rattle.mi_schema.specs.Tables.{Column, Table, tables}
-use Rattle.mi_schema.specs.Texts.{is_name}
 use Rattle.mi_schema.specs.Values.{Row, value_of, row_of, kind_fault, unless, place_of_fault, tree_of, meets}
 use Rattle.mi_schema.proofs.FitLemmas.{AllFit, front, back}
 use Rattle.mi_schema.proofs.LoadLemmas.{tables_long}
@@ -29,8 +29,8 @@ value_at rows n i = get_or (get_or rows n []) i None
 
 -- a name or a pattern is one, and a condition is what its text reads as
 abbrev pub OfKind : Option Cell → Kind → Type 0
-OfKind (Some (cell.Text text)) kind.Name = is_name false text ≡ true
-OfKind (Some (cell.Text text)) kind.Pattern = is_name true text ≡ true
+OfKind (Some (cell.Text text)) kind.Name = is_file_name text ≡ true
+OfKind (Some (cell.Text text)) kind.Pattern = is_file_pattern text ≡ true
 OfKind (Some (cell.Condition text tree)) kind.Condition = condition_of text ≡ Ok tree
 OfKind value kind = Unit {0}
 
@@ -45,8 +45,8 @@ read_as (Err place) e = cc
 of_kind : (k : Kind) (nullable : Bool) (x : raw.Cell) → kind_fault k nullable x ≡ None → OfKind (value_of k x) k
 of_kind k nullable raw.Nothing e = tt
 of_kind k nullable (raw.Number z) e = tt
-of_kind kind.Name nullable (raw.Text text) e = allowed (is_name false text) e
-of_kind kind.Pattern nullable (raw.Text text) e = allowed (is_name true text) e
+of_kind kind.Name nullable (raw.Text text) e = allowed (is_file_name text) e
+of_kind kind.Pattern nullable (raw.Text text) e = allowed (is_file_pattern text) e
 of_kind kind.Condition nullable (raw.Text text) e = read_as (condition_of text) e
 of_kind kind.Code nullable (raw.Text text) e = tt
 of_kind kind.Text nullable (raw.Text text) e = tt

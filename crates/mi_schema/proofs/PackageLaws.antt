@@ -6,6 +6,7 @@ use Rattle.std.specs.List.{list_any}
 use Rattle.std.specs.Ordering.{int_eq}
 use Rattle.std.specs.Map.{keys_of as keys_in}
 use Rattle.std.proofs.lemmas.Bool.Decides.{nat_tests}
+use Rattle.mi_text.specs.FileNames.{is_file_name, is_file_pattern, is_default_dir}
 use Rattle.mi_text.specs.Maps.{Name}
 use Rattle.mi_text.specs.PropertyNames.{is_property_name}
 use Rattle.mi_text.specs.Version.{version_of}
@@ -27,7 +28,7 @@ use Rattle.mi_schema.specs.Tables.{tables, required_properties, component, condi
 use Rattle.mi_schema.specs.KeyCells.{text_cells, number_cells, texts_cells, text_number_cells, upgrade_cells}
 use Rattle.mi_schema.specs.Suits.{suits}
 use Rattle.mi_schema.specs.Tells.{text_tells, number_tells, texts_tell, text_number_tell, upgrade_tells}
-use Rattle.mi_schema.specs.Texts.{is_decimal, is_name, is_default_dir, are_languages, is_language, is_product_code, is_value_of}
+use Rattle.mi_schema.specs.Texts.{is_decimal, are_languages, is_language, is_product_code, is_value_of}
 use Rattle.mi_schema.specs.Typed.{condition_in}
 use Rattle.mi_schema.specs.TypedRows.{component_row, component_key, condition_row, condition_key, create_folder_row, create_folder_key, custom_action_row, custom_action_key, directory_row, directory_key, duplicate_file_row, duplicate_file_key, environment_row, environment_key, feature_row, feature_key, feature_components_row, feature_components_key, file_row, file_key, install_execute_sequence_row, install_execute_sequence_key, launch_condition_row, launch_condition_key, msi_file_hash_row, msi_file_hash_key, property_row, property_key, registry_row, registry_key, remove_file_row, remove_file_key, remove_registry_row, remove_registry_key, shortcut_row, shortcut_key, summary_information_row, summary_information_key, upgrade_row, upgrade_key}
 use Rattle.mi_schema.specs.Values.{Row, cell_at, text_in, text_at, number_in, lacks, is_root, is_root_below, is_key_in}
@@ -285,9 +286,9 @@ module _ (p : Package) (lawful : IsLawful p) where
     directory_default_dir = each_keyed directory_key directory_row (λ e. (is_root_below e.1.directory e.1.directory_parent ≡ true) ⊎ (is_default_dir e.1.default_dir ≡ true)) (rows_at content directory) p.directory.entries is.directory (λ n lt.
         default_dir (is_root (get_or (rows_at content directory) n [])) (text_in (value_at (rows_at content directory) n 2)) (text_there (column_at directory 2) (value_at (rows_at content directory) n 2) refl refl (suits_here content are directory directory_known 2 n lt refl))
         (ap (λ b. b || option_map_or is_default_dir (text_in (value_at (rows_at content directory) n 2)) true) (sym (root_before (get_or (rows_at content directory) n []))) ∙ (stands_here content are directory directory_known 2 n lt refl).0));
-    duplicate_file_name = each_keyed duplicate_file_key duplicate_file_row (λ e. IfSome e.1.dest_name (λ name. is_name false name ≡ true)) (rows_at content duplicate_file) p.duplicate_file.entries is.duplicate_file (λ n lt. if_name (value_at (rows_at content duplicate_file) n 3) (kind_suits kind.Name (column_at duplicate_file 3) (value_at (rows_at content duplicate_file) n 3) refl (suits_here content are duplicate_file duplicate_file_known 3 n lt refl)) (stands_here content are duplicate_file duplicate_file_known 3 n lt refl).1);
-    file_name = each_keyed file_key file_row (λ e. is_name false e.1.file_name ≡ true) (rows_at content file) p.file.entries is.file (λ n lt.
-        passes (λ name. is_name false name ≡ true) (text_in (value_at (rows_at content file) n 2)) (text_there (column_at file 2) (value_at (rows_at content file) n 2) refl refl (suits_here content are file file_known 2 n lt refl)) (if_name (value_at (rows_at content file) n 2) (kind_suits kind.Name (column_at file 2) (value_at (rows_at content file) n 2) refl (suits_here content are file file_known 2 n lt refl)) (stands_here content are file file_known 2 n lt refl).1));
+    duplicate_file_name = each_keyed duplicate_file_key duplicate_file_row (λ e. IfSome e.1.dest_name (λ name. is_file_name name ≡ true)) (rows_at content duplicate_file) p.duplicate_file.entries is.duplicate_file (λ n lt. if_name (value_at (rows_at content duplicate_file) n 3) (kind_suits kind.Name (column_at duplicate_file 3) (value_at (rows_at content duplicate_file) n 3) refl (suits_here content are duplicate_file duplicate_file_known 3 n lt refl)) (stands_here content are duplicate_file duplicate_file_known 3 n lt refl).1);
+    file_name = each_keyed file_key file_row (λ e. is_file_name e.1.file_name ≡ true) (rows_at content file) p.file.entries is.file (λ n lt.
+        passes (λ name. is_file_name name ≡ true) (text_in (value_at (rows_at content file) n 2)) (text_there (column_at file 2) (value_at (rows_at content file) n 2) refl refl (suits_here content are file file_known 2 n lt refl)) (if_name (value_at (rows_at content file) n 2) (kind_suits kind.Name (column_at file 2) (value_at (rows_at content file) n 2) refl (suits_here content are file file_known 2 n lt refl)) (stands_here content are file file_known 2 n lt refl).1));
     file_size = each_keyed file_key file_row (λ e. IsWithin (pos 0) (pos 2147483647) e.1.file_size) (rows_at content file) p.file.entries is.file (λ n lt. within (pos 0) (pos 2147483647) (value_at (rows_at content file) n 3) (not_null (column_at file 3) (value_at (rows_at content file) n 3) (suits_here content are file file_known 3 n lt refl) refl) (stands_here content are file file_known 3 n lt refl).0);
     file_version = each_keyed file_key file_row (λ e. IfSome (companion_of e.1.version) (IsKeyOf p.file.entries)) (rows_at content file) p.file.entries is.file (λ n lt.
         key_of_map (keys_of (rows_at content file)) (keys_in p.file.entries) (sym (keys_keyed file_key file_row (rows_at content file) p.file.entries is.file)) (companion_of (text_in (value_at (rows_at content file) n 4)))
@@ -297,11 +298,11 @@ module _ (p : Package) (lawful : IsLawful p) where
         passes (λ name. is_property_name name ≡ true) (text_in (value_at (rows_at content property) n 0)) (text_there (column_at property 0) (value_at (rows_at content property) n 0) refl refl (suits_here content are property property_known 0 n lt refl)) (if_passes is_property_name (text_in (value_at (rows_at content property) n 0)) (stands_here content are property property_known 0 n lt refl).0));
     property_value = each_keyed property_key property_row (λ e. is_value_of e.1.property e.1.value ≡ true) (rows_at content property) p.property.entries is.property (λ n lt. value_passes n lt);
     registry_root = each_keyed registry_key registry_row (λ e. IsWithin (negsuc 0) (pos 3) e.1.root) (rows_at content registry) p.registry.entries is.registry (λ n lt. within (negsuc 0) (pos 3) (value_at (rows_at content registry) n 1) (not_null (column_at registry 1) (value_at (rows_at content registry) n 1) (suits_here content are registry registry_known 1 n lt refl) refl) (stands_here content are registry registry_known 1 n lt refl).0);
-    remove_file_name = each_keyed remove_file_key remove_file_row (λ e. IfSome e.1.file_name (λ name. is_name true name ≡ true)) (rows_at content remove_file) p.remove_file.entries is.remove_file (λ n lt. if_pattern (value_at (rows_at content remove_file) n 2) (kind_suits kind.Pattern (column_at remove_file 2) (value_at (rows_at content remove_file) n 2) refl (suits_here content are remove_file remove_file_known 2 n lt refl)) (stands_here content are remove_file remove_file_known 2 n lt refl).1);
+    remove_file_name = each_keyed remove_file_key remove_file_row (λ e. IfSome e.1.file_name (λ name. is_file_pattern name ≡ true)) (rows_at content remove_file) p.remove_file.entries is.remove_file (λ n lt. if_pattern (value_at (rows_at content remove_file) n 2) (kind_suits kind.Pattern (column_at remove_file 2) (value_at (rows_at content remove_file) n 2) refl (suits_here content are remove_file remove_file_known 2 n lt refl)) (stands_here content are remove_file remove_file_known 2 n lt refl).1);
     remove_file_mode = each_keyed remove_file_key remove_file_row (λ e. IsWithin (pos 1) (pos 3) e.1.install_mode) (rows_at content remove_file) p.remove_file.entries is.remove_file (λ n lt. within (pos 1) (pos 3) (value_at (rows_at content remove_file) n 4) (not_null (column_at remove_file 4) (value_at (rows_at content remove_file) n 4) (suits_here content are remove_file remove_file_known 4 n lt refl) refl) (stands_here content are remove_file remove_file_known 4 n lt refl).0);
     remove_registry_root = each_keyed remove_registry_key remove_registry_row (λ e. IsWithin (negsuc 0) (pos 3) e.1.root) (rows_at content remove_registry) p.remove_registry.entries is.remove_registry (λ n lt. within (negsuc 0) (pos 3) (value_at (rows_at content remove_registry) n 1) (not_null (column_at remove_registry 1) (value_at (rows_at content remove_registry) n 1) (suits_here content are remove_registry remove_registry_known 1 n lt refl) refl) (stands_here content are remove_registry remove_registry_known 1 n lt refl).0);
-    shortcut_name = each_keyed shortcut_key shortcut_row (λ e. is_name false e.1.name ≡ true) (rows_at content shortcut) p.shortcut.entries is.shortcut (λ n lt.
-        passes (λ name. is_name false name ≡ true) (text_in (value_at (rows_at content shortcut) n 2)) (text_there (column_at shortcut 2) (value_at (rows_at content shortcut) n 2) refl refl (suits_here content are shortcut shortcut_known 2 n lt refl)) (if_name (value_at (rows_at content shortcut) n 2) (kind_suits kind.Name (column_at shortcut 2) (value_at (rows_at content shortcut) n 2) refl (suits_here content are shortcut shortcut_known 2 n lt refl)) (stands_here content are shortcut shortcut_known 2 n lt refl).1));
+    shortcut_name = each_keyed shortcut_key shortcut_row (λ e. is_file_name e.1.name ≡ true) (rows_at content shortcut) p.shortcut.entries is.shortcut (λ n lt.
+        passes (λ name. is_file_name name ≡ true) (text_in (value_at (rows_at content shortcut) n 2)) (text_there (column_at shortcut 2) (value_at (rows_at content shortcut) n 2) refl refl (suits_here content are shortcut shortcut_known 2 n lt refl)) (if_name (value_at (rows_at content shortcut) n 2) (kind_suits kind.Name (column_at shortcut 2) (value_at (rows_at content shortcut) n 2) refl (suits_here content are shortcut shortcut_known 2 n lt refl)) (stands_here content are shortcut shortcut_known 2 n lt refl).1));
     shortcut_hotkey = each_keyed shortcut_key shortcut_row (λ e. IfSome e.1.hotkey (IsWithin (pos 0) (pos 65535))) (rows_at content shortcut) p.shortcut.entries is.shortcut (λ n lt. if_within (pos 0) (pos 65535) (value_at (rows_at content shortcut) n 7) (stands_here content are shortcut shortcut_known 7 n lt refl).0);
     shortcut_icon_index = each_keyed shortcut_key shortcut_row (λ e. IfSome e.1.icon_index (IsWithin (negsuc 32766) (pos 32767))) (rows_at content shortcut) p.shortcut.entries is.shortcut (λ n lt. if_within (negsuc 32766) (pos 32767) (value_at (rows_at content shortcut) n 9) (stands_here content are shortcut shortcut_known 9 n lt refl).0);
     word_count = each_keyed summary_information_key summary_information_row (λ e. e.1.property_id ≡ pos 15 → is_decimal (unwrap_or e.1.value []) ≡ true) (rows_at content summary_information) p.summary_information.entries is.summary_information (λ n lt fifteen.

@@ -5,6 +5,7 @@ use Rattle.std.specs.Option.{option_map_or}
 use Rattle.std.specs.List.{list_any}
 use Rattle.std.proofs.lemmas.Bool.Decides.{nat_tests}
 use Rattle.std.proofs.lemmas.Int.{ints}
+use Rattle.mi_text.specs.FileNames.{is_file_name, is_file_pattern}
 use Rattle.mi_text.specs.declared.guid.Guid.{Guid}
 use Rattle.mi_schema.specs.declared.cell.Cell.{Cell}
 use Rattle.mi_schema.specs.declared.cell.Cell.TheVariants as cell
@@ -15,7 +16,6 @@ use Rattle.mi_schema.specs.Package.{keyed}
 use Rattle.mi_schema.specs.Read.{has_text}
 use Rattle.mi_schema.specs.Suits.{suits, suits_kind}
 use Rattle.mi_schema.specs.Tables.{Column}
-use Rattle.mi_schema.specs.Texts.{is_name}
 use Rattle.mi_schema.specs.Typed.{some_number_in, some_code_in}
 use Rattle.mi_schema.specs.Values.{Row, cell_at, text_in, text_at, number_in, is_root, has_code, code_in, same_code, is_new_code}
 use Rattle.mi_schema.proofs.CellLaws.{OfKind}
@@ -123,14 +123,14 @@ pub if_passes : (test : List ℕ → Bool) (o : Option (List ℕ)) → option_ma
 if_passes test None e = tt
 if_passes test (Some text) e = e
 
-pub if_name : (x : Option Cell) → IfSome x (λ v. suits_kind kind.Name v ≡ true) → OfKind x kind.Name → IfSome (text_in x) (λ text. is_name false text ≡ true)
+pub if_name : (x : Option Cell) → IfSome x (λ v. suits_kind kind.Name v ≡ true) → OfKind x kind.Name → IfSome (text_in x) (λ text. is_file_name text ≡ true)
 if_name None on is = tt
 if_name (Some (cell.Text text)) on is = is
 if_name (Some (cell.Integer z)) on is = tt
 if_name (Some (cell.Code code)) on is = tt
 if_name (Some (cell.Condition text tree)) on is = let wrong : false ≡ true = on in absurd cc
 
-pub if_pattern : (x : Option Cell) → IfSome x (λ v. suits_kind kind.Pattern v ≡ true) → OfKind x kind.Pattern → IfSome (text_in x) (λ text. is_name true text ≡ true)
+pub if_pattern : (x : Option Cell) → IfSome x (λ v. suits_kind kind.Pattern v ≡ true) → OfKind x kind.Pattern → IfSome (text_in x) (λ text. is_file_pattern text ≡ true)
 if_pattern None on is = tt
 if_pattern (Some (cell.Text text)) on is = is
 if_pattern (Some (cell.Integer z)) on is = tt

@@ -2,6 +2,7 @@
 use Rattle.std.specs.Prelude.{◌≡◌, ◌≢◌, ◌⊎◌, ℕ, ℤ, zero, suc, pos, negsuc, ◌≤◌, ◌≤ℤ◌, ◌==◌, ◌/◌, ◌%◌, not, Bool, true, false, List, [], length, find, unwrap_or, codes, bit_and, Option, Some, None, is_some, IfSome, if◌then◌else◌, All, AllPairs, Contains}
 use Rattle.std.specs.Map.{keys_of}
 use Rattle.std.specs.Ordering.{int_eq}
+use Rattle.mi_text.specs.FileNames.{is_file_name, is_file_pattern, is_default_dir}
 use Rattle.mi_text.specs.Maps.{Name}
 use Rattle.mi_text.specs.PropertyNames.{is_property_name}
 use Rattle.mi_text.specs.Version.{version_of}
@@ -15,7 +16,7 @@ use Rattle.mi_schema.specs.declared.typed_rows.FileRow.{FileRow}
 use Rattle.mi_schema.specs.declared.typed_rows.PropertyRow.{PropertyRow}
 use Rattle.mi_schema.specs.declared.typed_rows.SummaryInformationRow.{SummaryInformationRow}
 use Rattle.mi_schema.specs.Checks.{companion_of}
-use Rattle.mi_schema.specs.Texts.{is_decimal, is_name, is_default_dir, are_languages, is_language, is_product_code, is_value_of}
+use Rattle.mi_schema.specs.Texts.{is_decimal, are_languages, is_language, is_product_code, is_value_of}
 use Rattle.mi_schema.specs.Values.{bits_of, lacks, is_root_below}
 
 -- ---- words
@@ -189,18 +190,18 @@ pub record ValuesStand (p : Package) : Type 0 where
   pub component_attributes : EachRow p.component.entries (λ r. lacks 97 r.attributes ≡ true)
   pub directory_one_root : AllPairs (λ a b. is_root_below a.1.directory a.1.directory_parent ≡ true → is_root_below b.1.directory b.1.directory_parent ≡ false) p.directory.entries
   pub directory_default_dir : EachRow p.directory.entries (λ r. (is_root_below r.directory r.directory_parent ≡ true) ⊎ (is_default_dir r.default_dir ≡ true))
-  pub duplicate_file_name : EachRow p.duplicate_file.entries (λ r. IfSome r.dest_name (λ name. is_name false name ≡ true))
-  pub file_name : EachRow p.file.entries (λ r. is_name false r.file_name ≡ true)
+  pub duplicate_file_name : EachRow p.duplicate_file.entries (λ r. IfSome r.dest_name (λ name. is_file_name name ≡ true))
+  pub file_name : EachRow p.file.entries (λ r. is_file_name r.file_name ≡ true)
   pub file_size : EachRow p.file.entries (λ r. IsWithin (pos 0) (pos 2147483647) r.file_size)
   pub file_version : EachRow p.file.entries (λ r. IfSome (companion_of r.version) (IsKeyOf p.file.entries))
   pub file_language : EachRow p.file.entries (λ r. IfSome r.language (λ text. are_languages text ≡ true))
   pub property_name : EachRow p.property.entries (λ r. is_property_name r.property ≡ true)
   pub property_value : EachRow p.property.entries (λ r. is_value_of r.property r.value ≡ true)
   pub registry_root : EachRow p.registry.entries (λ r. IsWithin (negsuc 0) (pos 3) r.root)
-  pub remove_file_name : EachRow p.remove_file.entries (λ r. IfSome r.file_name (λ name. is_name true name ≡ true))
+  pub remove_file_name : EachRow p.remove_file.entries (λ r. IfSome r.file_name (λ name. is_file_pattern name ≡ true))
   pub remove_file_mode : EachRow p.remove_file.entries (λ r. IsWithin (pos 1) (pos 3) r.install_mode)
   pub remove_registry_root : EachRow p.remove_registry.entries (λ r. IsWithin (negsuc 0) (pos 3) r.root)
-  pub shortcut_name : EachRow p.shortcut.entries (λ r. is_name false r.name ≡ true)
+  pub shortcut_name : EachRow p.shortcut.entries (λ r. is_file_name r.name ≡ true)
   pub shortcut_hotkey : EachRow p.shortcut.entries (λ r. IfSome r.hotkey (IsWithin (pos 0) (pos 65535)))
   pub shortcut_icon_index : EachRow p.shortcut.entries (λ r. IfSome r.icon_index (IsWithin (negsuc 32766) (pos 32767)))
   pub shortcut_show_cmd : EachRow p.shortcut.entries (λ r. IfSome r.show_cmd (IsWithin (pos 0) (pos 65535)))

@@ -3,6 +3,7 @@ pub mod Checks
 pub mod Conditions
 pub mod Described
 pub mod Files
+pub mod Groups
 pub mod Held
 pub mod KeyCells
 pub mod Keys

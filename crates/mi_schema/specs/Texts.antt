@@ -1,35 +1,10 @@
 -- Which texts are values of their kind, or meet the rule of their column.
-use Rattle.std.specs.Prelude.{ℕ, ◌==◌, ◌&&◌, ◌||◌, not, nat_le, Bool, true, false, if◌then◌else◌, List, length, codes, Option, Some, None, is_some}
+use Rattle.std.specs.Prelude.{ℕ, ◌==◌, ◌&&◌, not, nat_le, Bool, true, if◌then◌else◌, List, length, codes, Option, Some, None, is_some}
 use Rattle.std.specs.List.{slice_split, list_all}
 use Rattle.std.specs.Str.{bytes_eq}
 use Rattle.mi_text.specs.Guid.{guid_of}
-use Rattle.mi_text.specs.Path.{good_byte, is_backslash}
 use Rattle.mi_text.specs.Version.{version_of}
 use Rattle.mi_idt.specs.Fields.{is_digit, number_within}
-
--- ---- names of files (Filename; WildCardFilename)
-
--- a byte of a name; in a pattern `*` and `?` may stand too
-abbrev pub may_stand : Bool → ℕ → Bool
-may_stand pattern b = (good_byte b && not (is_backslash b)) || (pattern && ((b == 42) || (b == 63)))
-
--- a name that isn't empty, `.` or `..`
-abbrev pub is_part : Bool → List ℕ → Bool
-is_part pattern p = not (length p == 0) && not (bytes_eq p (codes ".")) && not (bytes_eq p (codes "..")) && list_all (may_stand pattern) p
-
--- a long name, or a short and a long one joined by `|`
-abbrev pub is_name : Bool → List ℕ → Bool
-is_name pattern text = nat_le (length (slice_split (λ b. b == 124) text)) 2 && list_all (is_part pattern) (slice_split (λ b. b == 124) text)
-
--- ---- folders (Directory table, DefaultDir)
-
--- a name, or `.` for the parent's folder
-abbrev pub is_folder_name : List ℕ → Bool
-is_folder_name text = bytes_eq text (codes ".") || is_name false text
-
--- `target:source`, or one for both
-abbrev pub is_default_dir : List ℕ → Bool
-is_default_dir text = nat_le (length (slice_split (λ b. b == 58) text)) 2 && list_all is_folder_name (slice_split (λ b. b == 58) text)
 
 -- ---- numbers, languages and codes
 

@@ -5,6 +5,7 @@ use Rattle.std.specs.Ordering.{int_eq}
 use Rattle.std.specs.Option.{option_map_or}
 use Rattle.std.specs.List.{slice_index_or, list_any}
 use Rattle.std.specs.Str.{bytes_eq}
+use Rattle.mi_text.specs.FileNames.{is_file_name, is_file_pattern, is_default_dir}
 use Rattle.mi_text.specs.Maps.{Name, same_name}
 use Rattle.mi_text.specs.Guid.{guid_of}
 use Rattle.mi_text.specs.PropertyNames.{is_property_name}
@@ -22,7 +23,7 @@ use Rattle.mi_schema.specs.declared.column.Kind.TheVariants as kind
 use Rattle.mi_schema.specs.declared.column.Rule.{Rule}
 use Rattle.mi_schema.specs.declared.column.Rule.TheVariants as rule
 use Rattle.mi_schema.specs.Conditions.{condition_of}
-use Rattle.mi_schema.specs.Texts.{is_name, is_default_dir, is_decimal, are_languages, is_value_of}
+use Rattle.mi_schema.specs.Texts.{is_decimal, are_languages, is_value_of}
 use Rattle.mi_schema.specs.Tables.{Column}
 
 -- the values of a row in the known columns; None is null
@@ -89,8 +90,8 @@ place_of_fault (Ok tree) = None
 place_of_fault (Err place) = Some (bad.Condition place)
 
 abbrev pub text_fault : Kind → List ℕ → Option Bad
-text_fault kind.Name text = unless (is_name false text)
-text_fault kind.Pattern text = unless (is_name true text)
+text_fault kind.Name text = unless (is_file_name text)
+text_fault kind.Pattern text = unless (is_file_pattern text)
 text_fault kind.Code text = unless (is_some (guid_of text))
 text_fault kind.Condition text = place_of_fault (condition_of text)
 text_fault other text = None

@@ -9,7 +9,7 @@ use mi_base::{Guid, NoMemory, Text};
 use mi_cond::Cond;
 
 /// A value that isn't null.
-#[derive(Debug, Drop)]
+#[derive(Drop)]
 pub enum Cell {
     Text(Text),
     Integer(i32),
@@ -22,7 +22,7 @@ pub enum Cell {
 pub type Row = Vec<Option<Cell>>;
 
 /// Why a value isn't one of its column.
-#[derive(Clone, Copy, Debug, PartialEq, Eq)]
+#[derive(Clone, Copy)]
 pub enum Bad {
     /// It isn't of the kind, or breaks the rule.
     Value,
@@ -31,7 +31,7 @@ pub enum Bad {
 }
 
 /// Why a field gives no value.
-#[derive(Clone, Copy, Debug, PartialEq, Eq)]
+#[derive(Clone, Copy)]
 pub enum CellError {
     NoMemory,
     Bad(Bad),

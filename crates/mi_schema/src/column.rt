@@ -1,7 +1,7 @@
 //! How a table is described: its columns, what they hold, and the rules that their values meet.
 
 /// A table whose keys other tables name.
-#[derive(Clone, Copy, Debug, PartialEq, Eq)]
+#[derive(Clone, Copy, PartialEq, Eq)]
 pub enum Target {
     Component,
     Directory,
@@ -11,7 +11,7 @@ pub enum Target {
 }
 
 /// What a column holds (Column Data Types).
-#[derive(Clone, Copy, Debug, PartialEq, Eq)]
+#[derive(Clone, Copy)]
 pub enum Kind {
     /// Any text.
     Text,
@@ -33,7 +33,7 @@ pub enum Kind {
 
 /// What the values of a column meet beside their kind. A null meets every rule but `OneRoot`, `WordCount`
 /// and `ActionSource`.
-#[derive(Clone, Copy, Debug, PartialEq, Eq)]
+#[derive(Clone, Copy)]
 pub enum Rule {
     /// No further rule.
     Free,
@@ -65,7 +65,7 @@ pub enum Rule {
 }
 
 /// A column of a known table.
-#[derive(Clone, Copy, Debug)]
+#[derive(Clone, Copy)]
 pub struct Column {
     pub name: &'static str,
     pub kind: Kind,
@@ -75,7 +75,7 @@ pub struct Column {
 }
 
 /// A table as this project knows it; one without columns is refused where it holds a row.
-#[derive(Clone, Copy, Debug)]
+#[derive(Clone, Copy)]
 pub struct Layout {
     pub name: &'static str,
     pub columns: &'static [Column],

@@ -11,8 +11,7 @@ ghost use Rattle.mi_schema.specs.Conditions.{place_in};
 
 use crate::cell::{Bad, Cell, CellError};
 use crate::column::{Column, Kind};
-use crate::text::is_name;
-use mi_base::{Guid, Text};
+use mi_base::{Guid, Text, is_file_name, is_file_pattern};
 use mi_cond::{Cond, CondError, CondFault};
 use std::alloc::Global;
 
@@ -58,8 +57,8 @@ fn read_text(alloc: Global, kind: Kind, text: Text) -> Result<Cell, CellError>
     ensures { ReadsAs (text_fault kind text) (text_value kind text) result }
 {
     match kind {
-        Kind::Name => checked(is_name(false, text.as_str()), text),
-        Kind::Pattern => checked(is_name(true, text.as_str()), text),
+        Kind::Name => checked(is_file_name(text.as_str()), text),
+        Kind::Pattern => checked(is_file_pattern(text.as_str()), text),
         Kind::Code => read_code(text.as_str()),
         Kind::Condition => read_condition(alloc, text),
         Kind::Text | Kind::Formatted | Kind::Integer | Kind::KeyOf(_) => Ok(Cell::Text(text)),

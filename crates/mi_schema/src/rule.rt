@@ -3,10 +3,11 @@
 ghost use Rattle.std.specs.Prelude.{◌≡◌, ◌&&◌, ◌||◌, not, pos, is_none, is_some, int_le, unwrap_or, [], List};
 ghost use Rattle.std.specs.Ordering.{int_eq};
 ghost use Rattle.std.specs.Option.{option_copied};
+ghost use Rattle.mi_text.specs.FileNames.{is_default_dir};
 ghost use Rattle.mi_text.specs.Maps.{Name};
 ghost use Rattle.mi_text.specs.PropertyNames.{is_property_name};
 ghost use Rattle.mi_text.specs.Version.{version_of};
-ghost use Rattle.mi_schema.specs.Texts.{are_languages, is_decimal, is_default_dir, is_value_of};
+ghost use Rattle.mi_schema.specs.Texts.{are_languages, is_decimal, is_value_of};
 ghost use Rattle.mi_schema.specs.Keys.{KnowsKeys};
 ghost use Rattle.mi_schema.specs.Seen.{IsSeen};
 ghost use Rattle.mi_schema.specs.Values.{Row, cell_at, text_in, number_in, is_root_below, is_root, lacks, meets, if_text, is_key_in};
@@ -14,8 +15,8 @@ ghost use Rattle.mi_schema.specs.Values.{Row, cell_at, text_in, number_in, is_ro
 use crate::cell::{Cell, number_at, number_in, some_text_at, text_at, text_in};
 use crate::column::Rule;
 use crate::seen::Seen;
-use crate::text::{are_languages, is_decimal, is_default_dir, is_value_of, is_version};
-use mi_base::is_property_name;
+use crate::text::{are_languages, is_decimal, is_value_of, is_version};
+use mi_base::{is_default_dir, is_property_name};
 use std::collections::BTreeMap;
 
 /// Whether a row of Directory is a root row, by its key and its parent.

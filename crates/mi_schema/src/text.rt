@@ -2,10 +2,9 @@
 
 ghost use Rattle.std.specs.Prelude.{◌≡◌, is_some, length, count_by, ◌==◌};
 ghost use Rattle.std.specs.List.{slice_split, list_all};
-ghost use Rattle.mi_text.specs.Path.{good_byte};
 ghost use Rattle.mi_idt.specs.Fields.{is_digit, number_within};
 ghost use Rattle.mi_text.specs.Version.{version_of};
-ghost use Rattle.mi_schema.specs.Texts.{may_stand, is_part, is_name, is_folder_name, is_default_dir, is_decimal, is_language, are_languages, is_product_code, is_value_of};
+ghost use Rattle.mi_schema.specs.Texts.{is_decimal, is_language, are_languages, is_product_code, is_value_of};
 
 use mi_base::{Guid, Version};
 
@@ -21,66 +20,6 @@ fn count_parts(text: &str, mark: u8) -> usize
     ensures { result ≡ length (slice_split (λ b. b == mark) text.now) }
 {
     count(text.as_bytes(), mark) + 1
-}
-
-fn good_byte(byte: u8) -> bool
-    ensures { result ≡ good_byte byte }
-{
-    byte >= 32 && !matches!(byte, b'/' | b':' | b'*' | b'?' | b'"' | b'<' | b'>' | b'|')
-}
-
-/// Whether a byte may stand in a name; in a pattern `*` and `?` may stand too.
-fn may_stand(pattern: bool, byte: u8) -> bool
-    ensures { result ≡ may_stand pattern byte }
-{
-    let plain = good_byte(byte) && byte != b'\\';
-    plain || (pattern && (byte == b'*' || byte == b'?'))
-}
-
-fn all_may_stand(pattern: bool, bytes: &[u8]) -> bool
-    ensures { result ≡ list_all (may_stand pattern) bytes.now }
-{
-    bytes.iter().all(|byte| may_stand(pattern, *byte))
-}
-
-fn is_part(pattern: bool, part: &str) -> bool
-    ensures { result ≡ is_part pattern part.now }
-{
-    let empty = part.is_empty();
-    let dots = part == "." || part == "..";
-    !empty && !dots && all_may_stand(pattern, part.as_bytes())
-}
-
-fn all_names(pattern: bool, text: &str) -> bool
-    ensures { result ≡ list_all (is_part pattern) (slice_split (λ b. b == 124) text.now) }
-{
-    text.split('|').all(|part| is_part(pattern, part))
-}
-
-/// Whether a text is a long name, or a short and a long one joined by `|`.
-pub fn is_name(pattern: bool, text: &str) -> bool
-    ensures { result ≡ is_name pattern text.now }
-{
-    count_parts(text, b'|') <= 2 && all_names(pattern, text)
-}
-
-fn is_folder_name(text: &str) -> bool
-    ensures { result ≡ is_folder_name text.now }
-{
-    text == "." || is_name(false, text)
-}
-
-fn all_folder_names(text: &str) -> bool
-    ensures { result ≡ list_all is_folder_name (slice_split (λ b. b == 58) text.now) }
-{
-    text.split(':').all(|part| is_folder_name(part))
-}
-
-/// Whether a text is `target:source`, or one name for both.
-pub fn is_default_dir(text: &str) -> bool
-    ensures { result ≡ is_default_dir text.now }
-{
-    count_parts(text, b':') <= 2 && all_folder_names(text)
 }
 
 fn all_digits(bytes: &[u8]) -> bool

@@ -59,30 +59,36 @@ pub fn text(alloc: Global, cell: Option<Cell>) -> Text
 pub fn some_number(cell: Option<Cell>) -> Option<i32>
     ensures { result ≡ some_number_in cell }
 {
-    match cell {
-        Some(Cell::Integer(number)) => Some(number),
+    let number = match &cell {
+        Some(Cell::Integer(number)) => Some(*number),
         _ => None,
-    }
+    };
+    drop(cell);
+    number
 }
 
 /// The number of a value; 0 where it is none.
 pub fn number(cell: Option<Cell>) -> i32
     ensures { result ≡ number_in cell }
 {
-    match cell {
-        Some(Cell::Integer(number)) => number,
+    let number = match &cell {
+        Some(Cell::Integer(number)) => *number,
         _ => 0,
-    }
+    };
+    drop(cell);
+    number
 }
 
 /// The code of a value, where it is one.
 pub fn some_code(cell: Option<Cell>) -> Option<Guid>
     ensures { result ≡ some_code_in cell }
 {
-    match cell {
-        Some(Cell::Code(code)) => Some(code),
+    let code = match &cell {
+        Some(Cell::Code(code)) => Some(*code),
         _ => None,
-    }
+    };
+    drop(cell);
+    code
 }
 
 /// The condition of a value, where it is one.

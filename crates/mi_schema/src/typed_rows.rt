@@ -5,14 +5,14 @@ use mi_base::{Guid, Text};
 use mi_cond::Cond;
 
 /// A row of Property (Property table).
-#[derive(Debug, Drop)]
+#[derive(Drop)]
 pub struct PropertyRow {
     pub property: Text,
     pub value: Text,
 }
 
 /// A row of Directory (Directory table).
-#[derive(Debug, Drop)]
+#[derive(Drop)]
 pub struct DirectoryRow {
     pub directory: Text,
     /// A key of Directory; a root row has none, or its own.
@@ -22,7 +22,7 @@ pub struct DirectoryRow {
 }
 
 /// A row of Component (Component table).
-#[derive(Debug, Drop)]
+#[derive(Drop)]
 pub struct ComponentRow {
     pub component: Text,
     /// The code by which clients name the component.
@@ -36,7 +36,7 @@ pub struct ComponentRow {
 }
 
 /// A row of Feature (Feature table).
-#[derive(Debug, Drop)]
+#[derive(Drop)]
 pub struct FeatureRow {
     pub feature: Text,
     /// A key of Feature.
@@ -50,7 +50,7 @@ pub struct FeatureRow {
 }
 
 /// A row of FeatureComponents (FeatureComponents table).
-#[derive(Debug, Drop)]
+#[derive(Drop)]
 pub struct FeatureComponentsRow {
     /// A key of Feature.
     pub feature: Text,
@@ -59,7 +59,7 @@ pub struct FeatureComponentsRow {
 }
 
 /// A row of Condition (Condition table).
-#[derive(Debug, Drop)]
+#[derive(Drop)]
 pub struct ConditionRow {
     /// A key of Feature.
     pub feature: Text,
@@ -68,7 +68,7 @@ pub struct ConditionRow {
 }
 
 /// A row of File (File table).
-#[derive(Debug, Drop)]
+#[derive(Drop)]
 pub struct FileRow {
     pub file: Text,
     /// A key of Component.
@@ -86,7 +86,7 @@ pub struct FileRow {
 }
 
 /// A row of MsiFileHash (MsiFileHash table).
-#[derive(Debug, Drop)]
+#[derive(Drop)]
 pub struct MsiFileHashRow {
     /// A key of File.
     pub file: Text,
@@ -98,7 +98,7 @@ pub struct MsiFileHashRow {
 }
 
 /// A row of RemoveFile (RemoveFile table).
-#[derive(Debug, Drop)]
+#[derive(Drop)]
 pub struct RemoveFileRow {
     pub file_key: Text,
     /// A key of Component.
@@ -111,7 +111,7 @@ pub struct RemoveFileRow {
 }
 
 /// A row of CreateFolder (CreateFolder table).
-#[derive(Debug, Drop)]
+#[derive(Drop)]
 pub struct CreateFolderRow {
     /// A key of Directory.
     pub directory: Text,
@@ -120,7 +120,7 @@ pub struct CreateFolderRow {
 }
 
 /// A row of DuplicateFile (DuplicateFile table).
-#[derive(Debug, Drop)]
+#[derive(Drop)]
 pub struct DuplicateFileRow {
     pub file_key: Text,
     /// A key of Component.
@@ -133,7 +133,7 @@ pub struct DuplicateFileRow {
 }
 
 /// A row of Registry (Registry table).
-#[derive(Debug, Drop)]
+#[derive(Drop)]
 pub struct RegistryRow {
     pub registry: Text,
     /// -1 by user or machine, 0 HKCR, 1 HKCU, 2 HKLM, 3 HKU.
@@ -146,7 +146,7 @@ pub struct RegistryRow {
 }
 
 /// A row of RemoveRegistry (RemoveRegistry table).
-#[derive(Debug, Drop)]
+#[derive(Drop)]
 pub struct RemoveRegistryRow {
     pub remove_registry: Text,
     /// As in Registry.
@@ -158,7 +158,7 @@ pub struct RemoveRegistryRow {
 }
 
 /// A row of Environment (Environment table).
-#[derive(Debug, Drop)]
+#[derive(Drop)]
 pub struct EnvironmentRow {
     pub environment: Text,
     /// Prefixes, then the variable.
@@ -169,7 +169,7 @@ pub struct EnvironmentRow {
 }
 
 /// A row of Shortcut (Shortcut table).
-#[derive(Debug, Drop)]
+#[derive(Drop)]
 pub struct ShortcutRow {
     pub shortcut: Text,
     /// A key of Directory.
@@ -192,14 +192,14 @@ pub struct ShortcutRow {
 }
 
 /// A row of LaunchCondition (LaunchCondition table).
-#[derive(Debug, Drop)]
+#[derive(Drop)]
 pub struct LaunchConditionRow {
     pub condition: Cond,
     pub description: Text,
 }
 
 /// A row of CustomAction (CustomAction table).
-#[derive(Debug, Drop)]
+#[derive(Drop)]
 pub struct CustomActionRow {
     pub action: Text,
     /// The column Type (Summary List of All Custom Action Types).
@@ -210,7 +210,7 @@ pub struct CustomActionRow {
 }
 
 /// A row of InstallExecuteSequence (InstallExecuteSequence table).
-#[derive(Debug, Drop)]
+#[derive(Drop)]
 pub struct InstallExecuteSequenceRow {
     pub action: Text,
     pub condition: Option<Cond>,
@@ -218,7 +218,7 @@ pub struct InstallExecuteSequenceRow {
 }
 
 /// A row of Upgrade (Upgrade table).
-#[derive(Debug, Drop)]
+#[derive(Drop)]
 pub struct UpgradeRow {
     pub upgrade_code: Text,
     pub version_min: Option<Text>,
@@ -230,7 +230,7 @@ pub struct UpgradeRow {
 }
 
 /// A row of _SummaryInformation (Summary Information Stream).
-#[derive(Debug, Drop)]
+#[derive(Drop)]
 pub struct SummaryInformationRow {
     /// 15 is the Word Count.
     pub property_id: i32,
