@@ -1,5 +1,6 @@
 //! The levels of a folder's path.
 
+use crate::found::{is_absent, not_ours};
 use crate::syncing::sync_folder;
 use std::fs::Files;
 use std::io::ErrorKind;
@@ -14,13 +15,18 @@ fn parent_of(folder: &str) -> &str {
     }
 }
 
-// Makes a folder where it isn't there, and syncs the entry that names it.
+// Makes a folder where it isn't there, and syncs the entry that names it. What stands there and is no folder, nor a link
+// to one, is a failure.
 fn make_level<F: Files>(rt: &F, folder: &str) -> io::Result<()> {
-    if fs::exists(rt, folder)? {
-        return Ok(());
+    match fs::metadata(rt, folder) {
+        Ok(found) if found.is_dir() => Ok(()),
+        Ok(_) => Err(not_ours()),
+        Err(error) if is_absent(&error) => {
+            fs::create_dir(rt, folder)?;
+            sync_folder(rt, parent_of(folder))
+        }
+        Err(error) => Err(error),
     }
-    fs::create_dir(rt, folder)?;
-    sync_folder(rt, parent_of(folder))
 }
 
 /// Makes each level of a folder's path that isn't there, and syncs the entry that names it. There is no folder of the
