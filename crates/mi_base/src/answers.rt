@@ -1,6 +1,6 @@
 //! Answers of the top call and their causes, as plain data. All are this project's own.
 
-use mi_text::{IdtFault, Name, Settled, Text};
+use mi_text::{Guid, IdtFault, Name, Settled, Text};
 
 /// What a run answers.
 #[derive(Drop)]
@@ -49,16 +49,26 @@ pub enum Cause {
     VolumeFault,
     /// The first entry of the rollback area that is read and is absent or not spelled.
     BadRollback(Name),
+    /// The first noted name whose former bytes don't fit while settling.
+    RecoveryFull(Name),
     /// The first held name that isn't spelled.
     BadImage(Name),
     /// The source's count of faults rose.
     SourceFault,
     /// The package or its sequence has this fault.
     Table(Fault),
+    /// A removal or a repair names a product that isn't recorded.
+    UnknownProduct(Guid),
+    /// The first LaunchCondition row that is false, with its formatted Description (LaunchConditions action).
+    Launch(Text),
+    /// The walk ends at this action of type 19, with its formatted Target (Custom Action Type 19).
+    ErrorAction(Text, Text),
+    /// The bytes that the run needs, and the bytes that are free, which are fewer.
+    Full(u64, u64),
 }
 
-/// A fault of a package (Database Tables). Rows and columns count from 1, rows in file order.
-#[derive(Debug, Drop)]
+/// A fault of a package (Database Tables). Rows and columns count from 1, rows in file order; sizes are bytes.
+#[derive(Drop)]
 pub enum Fault {
     /// This row of this table is more than what is built so far.
     NotYet(Text, u32),
@@ -82,4 +92,36 @@ pub enum Fault {
     Cycle(Text, u32),
     /// This file is stored compressed.
     Compressed(Text),
+    /// A list of features has this item, which is no feature (ADDLOCAL property).
+    UnknownFeature(Text),
+    /// The property ADDSOURCE isn't empty: nothing is run from its source (ADDSOURCE property).
+    AddSource,
+    /// The value of this property isn't of its form (INSTALLLEVEL and REINSTALLMODE properties).
+    BadProperty(Text),
+    /// The path of this table and row isn't a path, or is past the limits.
+    BadPath(Text, u32),
+    /// The formatted text of this table and row is nested too deep (Formatted data type).
+    TooDeep(Text, u32),
+    /// The key or the name of this table and row isn't one, or is past the limits (Registry table).
+    BadKey(Text, u32),
+    /// The value of this table and row isn't of its form, or is past the limits (Registry table).
+    BadValue(Text, u32),
+    /// The Name or the Value of this row isn't of its form (Environment table).
+    BadEnvironment(u32),
+    /// These two files have one target, the second behind the first (File table).
+    SameTarget(Text, Text),
+    /// The source of this file isn't there (File table).
+    Missing(Text),
+    /// The source of this file has not the size that its row states: the size stated, and the size found.
+    SizeDiffers(Text, u64, u64),
+    /// This action is no standard action and no custom action (Sequence tables).
+    UnknownAction(Text),
+    /// This custom action would run code (CustomAction table).
+    Executable(Text),
+    /// This action stands at a wrong place of its sequence.
+    SequenceOrder(Text),
+    /// The sequence ends behind InstallInitialize without InstallFinalize.
+    NoFinalize,
+    /// This action of type 51 sets what is no property's name (Custom Action Type 51).
+    BadName(Text),
 }

@@ -264,12 +264,18 @@ fn key_of(alloc: Global, name: &[u8], bytes: &[u8]) -> Result<Entry, RecError>
     }
 }
 
-fn value_key(alloc: Global, root: u8, key: &str, shown: &str) -> Result<ValueKey, NoMemory>
-    ensures { IfOk result (λ k. k ≡ record { root = root; key = key.now; shown = shown.now }) }
+// Copies of two texts.
+fn two_copies(alloc: Global, one: &str, other: &str) -> Result<(Text, Text), NoMemory>
+    ensures { IfOk result (λ x. (x.0 ≡ one.now) × (x.1 ≡ other.now)) }
 {
-    let key = Text::copy_of(alloc, key)?;
-    let shown = Text::copy_of(alloc, shown)?;
-    Ok(ValueKey { root, key, shown })
+    let copy = Text::copy_of(alloc, one)?;
+    match Text::copy_of(alloc, other) {
+        Ok(second) => Ok((copy, second)),
+        Err(error) => {
+            drop(copy);
+            Err(error)
+        }
+    }
 }
 
 fn value_in(
@@ -293,8 +299,9 @@ fn value_in(
         drop(value);
         return Err(EXTRA);
     }
-    match value_key(alloc, root - b'0', key_text, shown) {
-        Ok(key) => Ok(Entry::Value(key, value)),
+    let root = root - b'0';
+    match two_copies(alloc, key_text, shown) {
+        Ok((key, shown)) => Ok(Entry::Value(ValueKey { root, key, shown }, value)),
         Err(_) => {
             drop(value);
             Err(RecError::NoMemory)
@@ -441,10 +448,12 @@ fn variable_of(alloc: Global, name: &[u8], bytes: &[u8]) -> Result<Entry, RecErr
             if !rest.is_empty() {
                 return Err(EXTRA);
             }
+            let system = *owner == b'1';
+            let (name, value) = two_copies(alloc, shown, value)?;
             Ok(Entry::Variable(Variable {
-                system: *owner == b'1',
-                name: Text::copy_of(alloc, shown)?,
-                value: Text::copy_of(alloc, value)?,
+                system,
+                name,
+                value,
             }))
         }
     }
@@ -528,8 +537,8 @@ fn system_of(alloc: Global, property: &[u8], bytes: &[u8]) -> Result<Entry, RecE
     if !rest.is_empty() {
         return Err(EXTRA);
     }
-    let property = Text::copy_of(alloc, property)?;
-    Ok(Entry::System(property, Text::copy_of(alloc, text)?))
+    let (property, text) = two_copies(alloc, property, text)?;
+    Ok(Entry::System(property, text))
 }
 
 fn kind_of(alloc: Global, kind: u8, rest: &[u8], bytes: &[u8]) -> Result<Entry, RecError>

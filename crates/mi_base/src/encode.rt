@@ -5,10 +5,11 @@ ghost use Rattle.mi_text.specs.Fold.{folded, IsNameLength};
 ghost use Rattle.mi_text.specs.Guid.{guid_text};
 ghost use Rattle.mi_base.specs.declared.entry.Entry.TheVariants.{File, Shortcut as ShortcutEntry, Product as ProductEntry};
 ghost use Rattle.mi_base.specs.Names.{digit, four_digits, file_name, folder_name, key_name, value_name, shortcut_name, variable_name, client_name, product_name, system_name};
-ghost use Rattle.mi_base.specs.Limits.{fits};
+ghost use Rattle.mi_base.specs.Fields.{string, payload};
+ghost use Rattle.mi_base.specs.Limits.{fits, fits_value, is_short, is_value_name, is_variable_name};
 ghost use Rattle.mi_base.specs.Spelling.{name_of, head_of, head_bytes, shortcut_bytes, product_bytes, record_of};
 
-use crate::entry::{Client, Entry, FileEntry, Product, Shortcut, ValueKey, Variable};
+use crate::entry::{Client, Entry, FileEntry, Product, RegValue, Shortcut, ValueKey, Variable};
 use crate::limits::fits;
 use crate::rec_error::EncError;
 use crate::writing::{
@@ -213,28 +214,47 @@ fn put_product(out: &mut Vec<u8>, product: &Product) -> Result<(), NoMemory>
     put_texts(out, product.features.as_slice())
 }
 
-#[tactic(auto, unfolding(crate::specs::Spelling::record_of, crate::specs::Limits::fits, crate::specs::Limits::is_key, crate::specs::Limits::is_value_name, crate::specs::Limits::is_variable_name), using(crate::proofs::FoldLemmas::folder_short))]
+fn put_file(out: &mut Vec<u8>, file: &FileEntry) -> Result<(), NoMemory>
+    requires { fits (File file.now) ≡ true }
+    ensures { OnOk result (out.new.items ≡ out.old.items ++ head_bytes (head_of file.now) ++ file.now.bytes) }
+{
+    put_head(out, file)?;
+    out.extend_from_slice(file.bytes.as_slice())?;
+    Ok(())
+}
+
+#[tactic(auto, unfolding(crate::specs::Limits::is_value_name))]
+fn put_named_value(out: &mut Vec<u8>, name: &Text, value: &RegValue) -> Result<(), NoMemory>
+    requires name { is_value_name name.now ≡ true }
+    requires value { fits_value value.now ≡ true }
+    ensures { OnOk result (out.new.items ≡ out.old.items ++ string name.now ++ payload value.now) }
+{
+    put_bytes(out, name.as_bytes())?;
+    put_value(out, value)
+}
+
+#[tactic(auto, unfolding(crate::specs::Limits::is_variable_name))]
+fn put_variable(out: &mut Vec<u8>, variable: &Variable) -> Result<(), NoMemory>
+    requires name { is_variable_name variable.now.name ≡ true }
+    requires value { is_short variable.now.value ≡ true }
+    ensures { OnOk result (out.new.items ≡ out.old.items ++ string variable.now.name ++ string variable.now.value) }
+{
+    put_bytes(out, variable.name.as_bytes())?;
+    put_bytes(out, variable.value.as_bytes())
+}
+
+#[tactic(auto, unfolding(crate::specs::Spelling::record_of, crate::specs::Limits::fits, crate::specs::Limits::is_key), using(crate::proofs::FoldLemmas::folder_short))]
 fn put_record(out: &mut Vec<u8>, entry: &Entry) -> Result<(), NoMemory>
     requires { fits entry.now ≡ true }
     ensures { OnOk result (out.new.items ≡ out.old.items ++ record_of entry.now) }
 {
     match entry {
-        Entry::File(file) => {
-            put_head(out, file)?;
-            out.extend_from_slice(file.bytes.as_slice())?;
-            Ok(())
-        }
+        Entry::File(file) => put_file(out, file),
         Entry::Folder(shown) => put_bytes(out, shown.as_str().as_bytes()),
-        Entry::Value(key, value) => {
-            put_bytes(out, key.shown.as_bytes())?;
-            put_value(out, value)
-        }
+        Entry::Value(key, value) => put_named_value(out, &key.shown, value),
         Entry::Key(_, shown) => put_bytes(out, shown.as_bytes()),
         Entry::Shortcut(shortcut) => put_shortcut(out, shortcut),
-        Entry::Variable(variable) => {
-            put_bytes(out, variable.name.as_bytes())?;
-            put_bytes(out, variable.value.as_bytes())
-        }
+        Entry::Variable(variable) => put_variable(out, variable),
         Entry::Client(client) => put_bytes(out, client.key_path.as_bytes()),
         Entry::Product(product) => put_product(out, product),
         Entry::System(_, text) => put_bytes(out, text.as_bytes()),

@@ -30,4 +30,6 @@ pub use mi_text::{
     is_default_dir, is_file_name, is_file_path, is_file_pattern, is_folder_path, is_property_name,
     is_public_name, long_name, short_name, source_part, target_part,
 };
+pub use reading::{u16_at, u32_at, u64_at, version_at};
 pub use rec_error::{EncError, RecError, RecFault};
+pub use writing::{put_u16, put_u32, put_u64, put_version};

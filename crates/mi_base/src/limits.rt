@@ -5,9 +5,10 @@ ghost use Rattle.std.specs.List.{list_all, slice_split};
 ghost use Rattle.std.specs.Option.{option_copied};
 ghost use Rattle.std.specs.Str.{is_utf8};
 ghost use Rattle.mi_text.specs.Path.{is_folder_path};
+ghost use Rattle.mi_base.specs.declared.entry.Entry.TheVariants.{File, Product as ProductEntry, Shortcut as ShortcutEntry};
 ghost use Rattle.mi_base.specs.Limits.{is_folded, has_no_zero, has_whole_parts, is_key, is_value_name, is_variable_name, is_system_name, is_short, are_few, is_above, is_chain, rises, text_below, fits_value, fits};
 
-use crate::entry::{Entry, RegValue};
+use crate::entry::{Entry, FileEntry, Product, RegValue, Shortcut, ValueKey};
 use crate::reading::{folds_to, is_above};
 use mi_text::{PathText, Text, is_property_name};
 use std::str;
@@ -114,7 +115,8 @@ fn numbers_rise(numbers: &[u16]) -> bool
     true
 }
 
-fn is_text_above(last: Option<&Text>, text: &Text) -> bool
+/// Whether a text is above the one before, if there is one.
+pub fn is_text_above(last: Option<&Text>, text: &Text) -> bool
     ensures { result ≡ is_above text_below (option_copied last.entry) text.now }
 {
     match last {
@@ -154,45 +156,63 @@ fn is_inner_folder(path: &PathText) -> bool
     path.is_folder() && path.as_str().len() != 3
 }
 
+#[tactic(auto, unfolding(crate::specs::Limits::fits))]
+fn fits_file(file: &FileEntry) -> bool
+    ensures { result ≡ fits (File file.now) }
+{
+    !file.shown.is_folder()
+        && file.languages.len() < 65536
+        && numbers_rise(file.languages.as_slice())
+        && file.attributes < 8
+}
+
+fn fits_place(key: &ValueKey) -> bool
+    ensures { result ≡ (nat_lt key.now.root 4 && is_key key.now.key && is_folded key.now.key && is_value_name key.now.shown) }
+{
+    key.root < 4
+        && is_key(key.key.as_bytes())
+        && is_folded(key.key.as_bytes())
+        && is_value_name(key.shown.as_bytes())
+}
+
+#[tactic(auto, unfolding(crate::specs::Limits::fits))]
+fn fits_shortcut(shortcut: &Shortcut) -> bool
+    ensures { result ≡ fits (ShortcutEntry shortcut.now) }
+{
+    !shortcut.shown.is_folder()
+        && is_short(shortcut.target.as_bytes())
+        && is_short(shortcut.arguments.as_bytes())
+        && is_short(shortcut.description.as_bytes())
+        && is_short(shortcut.icon.as_bytes())
+        && is_short(shortcut.folder.as_bytes())
+}
+
+#[tactic(auto, unfolding(crate::specs::Limits::fits))]
+fn fits_product(product: &Product) -> bool
+    ensures { result ≡ fits (ProductEntry product.now) }
+{
+    is_short(product.name.as_bytes())
+        && product.features.len() < 65536
+        && are_short(product.features.as_slice())
+        && texts_rise(product.features.as_slice())
+}
+
 /// Whether an entry keeps every limit and rule of its record.
 #[tactic(auto, unfolding(crate::specs::Limits::fits))]
 pub fn fits(entry: &Entry) -> bool
     ensures { result ≡ fits entry.now }
 {
     match entry {
-        Entry::File(file) => {
-            !file.shown.is_folder()
-                && file.languages.len() < 65536
-                && numbers_rise(file.languages.as_slice())
-                && file.attributes < 8
-        }
+        Entry::File(file) => fits_file(file),
         Entry::Folder(shown) => is_inner_folder(shown),
-        Entry::Value(key, value) => {
-            key.root < 4
-                && is_key(key.key.as_bytes())
-                && is_folded(key.key.as_bytes())
-                && is_value_name(key.shown.as_bytes())
-                && fits_value(value)
-        }
+        Entry::Value(key, value) => fits_place(key) && fits_value(value),
         Entry::Key(root, shown) => *root < 4 && is_key(shown.as_bytes()),
-        Entry::Shortcut(shortcut) => {
-            !shortcut.shown.is_folder()
-                && is_short(shortcut.target.as_bytes())
-                && is_short(shortcut.arguments.as_bytes())
-                && is_short(shortcut.description.as_bytes())
-                && is_short(shortcut.icon.as_bytes())
-                && is_short(shortcut.folder.as_bytes())
-        }
+        Entry::Shortcut(shortcut) => fits_shortcut(shortcut),
         Entry::Variable(variable) => {
             is_variable_name(variable.name.as_bytes()) && is_short(variable.value.as_bytes())
         }
         Entry::Client(client) => is_short(client.key_path.as_bytes()),
-        Entry::Product(product) => {
-            is_short(product.name.as_bytes())
-                && product.features.len() < 65536
-                && are_short(product.features.as_slice())
-                && texts_rise(product.features.as_slice())
-        }
+        Entry::Product(product) => fits_product(product),
         Entry::System(property, text) => {
             is_system_name(property.as_str()) && is_short(text.as_bytes())
         }

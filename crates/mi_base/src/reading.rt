@@ -7,17 +7,18 @@ ghost use Rattle.mi_text.specs.Fold.{folded};
 ghost use Rattle.std.specs.Str.{bytes_eq};
 ghost use Rattle.mi_base.specs.Limits.{is_above};
 ghost use Rattle.std.specs.Prelude.{nat_lt};
-ghost use Rattle.mi_base.specs.Reading.{Gives, number_at, bytes_at, text_at, shown_at, items_at, texts_at, text_follows, rising_numbers_at, four_numbers_at, version_at, value_at};
+ghost use Rattle.mi_base.specs.Reading.{Gives, number_at, bytes_at, text_at, shown_at, items_at, texts_at, text_follows, rising_numbers_at, four_numbers_at, version_at, payload_at, value_at};
 
 use crate::collections::{Languages, Texts};
 use crate::entry::RegValue;
+use crate::limits::is_text_above;
 use crate::rec_error::{RecError, RecFault};
 use mi_text::{Bytes, Text, Version};
 use std::alloc::Global;
 use std::str;
 
 /// Which text may follow another.
-#[derive(Clone, Copy, Debug, PartialEq, Eq)]
+#[derive(Clone, Copy)]
 pub enum Order {
     /// Any.
     Any,
@@ -77,6 +78,14 @@ fn slice_at(bytes: &[u8]) -> Result<(&[u8], &[u8]), RecError>
     Ok(rest.split_at(len))
 }
 
+// A length, and as many bytes, which are copied.
+fn bytes_at(alloc: Global, bytes: &[u8]) -> Result<(Bytes, &[u8]), RecError>
+    ensures { Gives (λ x. (x.0, x.1.now)) result (bytes_at bytes.now) }
+{
+    let (items, rest) = slice_at(bytes)?;
+    Ok((Bytes::copy_of(alloc, items)?, rest))
+}
+
 /// A text as it stands in the bytes, and what stands behind it. No memory.
 #[tactic(auto, unfolding(crate::specs::Reading::text_at))]
 pub fn str_at(bytes: &[u8]) -> Result<(&str, &[u8]), RecError>
@@ -129,10 +138,7 @@ fn text_follows(order: Order, last: Option<&Text>, text: &Text) -> bool
 {
     match order {
         Order::Any => true,
-        Order::Rising => match last {
-            None => true,
-            Some(last) => last.cmp(text).is_lt(),
-        },
+        Order::Rising => is_text_above(last, text),
     }
 }
 
@@ -235,6 +241,35 @@ pub fn version_at(bytes: &[u8]) -> Result<(Option<Version>, &[u8]), RecError>
     }
 }
 
+// What a registry value of this kind holds, and what stands behind it.
+fn payload_at(alloc: Global, kind: u8, bytes: &[u8]) -> Result<(RegValue, &[u8]), RecError>
+    ensures { Gives (λ x. (x.0, x.1.now)) result (payload_at kind bytes.now) }
+{
+    match kind {
+        1 => match text_at(alloc, bytes) {
+            Ok((text, rest)) => Ok((RegValue::Text(text), rest)),
+            Err(error) => Err(error),
+        },
+        2 => match text_at(alloc, bytes) {
+            Ok((text, rest)) => Ok((RegValue::Expand(text), rest)),
+            Err(error) => Err(error),
+        },
+        3 => match u32_at(bytes) {
+            Ok((number, rest)) => Ok((RegValue::Int(number), rest)),
+            Err(error) => Err(error),
+        },
+        4 => match bytes_at(alloc, bytes) {
+            Ok((bytes, rest)) => Ok((RegValue::Binary(bytes), rest)),
+            Err(error) => Err(error),
+        },
+        5 => match texts_at(alloc, Order::Any, bytes) {
+            Ok((texts, rest)) => Ok((RegValue::List(texts), rest)),
+            Err(error) => Err(error),
+        },
+        _ => Err(RecError::Fault(RecFault::Field)),
+    }
+}
+
 /// A registry value, and what stands behind it.
 #[tactic(auto, unfolding(crate::specs::Reading::value_at))]
 pub fn value_at(alloc: Global, bytes: &[u8]) -> Result<(RegValue, &[u8]), RecError>
@@ -242,26 +277,6 @@ pub fn value_at(alloc: Global, bytes: &[u8]) -> Result<(RegValue, &[u8]), RecErr
 {
     match bytes {
         [] => Err(RecError::Fault(RecFault::Short)),
-        [1, rest @ ..] => {
-            let (text, rest) = text_at(alloc, rest)?;
-            Ok((RegValue::Text(text), rest))
-        }
-        [2, rest @ ..] => {
-            let (text, rest) = text_at(alloc, rest)?;
-            Ok((RegValue::Expand(text), rest))
-        }
-        [3, rest @ ..] => {
-            let (number, rest) = u32_at(rest)?;
-            Ok((RegValue::Int(number), rest))
-        }
-        [4, rest @ ..] => {
-            let (items, rest) = slice_at(rest)?;
-            Ok((RegValue::Binary(Bytes::copy_of(alloc, items)?), rest))
-        }
-        [5, rest @ ..] => {
-            let (texts, rest) = texts_at(alloc, Order::Any, rest)?;
-            Ok((RegValue::List(texts), rest))
-        }
-        [_, ..] => Err(RecError::Fault(RecFault::Field)),
+        [kind, rest @ ..] => payload_at(alloc, *kind, rest),
     }
 }

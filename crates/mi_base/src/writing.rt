@@ -115,31 +115,43 @@ pub fn put_version(out: &mut Vec<u8>, or_none: &Option<Version>) -> Result<(), N
     }
 }
 
+// The kind of a registry value, and its bytes.
+fn put_kind_and_bytes(out: &mut Vec<u8>, kind: u8, bytes: &[u8]) -> Result<(), NoMemory>
+    requires { is_short bytes.now ≡ true }
+    ensures { OnOk result (out.new.items ≡ out.old.items ++ kind ∷ string bytes.now) }
+{
+    out.push(kind)?;
+    put_bytes(out, bytes)
+}
+
+// The kind of a number, and the number.
+fn put_int(out: &mut Vec<u8>, number: u32) -> Result<(), NoMemory>
+    ensures { OnOk result (out.new.items ≡ out.old.items ++ 3 ∷ to_be_bytes w32 number) }
+{
+    out.push(3)?;
+    put_u32(out, number)
+}
+
+// The kind of a list, and its texts.
+fn put_list(out: &mut Vec<u8>, texts: &[Text]) -> Result<(), NoMemory>
+    requires few { are_few texts.now ≡ true }
+    requires short { list_all is_short texts.now ≡ true }
+    ensures { OnOk result (out.new.items ≡ out.old.items ++ 5 ∷ strings texts.now) }
+{
+    out.push(5)?;
+    put_texts(out, texts)
+}
+
 /// A registry value: its kind, and what it holds.
 pub fn put_value(out: &mut Vec<u8>, value: &RegValue) -> Result<(), NoMemory>
     requires { fits_value value.now ≡ true }
     ensures { OnOk result (out.new.items ≡ out.old.items ++ payload value.now) }
 {
     match value {
-        RegValue::Text(text) => {
-            out.push(1)?;
-            put_bytes(out, text.as_bytes())
-        }
-        RegValue::Expand(text) => {
-            out.push(2)?;
-            put_bytes(out, text.as_bytes())
-        }
-        RegValue::Int(number) => {
-            out.push(3)?;
-            put_u32(out, *number)
-        }
-        RegValue::Binary(bytes) => {
-            out.push(4)?;
-            put_bytes(out, bytes.as_slice())
-        }
-        RegValue::List(texts) => {
-            out.push(5)?;
-            put_texts(out, texts.as_slice())
-        }
+        RegValue::Text(text) => put_kind_and_bytes(out, 1, text.as_bytes()),
+        RegValue::Expand(text) => put_kind_and_bytes(out, 2, text.as_bytes()),
+        RegValue::Int(number) => put_int(out, *number),
+        RegValue::Binary(bytes) => put_kind_and_bytes(out, 4, bytes.as_slice()),
+        RegValue::List(texts) => put_list(out, texts.as_slice()),
     }
 }

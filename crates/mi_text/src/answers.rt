@@ -13,7 +13,7 @@ pub enum Settled {
 
 /// The first fault of a text archive file (Importing and exporting tables; the order is this project's own).
 /// Lines, columns and rows count from 1; rows count from the fourth line on.
-#[derive(Debug, Drop)]
+#[derive(Drop)]
 pub enum IdtFault {
     /// More than 16,777,216 bytes, 65,535 rows or 32 columns.
     TooLarge,

@@ -194,20 +194,43 @@ fn is_path(text: &str) -> bool
     is_folder_path(text) || is_file_path(text)
 }
 
+// These parts behind the drive, each with a backslash behind it.
+fn joined_parts(alloc: Global, parts: &[&str]) -> Result<Text, NoMemory>
+    ensures { IfOk result (λ t. t ≡ path_text (map (λ b. b.now) parts.now)) }
+{
+    let mut path = String::from_str(alloc, "C:\\")?;
+    match push_parts(&mut path, parts) {
+        Ok(()) => Ok(Text::from_string(path)),
+        Err(error) => {
+            drop(path);
+            Err(error)
+        }
+    }
+}
+
+// The canonical text of the folder of these parts.
+fn folder_in(alloc: Global, parts: &[&str]) -> Result<Text, PathError>
+    ensures { PathReads result (folder_in (map (λ b. b.now) parts.now)) }
+{
+    if !all_good(parts) {
+        return Err(PathError::Fault(PathFault::BadPart));
+    }
+    let path = joined_parts(alloc, parts)?;
+    if path.len() > 259 {
+        drop(path);
+        return Err(PathError::Fault(PathFault::Length));
+    }
+    Ok(path)
+}
+
 // The canonical text of the folder whose parts stand behind the drive.
 fn folder_text(alloc: Global, rest: &str) -> Result<Text, PathError>
     ensures { PathReads result (folder_in (slice_split is_backslash rest.now)) }
 {
     let parts = parts_of(alloc, rest)?;
-    if !all_good(&parts) {
-        return Err(PathError::Fault(PathFault::BadPart));
-    }
-    let mut path = String::from_str(alloc, "C:\\")?;
-    push_parts(&mut path, &parts)?;
-    if path.len() > 259 {
-        return Err(PathError::Fault(PathFault::Length));
-    }
-    Ok(Text::from_string(path))
+    let folder = folder_in(alloc, &parts);
+    drop(parts);
+    folder
 }
 
 // The text of the folder that holds a path.

@@ -63,10 +63,18 @@ fn next_number(left: Option<&str>) -> Option<(u16, Option<&str>)>
 fn version_in(text: &str) -> Option<Version>
     ensures { result ≡ version_of text.now }
 {
-    let (major, left) = next_number(Some(text))?;
-    let (minor, left) = next_number(left)?;
-    let (build, left) = next_number(left)?;
-    let (revision, left) = next_number(left)?;
+    let Some((major, left)) = next_number(Some(text)) else {
+        return None;
+    };
+    let Some((minor, left)) = next_number(left) else {
+        return None;
+    };
+    let Some((build, left)) = next_number(left) else {
+        return None;
+    };
+    let Some((revision, left)) = next_number(left) else {
+        return None;
+    };
     match left {
         Some(_) => None,
         None => Some(Version {

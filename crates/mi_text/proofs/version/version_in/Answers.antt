@@ -37,8 +37,8 @@ too_many text a b c d (Some t1) None (Some t3) rest ha hb hc hd = let e : Some t
 too_many text a b c d (Some t1) (Some t2) None rest ha hb hc hd = let e : Some rest ≡ None = hd.1 in cc
 too_many text a b c d (Some t1) (Some t2) (Some t3) rest ha hb hc hd = rw (ha, hb, hc, hd) (five a b c d rest (numbers_of (version_parts rest)) refl)
 
-pub returns-in-Some : goal.returns-in-Some
-returns-in-Some c =
-    too_many c.args.text.now c.in_ok-major.major c.in_ok-minor.minor c.in_ok-build.build c.in_ok-revision.revision (option_copied c.in_ok-major.left) (option_copied c.in_ok-minor.left) (option_copied c.in_ok-build.left) c.in-Some.field-0.now
-    c.in_ok-major.ensures.some c.in_ok-minor.ensures.some c.in_ok-build.ensures.some
-    (subst (λ (r : Option (Bor (List ℕ))). IsNextNumber (option_copied c.in_ok-build.left) c.in_ok-revision.revision (option_copied r)) c.in-Some.is c.in_ok-revision.ensures.some)
+pub returns-in-Some-left : goal.returns-in-Some-left
+returns-in-Some-left c =
+    too_many c.args.text.now c.in-Some.major c.in-Some-next_number.minor c.in-Some-next_number-2.build c.in-Some-next_number-3.revision (option_copied c.in-Some.left) (option_copied c.in-Some-next_number.left) (option_copied c.in-Some-next_number-2.left) c.in-Some-left.field-0.now
+    c.in-Some.ensures.some c.in-Some-next_number.ensures.some c.in-Some-next_number-2.ensures.some
+    (subst (λ (r : Option (Bor (List ℕ))). IsNextNumber (option_copied c.in-Some-next_number-2.left) c.in-Some-next_number-3.revision (option_copied r)) c.in-Some-left.is c.in-Some-next_number-3.ensures.some)
