@@ -1,4 +1,4 @@
--- A bracket closes.
+-- A bracket closes, or the text ends.
 use Rattle.std.proofs.Common.{◌≡◌, List, [], ◌∷◌, ◌++◌, Some, sym, ap, ◌∙◌}
 use Rattle.mi_cond.specs.declared.bracket.Bracket.{Bracket}
 use Rattle.mi_cond.specs.declared.reader.Stage.{Stage}
@@ -8,7 +8,7 @@ use Rattle.mi_cond.specs.declared.token.Token.TheVariants.{Close}
 use Rattle.mi_cond.specs.Tree.{Tree, Alone}
 use Rattle.mi_cond.specs.Lex.{all_ops}
 use Rattle.mi_cond.specs.View.{tree_of}
-use Rattle.mi_cond.specs.Steps.{Frame, Has, negated, whole, closes, settled_of, step}
+use Rattle.mi_cond.specs.Steps.{Frame, Has, negated, whole, closes, settled_of, step, ends, end_of}
 use Rattle.mi_cond.specs.Brackets.{frame_of, frames_of}
 use Rattle.mi_cond.specs.States.{at_stage, state_of}
 use Rattle.mi_cond.proofs.Basics.{none_some}
@@ -19,6 +19,20 @@ closes_stage below top stage.Wants t e = none_some t e
 closes_stage below top (stage.Value v) t e = let same : negated top.nots (Alone v) ≡ t = cc in ap (closes below top.rows) same
 closes_stage below top (stage.Compares l c) t e = none_some t e
 closes_stage below top (stage.Has n) t e = let same : tree_of n ≡ t = cc in ap (closes below top.rows) same
+
+ends_stage : (below : List Frame) (top : Frame) (g : Stage) (t : Tree) → settled_of (at_stage below top g) ≡ Some t → end_of (at_stage below top g) ≡ ends below top.rows t
+ends_stage below top stage.Wants t e = none_some t e
+ends_stage below top (stage.Value v) t e = let same : negated top.nots (Alone v) ≡ t = cc in ap (ends below top.rows) same
+ends_stage below top (stage.Compares l c) t e = none_some t e
+ends_stage below top (stage.Has n) t e = let same : tree_of n ≡ t = cc in ap (ends below top.rows) same
+
+-- all brackets are closed
+pub ending : (old : Reader) (top : Bracket) (t u : Tree) → settled_of (state_of old) ≡ Some t → old.below.items ≡ [] → top ≡ old.top → u ≡ whole all_ops (frame_of top).rows t → end_of (state_of old) ≡ Some u
+ending old top t u settled none is_top is =
+    ends_stage (frames_of old.below.items) (frame_of old.top) old.stage t settled
+    ∙ ap (λ (bs : List Bracket). ends (frames_of bs) (frame_of old.top).rows t) none
+    ∙ ap (λ (b : Bracket). Some (whole all_ops (frame_of b).rows t)) (sym is_top)
+    ∙ ap Some (sym is)
 
 -- the innermost bracket becomes a factor of the next
 pub closing : (old : Reader) (items bs : List Bracket) (outer dest inner : Bracket) (t u : Tree) → settled_of (state_of old) ≡ Some t → items ≡ bs ++ outer ∷ [] → items ≡ old.below.items → dest ≡ outer → inner ≡ old.top

@@ -1,35 +1,27 @@
 -- The functions that read the front of a text find what stands there.
-use Rattle.std.proofs.Common.{◌≡◌, ℕ, zero, suc, ◌+◌, ◌*◌, ◌-◌, ◌<◌, ◌≤◌, leb, eqb, Bool, true, false, cond, not, ◌&&◌, length, take, drop, get_or, List, [], ◌∷◌, ◌++◌, Option, Some, None, Result, Ok, Err, refl, sym, ap, subst, ◌∙◌, append_assoc, arith, inl, inr}
-use Rattle.std.specs.Prelude.{option_and_then, option_map, is_some, nat_lt, IfOk}
+use Rattle.std.proofs.Common.{◌≡◌, ℕ, zero, suc, ◌+◌, ◌*◌, ◌-◌, ◌<◌, ◌≤◌, leb, eqb, Bool, true, false, cond, ◌&&◌, length, take, drop, get_or, List, [], ◌∷◌, Some, None, Result, Ok, Err, refl, sym, ap, subst, ◌∙◌, arith, inl, inr}
+use Rattle.std.specs.Prelude.{nat_lt, IfOk}
 use Rattle.std.proofs.lemmas.Bool.{cases_Bool, cases_eq, eqb-true, le-leb, lt-leb}
 use Rattle.std.proofs.lemmas.Bool.Decides.{nat_tests}
-use Rattle.std.proofs.lemmas.List.{append-nil, drop_more, drop_all, length-drop, length-map, take-map}
+use Rattle.std.proofs.lemmas.List.{drop_more, drop_all, length-drop, length-map, take-map}
 use Rattle.std.specs.Char.{to_ascii_lowercase}
 use Rattle.std.specs.List.{list_all}
 use Rattle.std.specs.Str.{IsAscii, bytes_eq}
 use Rattle.mi_text.specs.Fold.{folded}
 use Rattle.mi_text.specs.declared.text.NoMemory.{NoMemory}
 use Rattle.mi_cond.proofs.Basics.{and_true}
-use Rattle.mi_cond.specs.declared.error.CondFault.{CondFault}
-use Rattle.mi_cond.specs.declared.error.CondFault.TheVariants.{Syntax, TooDeep}
-use Rattle.mi_cond.specs.declared.node.Relation.{Relation}
-use Rattle.mi_cond.specs.declared.node.Relation.TheVariants as relation
-use Rattle.mi_cond.specs.declared.node.Comparison.{Comparison}
 use Rattle.mi_cond.specs.declared.node.Value.TheVariants as value
 use Rattle.mi_cond.specs.declared.token.Mark.{Mark}
 use Rattle.mi_cond.specs.declared.token.Token.{Token}
-use Rattle.mi_cond.specs.declared.token.Token.TheVariants.{Operand, Compare as Compares}
+use Rattle.mi_cond.specs.declared.token.Token.TheVariants.{Operand}
 use Rattle.mi_cond.specs.declared.front.Front.{Front}
 use Rattle.mi_cond.specs.declared.front.Front.TheVariants as front
-use Rattle.mi_cond.specs.Tree.{Tree, Compare}
-use Rattle.mi_cond.proofs.ByteSteps.{pick}
-use Rattle.mi_cond.proofs.Lexis.{BeginSpelt, begin_spelt, begin-blank, begin-letter}
-use Rattle.mi_cond.specs.Integer.{is_digit, signed, is_empty}
+use Rattle.mi_cond.proofs.Lexis.{begin-letter}
+use Rattle.mi_cond.specs.Integer.{is_digit, signed}
 use Rattle.mi_cond.specs.Lex.{is_blank, is_letter, is_name_byte, are_name_bytes, all_ops}
-use Rattle.mi_cond.specs.Steps.{State, Wants, HasValue, WantsRight, Has, negated, depth_at, step, end_of}
-use Rattle.mi_cond.specs.Moves.{Mode, InWord, InSymbol, InLiteral, AfterMinus, InDigits, AfterTilde, InComparison, Move, Grows, Takes, Leaves, Wrong, Place, named, relation_by, relation_with, begins_with, finished, left, compares, begin, move, word, begins_operator, wants_value, has_value, may_stand, within, between, first_at, after, end_in}
-use Rattle.mi_cond.specs.Answer.{ended, shallow, goes_on, read_from}
-use Rattle.mi_cond.specs.Fronts.{front_length, is_plain, read_at, left_at, by_front, IsLong, IsWithin, Follows, IsAt, WantsValue, WantsOperator, ComparesValue, digits_front}
+use Rattle.mi_cond.specs.Steps.{State, Wants, HasValue, WantsRight, Has}
+use Rattle.mi_cond.specs.Moves.{Mode, InWord, InSymbol, InLiteral, InDigits, Move, Grows, Wrong, named, begins_with, begin, word, begins_operator, wants_value, has_value, may_stand, within, first_at}
+use Rattle.mi_cond.specs.Fronts.{front_length, is_plain, Follows, IsAt, WantsValue, WantsOperator, digits_front}
 use Rattle.mi_cond.proofs.FrontLaws.{begins_at, in_mode, literal_dies, literal_is, operator_dies, refused_at, symbol_dies, symbol_is, word_is}
 
 -- ---- loops over bytes

@@ -1,15 +1,10 @@
 -- What stands at the front of a text is what the machine reads there.
-use Rattle.std.proofs.Common.{◌≡◌, ℕ, zero, suc, ◌+◌, ◌*◌, ◌-◌, ◌<◌, ◌≤◌, leb, eqb, Bool, true, false, cond, not, ◌&&◌, length, take, drop, get_or, List, [], ◌∷◌, ◌++◌, Option, Some, None, Result, Ok, Err, refl, sym, ap, subst, ◌∙◌, append_assoc, arith, inl, inr}
-use Rattle.std.specs.Prelude.{option_and_then, option_map, is_some, nat_lt, IfOk}
-use Rattle.std.proofs.lemmas.Bool.{cases_Bool, cases_eq, eqb-true, le-leb, lt-leb}
+use Rattle.std.proofs.Common.{◌≡◌, ℕ, zero, suc, ◌+◌, ◌*◌, ◌-◌, ◌<◌, ◌≤◌, leb, eqb, Bool, true, false, cond, not, length, take, drop, get_or, List, [], ◌∷◌, ◌++◌, Option, Some, None, Result, Err, refl, sym, ap, subst, ◌∙◌, append_assoc, arith, inl, inr}
+use Rattle.std.specs.Prelude.{option_and_then, option_map, is_some, nat_lt}
+use Rattle.std.proofs.lemmas.Bool.{cases_Bool}
 use Rattle.std.proofs.lemmas.Bool.Decides.{nat_tests}
-use Rattle.std.proofs.lemmas.List.{append-nil, drop_more, drop_all, length-drop, length-map, take-map}
-use Rattle.std.specs.Char.{to_ascii_lowercase}
-use Rattle.std.specs.List.{list_all}
-use Rattle.std.specs.Str.{IsAscii, bytes_eq}
+use Rattle.std.proofs.lemmas.List.{append-nil, drop_more, drop_all, length-drop}
 use Rattle.mi_text.specs.Fold.{folded}
-use Rattle.mi_text.specs.declared.text.NoMemory.{NoMemory}
-use Rattle.mi_cond.proofs.Basics.{and_true}
 use Rattle.mi_cond.specs.declared.error.CondFault.{CondFault}
 use Rattle.mi_cond.specs.declared.error.CondFault.TheVariants.{Syntax, TooDeep}
 use Rattle.mi_cond.specs.declared.node.Relation.{Relation}
@@ -23,13 +18,14 @@ use Rattle.mi_cond.specs.declared.front.Front.{Front}
 use Rattle.mi_cond.specs.declared.front.Front.TheVariants as front
 use Rattle.mi_cond.specs.Tree.{Tree, Compare}
 use Rattle.mi_cond.proofs.ByteSteps.{pick}
-use Rattle.mi_cond.proofs.Lexis.{BeginSpelt, begin_spelt, begin-blank, begin-letter}
+use Rattle.mi_cond.proofs.Lexis.{BeginSpelt, begin_spelt, begin-blank}
 use Rattle.mi_cond.specs.Integer.{is_digit, signed, is_empty}
-use Rattle.mi_cond.specs.Lex.{is_blank, is_letter, is_name_byte, are_name_bytes, all_ops}
+use Rattle.mi_cond.specs.Lex.{is_blank, is_name_byte, all_ops}
 use Rattle.mi_cond.specs.Steps.{State, Wants, HasValue, WantsRight, Has, negated, depth_at, step, end_of}
-use Rattle.mi_cond.specs.Moves.{Mode, InWord, InSymbol, InLiteral, AfterMinus, InDigits, AfterTilde, InComparison, Move, Grows, Takes, Leaves, Wrong, Place, named, relation_by, relation_with, begins_with, finished, left, compares, begin, move, word, begins_operator, wants_value, has_value, may_stand, within, between, first_at, after, end_in}
+use Rattle.mi_cond.specs.Moves.{Mode, InWord, InSymbol, InLiteral, AfterMinus, InDigits, AfterTilde, InComparison, Move, Grows, Takes, Leaves, Wrong, Place, named, relation_by, relation_with, finished, left, compares, begin, move, word, begins_operator, wants_value, may_stand, within, between, first_at, after, end_in}
 use Rattle.mi_cond.specs.Answer.{ended, shallow, goes_on, read_from}
-use Rattle.mi_cond.specs.Fronts.{front_length, is_plain, read_at, left_at, by_front, IsLong, IsWithin, Follows, IsAt, WantsValue, WantsOperator, ComparesValue, digits_front}
+use Rattle.mi_cond.specs.Rooms.{deepest}
+use Rattle.mi_cond.specs.Fronts.{front_length, read_at, left_at, by_front, IsLong, IsWithin, Follows, IsAt, WantsValue, WantsOperator, ComparesValue, digits_front}
 
 abbrev pub Answer : Type 0
 Answer = Result Tree CondFault
@@ -624,6 +620,6 @@ blank_is Such (b ∷ bs) some is =
           ∙ shallow_same at s (read_from (at + 1) bs (between s)) (read_at (at + 1) s bs) (λ le. between_reads (at + 1) s bs);
     }
 
-pub bracket_is : (Such : State → Type 0) (rest : List ℕ) (x : Token) → 0 < length rest → begin (get_or rest 0 0) ≡ Takes x → IsAt Such rest (front.Bracket x)
-bracket_is Such [] x some is = absurd (omega arith)
-bracket_is Such (b ∷ bs) x some is = record { within = tt; reads = λ at s such. ap (λ (v : Move). goes_on at (first_at s v) (read_from (at + 1) bs)) is }
+pub bracket_is : (Such : State → Type 0) (rest : List ℕ) (x : Token) → 0 < length rest → begin (get_or rest 0 0) ≡ Takes x → deepest x ≡ 65 → IsAt Such rest (front.Bracket x)
+bracket_is Such [] x some is deep = absurd (omega arith)
+bracket_is Such (b ∷ bs) x some is deep = record { within = deep; reads = λ at s such. ap (λ (v : Move). goes_on at (first_at s v) (read_from (at + 1) bs)) is }

@@ -1,5 +1,6 @@
 pub mod Basics
 pub mod Trees
+pub mod HeightLaws
 pub mod Depths
 pub mod Runs
 pub mod Complete
@@ -21,3 +22,4 @@ pub mod FrontFinds
 pub mod Containing
 pub mod ReadLaws
 pub mod Closing
+pub mod RoomLaws

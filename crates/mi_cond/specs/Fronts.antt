@@ -16,6 +16,7 @@ use Rattle.mi_cond.specs.Integer.{is_digit, signed}
 use Rattle.mi_cond.specs.Lex.{is_blank, is_letter}
 use Rattle.mi_cond.specs.Steps.{State, depth_at, step, end_of}
 use Rattle.mi_cond.specs.Moves.{Mode, InWord, InSymbol, InLiteral, AfterMinus, InDigits, AfterTilde, InComparison, Move, Grows, Wrong, begin, first_at, between, wants_value, has_value}
+use Rattle.mi_cond.specs.Rooms.{deepest}
 use Rattle.mi_cond.specs.Answer.{ended, shallow, goes_on, read_from}
 
 -- no blank and no bracket
@@ -70,6 +71,7 @@ by_front at s rest front.Refused = Err (Syntax at)
 abbrev pub IsWithin : Front → List ℕ → Type 0
 IsWithin (front.Token x n) rest = (0 < n) × (n ≤ length rest)
 IsWithin (front.Dead n) rest = n ≤ length rest
+IsWithin (front.Bracket x) rest = deepest x ≡ 65
 IsWithin f rest = Unit {0}
 
 abbrev pub IsLong : Front → Type 0

@@ -5,11 +5,13 @@ pub mod Grammar
 pub mod Place
 pub mod Value
 pub mod View
+pub mod Height
 pub mod Code
 pub mod Steps
 pub mod Moves
 pub mod Outcome
 pub mod Brackets
+pub mod Rooms
 pub mod States
 pub mod Answer
 pub mod Fronts

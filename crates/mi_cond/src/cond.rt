@@ -1,7 +1,8 @@
 //! A condition that has been read.
 
-ghost use Rattle.std.specs.Prelude.{◌≡◌, ℕ, IfOk, IfErr, MatchResult};
+ghost use Rattle.std.specs.Prelude.{◌≡◌, ◌≤◌, ℕ, IfOk, IfErr, MatchResult};
 ghost use Rattle.mi_cond.specs.View.{tree_of};
+ghost use Rattle.mi_cond.specs.Height.{height, limit};
 ghost use Rattle.mi_cond.specs.Tree.{Tree};
 ghost use Rattle.mi_cond.specs.Grammar.{Reads};
 ghost use Rattle.mi_cond.specs.Place.{IsCause};
@@ -13,10 +14,10 @@ use crate::node::Node;
 use crate::read::read_node;
 use mi_text::Env;
 use std::alloc::Global;
-use std::fmt;
 use std::marker::Model;
 
-/// A condition (Conditional Statement Syntax), seen as its tree.
+/// A condition (Conditional Statement Syntax), seen as its tree. At most `limit` nodes stand in one another, five for each
+/// level of nesting, however long the text was: its value and its drop go from a node to those in it.
 #[derive(Drop)]
 pub struct Cond {
     node: Box<Node>,
@@ -33,6 +34,11 @@ impl Model for Cond {
     ghost use Rattle.mi_cond.specs.View.{tree_of};
 
     ghost view = { λ c. tree_of c.node.value };
+
+    ghost use Rattle.std.specs.Prelude.{◌≤◌};
+    ghost use Rattle.mi_cond.specs.Height.{height, limit};
+
+    ghost invariant = { λ c. height c.node.value ≤ limit };
 }
 
 impl Cond {
@@ -53,6 +59,7 @@ impl Cond {
     }
 
     fn of(alloc: Global, node: Node) -> Result<Cond, CondError>
+        requires { height node ≤ limit }
         ensures { MatchResult result (λ c. c ≡ tree_of node) (λ e. e ≡ CondError.NoMemory) }
     {
         let node = Box::new(alloc, node)?;
@@ -64,11 +71,5 @@ impl Cond {
         ensures { result ≡ value self.now (E.lookups env.now) }
     {
         self.node.value(env)
-    }
-}
-
-impl fmt::Debug for Cond {
-    fn fmt<W: fmt::Write>(&self, f: &mut fmt::Formatter<W>) -> fmt::Result {
-        f.write_str("Cond { .. }")
     }
 }

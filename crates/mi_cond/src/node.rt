@@ -3,7 +3,7 @@
 use mi_text::{Bytes, Sign, Text};
 
 /// An operator between conditions (Conditional Statement Syntax, "Logical Operators").
-#[derive(Clone, Copy, PartialEq, Eq)]
+#[derive(Clone, Copy)]
 pub enum Operator {
     And,
     Or,
@@ -37,7 +37,7 @@ pub enum Relation {
 }
 
 /// An operator of comparison: what it asks, and whether it has `~` in front, which folds case.
-#[derive(Clone, Copy, PartialEq, Eq)]
+#[derive(Clone, Copy)]
 pub struct Comparison {
     pub relation: Relation,
     pub folds: bool,
@@ -57,8 +57,8 @@ pub enum Value {
     Integer(i32),
 }
 
-/// A condition. The operands of a row of equal operators stand in one list, so that the tree is no
-/// deeper than brackets and NOT nest.
+/// A condition. The operands of a row of equal operators stand in one list, so that it is as high as brackets and NOT
+/// nest, and not as its text is long.
 #[derive(Drop)]
 pub enum Node {
     Alone(Value),

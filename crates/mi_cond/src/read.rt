@@ -1,9 +1,11 @@
 //! Reading the text of a condition.
 
-ghost use Rattle.std.specs.Prelude.{◌≡◌, ◌+◌, ◌^◌, ◌<◌, ◌≤◌, [], length, nat_lt, if◌then◌else◌};
+ghost use Rattle.std.specs.Prelude.{◌≡◌, ◌+◌, ◌^◌, ◌<◌, ◌≤◌, [], length, nat_lt, if◌then◌else◌, IfOk};
 ghost use Rattle.mi_cond.specs.Steps.{Wants, fresh, depth_at};
 ghost use Rattle.mi_cond.specs.States.{state_of};
 ghost use Rattle.mi_cond.specs.Fronts.{ReadsOn, TokenRead, BracketRead};
+ghost use Rattle.mi_cond.specs.Height.{height, limit};
+ghost use Rattle.mi_cond.specs.Rooms.{deepest};
 ghost use Rattle.mi_cond.specs.Texts.{AnswersNode};
 
 use crate::error::{CondError, CondFault, TokenError};
@@ -34,7 +36,7 @@ fn read_token(reader: &mut Reader, token: Token, at: usize, n: usize) -> Result<
 // Reads on behind a bracket.
 fn read_bracket(reader: &mut Reader, bracket: Token, at: usize) -> Result<usize, CondError>
     requires fits { at + 1 < 2 ^ 64 }
-    requires deep { depth_at (state_of reader.old) ≤ 65 }
+    requires deep { depth_at (state_of reader.old) ≤ deepest bracket }
     ensures { BracketRead at (state_of reader.old) bracket (state_of reader.new) result }
 {
     match reader.step(bracket) {
@@ -93,7 +95,8 @@ fn read_front(reader: &mut Reader, text: &[u8], at: usize) -> Result<usize, Cond
 
 fn read_all(reader: &mut Reader, text: &[u8]) -> Result<Node, CondError>
     requires { state_of reader.old ≡ Wants [] fresh }
-    ensures { AnswersNode result text.now }
+    ensures answer { AnswersNode result text.now }
+    ensures low { IfOk result (λ n. height n ≤ limit) }
 {
     let mut at = 0;
     while at < text.len() {
@@ -111,7 +114,8 @@ fn read_all(reader: &mut Reader, text: &[u8]) -> Result<Node, CondError>
 
 /// The node of a condition.
 pub fn read_node(alloc: Global, text: &[u8]) -> Result<Node, CondError>
-    ensures { AnswersNode result text.now }
+    ensures answer { AnswersNode result text.now }
+    ensures low { IfOk result (λ n. height n ≤ limit) }
 {
     let mut reader = Reader::new(alloc);
     let answer = read_all(&mut reader, text);

@@ -1,12 +1,14 @@
 //! Reading a condition token by token.
 
-ghost use Rattle.std.specs.Prelude.{◌≡◌, ◌≤◌, [], Some};
+ghost use Rattle.std.specs.Prelude.{◌≡◌, ◌≤◌, ◌+◌, ◌*◌, [], Some, IfOk};
 ghost use Rattle.mi_cond.specs.Lex.{is_good};
 ghost use Rattle.mi_cond.specs.Steps.{fresh, Wants, settled_of, step, end_of, depth_at};
 ghost use Rattle.mi_cond.specs.Moves.{wants_value, has_value};
 ghost use Rattle.mi_cond.specs.Outcome.{Steps, StepsTo};
 ghost use Rattle.mi_cond.specs.Brackets.{depth_of};
 ghost use Rattle.mi_cond.specs.View.{tree_of};
+ghost use Rattle.mi_cond.specs.Height.{height, limit};
+ghost use Rattle.mi_cond.specs.Rooms.{IsLow, IsLow-prop, AreLow, AreLow-prop, room, taken, deepest};
 ghost use Rattle.mi_cond.specs.declared.token.Token.TheVariants.{Open, Close, Negate, Join, Compare, Operand};
 
 use crate::bracket::{Bracket, negated};
@@ -39,6 +41,9 @@ pub struct Reader {
     depth: u32,
     stage: Stage,
     ghost counted: { depth ≡ depth_of below.items },
+    ghost below_low: { AreLow 0 below.items } by { AreLow-prop 0 below.items },
+    ghost top_low: { IsLow (room depth) top } by { IsLow-prop (room depth) top },
+    ghost stage_low: { taken depth top.nots stage ≤ 321 },
 }
 
 // Keywords aren't names. The bounds of integers were asked for digit by digit.
@@ -107,19 +112,21 @@ impl Reader {
     // What stands in the innermost bracket; a factor is wanted then.
     fn take(&mut self) -> Stage
         ensures stage { result ≡ self.old.stage }
-        ensures after { self.new ≡ record self.old { stage = Stage.Wants } }
+        ensures after { (h : _) × (self.new ≡ record self.old { stage = Stage.Wants; stage_low = h }) }
     {
         mem::replace(&mut self.stage, Stage::Wants)
     }
 
     fn put(&mut self, stage: Stage)
-        ensures { self.new ≡ record self.old { stage = stage } }
+        requires { taken self.old.depth self.old.top.nots stage ≤ 321 }
+        ensures { (h : _) × (self.new ≡ record self.old { stage = stage; stage_low = h }) }
     {
-        self.stage = stage;
+        drop(mem::replace(&mut self.stage, stage));
     }
 
     // A factor, behind the NOT that wait for it.
     fn factor(&mut self, node: Node) -> Result<(), TokenError>
+        requires { height node + 5 * (self.old.depth + self.old.top.nots) ≤ 321 }
         ensures { StepsTo result (Some (with_factor self.old (tree_of node))) (state_of self.new) }
     {
         let factor = negated(self.alloc, self.top.nots, node)?;
@@ -128,23 +135,30 @@ impl Reader {
     }
 
     // The factor that has been read. None is left here then.
-    #[tactic(auto, using(crate::proofs::Trees::rows))]
+    #[tactic(auto, using(crate::proofs::Trees::rows, crate::proofs::HeightLaws::low_nodes))]
     fn settled(&mut self) -> Result<Node, TokenError>
         ensures gives { Steps tree_of result (settled_of (state_of self.old)) }
-        ensures after { self.new ≡ record self.old { stage = Stage.Wants } }
+        ensures after { (h : _) × (self.new ≡ record self.old { stage = Stage.Wants; stage_low = h }) }
+        ensures low { IfOk result (λ n. height n + 5 * self.old.depth ≤ 321) }
     {
         match self.take() {
             Stage::Value(value) => Ok(negated(self.alloc, self.top.nots, Node::Alone(value))?),
             Stage::Has(node) => Ok(node),
-            Stage::Wants | Stage::Compares(_, _) => Err(TokenError::Syntax),
+            Stage::Wants => Err(TokenError::Syntax),
+            Stage::Compares(left, _) => {
+                drop(left);
+                Err(TokenError::Syntax)
+            }
         }
     }
 
-    #[tactic(auto, using(crate::proofs::Trees::rows))]
+    #[tactic(auto, using(crate::proofs::Trees::rows, crate::proofs::HeightLaws::low_nodes))]
     fn value(&mut self, value: Value) -> Result<(), TokenError>
+        requires { depth_at (state_of self.old) ≤ 64 }
         ensures { StepsTo result (step (state_of self.old) (Operand value)) (state_of self.new) }
     {
         if !is_good(&value) {
+            drop(value);
             return Err(TokenError::Syntax);
         }
         match self.take() {
@@ -155,7 +169,16 @@ impl Reader {
             Stage::Compares(left, comparison) => {
                 self.factor(Node::Compare(comparison, left, value))
             }
-            Stage::Value(_) | Stage::Has(_) => Err(TokenError::Syntax),
+            Stage::Value(left) => {
+                drop(left);
+                drop(value);
+                Err(TokenError::Syntax)
+            }
+            Stage::Has(node) => {
+                drop(node);
+                drop(value);
+                Err(TokenError::Syntax)
+            }
         }
     }
 
@@ -167,7 +190,15 @@ impl Reader {
                 self.put(Stage::Compares(left, comparison));
                 Ok(())
             }
-            Stage::Wants | Stage::Compares(_, _) | Stage::Has(_) => Err(TokenError::Syntax),
+            Stage::Wants => Err(TokenError::Syntax),
+            Stage::Compares(left, _) => {
+                drop(left);
+                Err(TokenError::Syntax)
+            }
+            Stage::Has(node) => {
+                drop(node);
+                Err(TokenError::Syntax)
+            }
         }
     }
 
@@ -184,6 +215,7 @@ impl Reader {
     {
         let last = self.settled()?;
         let Some(outer) = self.below.pop() else {
+            drop(last);
             return Err(TokenError::Syntax);
         };
         self.depth = self.depth - outer.nots - 1;
@@ -220,7 +252,7 @@ impl Reader {
 
     /// Reads a token.
     pub fn step(&mut self, token: Token) -> Result<(), TokenError>
-        requires { depth_at (state_of self.old) ≤ 65 }
+        requires { depth_at (state_of self.old) ≤ deepest token }
         ensures { StepsTo result (step (state_of self.old) token) (state_of self.new) }
     {
         match token {
@@ -235,10 +267,12 @@ impl Reader {
 
     /// The condition, where the text ends.
     pub fn end(&mut self) -> Result<Node, TokenError>
-        ensures { Steps tree_of result (end_of (state_of self.old)) }
+        ensures tree { Steps tree_of result (end_of (state_of self.old)) }
+        ensures low { IfOk result (λ n. height n ≤ limit) }
     {
         let last = self.settled()?;
         if !self.below.is_empty() {
+            drop(last);
             return Err(TokenError::Syntax);
         }
         let top = mem::replace(&mut self.top, Bracket::new(self.alloc));

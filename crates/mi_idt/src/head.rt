@@ -16,7 +16,7 @@ use mi_text::{IdtFault, Text};
 use std::alloc::Global;
 
 /// What line 3 says.
-#[derive(Debug, Drop)]
+#[derive(Drop)]
 pub struct Head<'a> {
     pub page: Option<u32>,
     pub name: &'a str,

@@ -9,7 +9,7 @@ use std::alloc::{AllocError, AllocFailed, Global};
 
 /// A column: its name, and the letter and the width of its definition (Column Definition Format).
 /// The letter is one of `s`, `l`, `i`, `v`, in upper case where the column allows null.
-#[derive(Clone, Copy, Debug)]
+#[derive(Clone, Copy)]
 pub struct Column<'a> {
     pub name: &'a str,
     pub letter: u8,
@@ -17,13 +17,13 @@ pub struct Column<'a> {
 }
 
 /// The fields of a row, slices of the bytes that are still escaped.
-#[derive(Debug, Drop)]
+#[derive(Drop)]
 pub struct Row<'a> {
     pub fields: Vec<&'a [u8]>,
 }
 
 /// A table; `page` is its code page, and `keys` are the places of the key columns, from 0.
-#[derive(Debug, Drop)]
+#[derive(Drop)]
 pub struct Table<'a> {
     pub name: &'a str,
     pub page: Option<u32>,
@@ -33,7 +33,7 @@ pub struct Table<'a> {
 }
 
 /// Why a text archive file isn't read.
-#[derive(Debug, Drop)]
+#[derive(Drop)]
 pub enum IdtError {
     /// Memory ran out.
     NoMemory,

@@ -1,6 +1,6 @@
 -- A sink in memory.
 use Rattle.std.specs.Prelude.{ℕ, ◌+◌, Bool, ◌||◌, List, length, nat_lt}
-use Rattle.mi_source.specs.Memory.{is_listed}
+use Rattle.mi_source.specs.Memory.{fails_now}
 use Rattle.mi_source.specs.declared.meter.Meter.{Meter}
 use Rattle.mi_source.specs.declared.mem_sink.MemSink.{MemSink}
 
@@ -22,4 +22,4 @@ faults_of s = s.meter.faults
 
 -- whether a write of so many bytes fails: its number is listed, or the room would be passed
 abbrev pub refuses : MemSink → ℕ → Bool
-refuses s n = is_listed s.meter.fails.items s.meter.number || nat_lt s.room (length s.bytes.items + n)
+refuses s n = fails_now s.meter || nat_lt s.room (length s.bytes.items + n)

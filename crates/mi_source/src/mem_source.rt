@@ -1,16 +1,17 @@
 //! A source in memory.
 
-ghost use Rattle.std.specs.Prelude.{◌≡◌, ◌||◌, false, [], IfOk, OnOk, OnErr, IsErrOf, IsErr, length, take, drop};
+ghost use Rattle.std.specs.Prelude.{◌≡◌, ◌≤◌, ◌↔◌, IsTrue, IfOk, OnOk, OnErr, IsErrOf, length, take, drop};
+ghost use Rattle.std.specs.Result.{is_err};
 ghost use Rattle.std.specs.Option.{option_copied, option_map};
 ghost use Rattle.std.specs.FinMap.{empty, get, insert, keys};
 ghost use Rattle.mi_source.specs.Paths.{bytes_or_none, name_in, names_in};
 ghost use Rattle.mi_source.specs.Counts.{Rose};
-ghost use Rattle.mi_source.specs.Memory.{files_of, is_listed, one_more};
+ghost use Rattle.mi_source.specs.Memory.{files_of, fails_now, called};
 ghost use Rattle.mi_source.specs.MemSource.{files_in, meter_of, faults_of};
 
 use crate::fault::{Failed, SrcFault};
 use crate::meter::Meter;
-use crate::source::Source;
+use crate::source::{PIECE, Source};
 use mi_text::{Bytes, NoMemory, Text};
 use std::alloc::Global;
 use std::collections::BTreeMap;
@@ -23,7 +24,7 @@ pub struct MemSource {
 }
 
 impl MemSource {
-    /// A source without files. The calls of these numbers, counted from 0, fail.
+    /// A source without files. Its calls, `add` aside, are numbered from 0, and those of these numbers fail.
     pub fn new(alloc: Global, fails: Vec<u64>) -> Result<MemSource, NoMemory>
         ensures files { IfOk result (λ s. files_in s ≡ empty) }
         ensures meter { IfOk result (λ s. meter_of s ≡ record { fails = fails; number = 0; faults = 0 }) }
@@ -90,7 +91,15 @@ impl Source for MemSource {
 
     ghost faults = { faults_of };
 
-    fn names(&mut self, alloc: Global, folder: &str) -> Result<Vec<Text>, SrcFault> {
+    /// The names of the files directly in the folder. It fails exactly where its number is listed.
+    fn names(&mut self, alloc: Global, folder: &str) -> Result<Vec<Text>, SrcFault>
+        ensures value { IfOk result (λ names. names.items ≡ names_in (files_in self.old) folder.now) }
+        ensures fails { IsErrOf result SrcFault.Failed ↔ IsTrue (fails_now (meter_of self.old)) }
+        ensures stays { files_in self.new ≡ files_in self.old }
+        ensures meter { meter_of self.new ≡ called (fails_now (meter_of self.old)) (meter_of self.old) }
+        ensures counts { faults_of self.old ≤ faults_of self.new }
+        ensures failed { IsErrOf result SrcFault.Failed → Rose (faults_of self.old) (faults_of self.new) }
+    {
         if self.meter.fails_now(false) {
             return Err(SrcFault::Failed);
         }
@@ -98,7 +107,15 @@ impl Source for MemSource {
         Ok(names)
     }
 
-    fn size(&mut self, path: &str) -> Result<Option<u64>, Failed> {
+    /// The length of the file's bytes. It fails exactly where its number is listed.
+    fn size(&mut self, path: &str) -> Result<Option<u64>, Failed>
+        ensures value { IfOk result (λ n. n ≡ option_map length (get (files_in self.old) path.now)) }
+        ensures fails { is_err result ≡ fails_now (meter_of self.old) }
+        ensures stays { files_in self.new ≡ files_in self.old }
+        ensures meter { meter_of self.new ≡ called (fails_now (meter_of self.old)) (meter_of self.old) }
+        ensures counts { faults_of self.old ≤ faults_of self.new }
+        ensures failed { OnErr result (Rose (faults_of self.old) (faults_of self.new)) }
+    {
         if self.meter.fails_now(false) {
             return Err(Failed);
         }
@@ -108,7 +125,17 @@ impl Source for MemSource {
         }
     }
 
-    fn read(&mut self, alloc: Global, path: &str, at: u64, want: usize) -> Result<Bytes, SrcFault> {
+    /// The file's bytes from `at`, at most `want`. It fails exactly where its number is listed.
+    fn read(&mut self, alloc: Global, path: &str, at: u64, want: usize) -> Result<Bytes, SrcFault>
+        requires { want ≤ PIECE }
+        ensures value { IfOk result (λ bytes. bytes ≡ take want (drop at (bytes_or_none (get (files_in self.old) path.now)))) }
+        ensures short { IfOk result (λ bytes. length bytes ≤ want) }
+        ensures fails { IsErrOf result SrcFault.Failed ↔ IsTrue (fails_now (meter_of self.old)) }
+        ensures stays { files_in self.new ≡ files_in self.old }
+        ensures meter { meter_of self.new ≡ called (fails_now (meter_of self.old)) (meter_of self.old) }
+        ensures counts { faults_of self.old ≤ faults_of self.new }
+        ensures failed { IsErrOf result SrcFault.Failed → Rose (faults_of self.old) (faults_of self.new) }
+    {
         if self.meter.fails_now(false) {
             return Err(SrcFault::Failed);
         }

@@ -1,9 +1,9 @@
 //! Which calls fail, and how many have failed.
 
-ghost use Rattle.std.specs.Prelude.{◌≡◌, ◌≤◌, ◌||◌, if◌then◌else◌};
+ghost use Rattle.std.specs.Prelude.{◌≡◌, ◌≤◌, ◌||◌};
 ghost use Rattle.std.specs.Bool.{OnTrue};
 ghost use Rattle.mi_source.specs.Counts.{Rose};
-ghost use Rattle.mi_source.specs.Memory.{is_listed, one_more};
+ghost use Rattle.mi_source.specs.Memory.{fails_now, called};
 
 /// Calls are numbered from 0.
 #[derive(Drop)]
@@ -29,8 +29,8 @@ impl Meter {
 
     /// Numbers a call, and tells whether it fails: where its number is listed, or for a cause of its own.
     pub fn fails_now(&mut self, cause: bool) -> bool
-        ensures value { result ≡ (is_listed self.old.fails.items self.old.number || cause) }
-        ensures next { self.new ≡ record { fails = self.old.fails; number = one_more self.old.number; faults = (if result then one_more self.old.faults else self.old.faults) } }
+        ensures value { result ≡ (fails_now self.old || cause) }
+        ensures next { self.new ≡ called result self.old }
         ensures counts { self.old.faults ≤ self.new.faults }
         ensures failed { OnTrue result (Rose self.old.faults self.new.faults) }
     {

@@ -1,4 +1,4 @@
-use Rattle.std.proofs.Common.{◌∙◌, sym, ap, get_or}
+use Rattle.std.proofs.Common.{◌∙◌, refl, sym, ap, get_or}
 use Rattle.mi_cond.specs.declared.token.Token.TheVariants.{Open, Close}
 use Rattle.mi_cond.specs.Moves.{begin}
 use Rattle.mi_cond.specs.Fronts.{WantsValue, BehindValue, Stands}
@@ -10,10 +10,10 @@ pub returns-then-is_blank : goal.returns-then-is_blank
 returns-then-is_blank c = blank_is (Stands c.args.wants c.args.has) c.args.rest.now c.requires (sym c.is_blank.ensures ∙ c.if-is_blank.true)
 
 pub returns-then-byte-eq40 : goal.returns-then-byte-eq40
-returns-then-byte-eq40 c = bracket_is (Stands c.args.wants c.args.has) c.args.rest.now Open c.requires (ap begin c.if-byte-eq40.true)
+returns-then-byte-eq40 c = bracket_is (Stands c.args.wants c.args.has) c.args.rest.now Open c.requires (ap begin c.if-byte-eq40.true) refl
 
 pub returns-then-byte-eq41 : goal.returns-then-byte-eq41
-returns-then-byte-eq41 c = bracket_is (Stands c.args.wants c.args.has) c.args.rest.now Close c.requires (ap begin c.if-byte-eq41.true)
+returns-then-byte-eq41 c = bracket_is (Stands c.args.wants c.args.has) c.args.rest.now Close c.requires (ap begin c.if-byte-eq41.true) refl
 
 pub value_at-requires-clause-plain : goal.value_at-requires-clause-plain
 value_at-requires-clause-plain c = plain_is (get_or c.args.rest.now 0 0) (sym c.is_blank.ensures ∙ c.if-is_blank.false) c.if-byte-eq40.false c.if-byte-eq41.false

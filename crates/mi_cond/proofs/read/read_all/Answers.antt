@@ -10,13 +10,13 @@ loop-at-init c = reads_first c.args.text.now (state_of c.args.reader.now) c.requ
 pub loop-at-preserved : goal.loop-at-preserved
 loop-at-preserved c = reads_on c.args.text.now c.loop-at.at c.in-Ok.next (state_of c.loop-at.reader) (state_of c.read_front.new.reader) c.loop-at.invariant c.in-Ok.ensures
 
-pub returns-in-Err : goal.returns-in-Err
-returns-in-Err c = fault_read c.args.text.now c.loop-at.at (state_of c.loop-at.reader) (state_of c.read_front.new.reader) c.in-Err.error c.loop-at.invariant c.in-Err.ensures
+pub returns-in-Err-clause-answer : goal.returns-in-Err-clause-answer
+returns-in-Err-clause-answer c = fault_read c.args.text.now c.loop-at.at (state_of c.loop-at.reader) (state_of c.read_front.new.reader) c.in-Err.error c.loop-at.invariant c.in-Err.ensures
 
-pub returns-in-Ok-end : goal.returns-in-Ok-end
-returns-in-Ok-end c = ended_read c.args.text.now c.loop-at.at (state_of c.loop-at.reader) (tree_of c.in-Ok-end.node) (omega arith) c.loop-at.invariant c.in-Ok-end.ensures
+pub returns-in-Ok-end-clause-answer : goal.returns-in-Ok-end-clause-answer
+returns-in-Ok-end-clause-answer c = ended_read c.args.text.now c.loop-at.at (state_of c.loop-at.reader) (tree_of c.in-Ok-end.node) (omega arith) c.loop-at.invariant c.in-Ok-end.ensures.tree
 
-pub returns-in-Err-Syntax : goal.returns-in-Err-Syntax
-returns-in-Err-Syntax c =
-    let none = rw c.in-Err-Syntax.field-0-is at c.in-Err-Syntax.ensures in
+pub returns-in-Err-Syntax-clause-answer : goal.returns-in-Err-Syntax-clause-answer
+returns-in-Err-Syntax-clause-answer c =
+    let none = rw c.in-Err-Syntax.field-0-is at c.in-Err-Syntax.ensures.tree in
     ended_wrong c.args.text.now c.loop-at.at (state_of c.loop-at.reader) (omega arith) c.loop-at.invariant none

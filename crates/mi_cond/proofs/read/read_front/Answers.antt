@@ -1,4 +1,4 @@
-use Rattle.std.proofs.Common.{◌-◌, ℕ, List, take, drop, length}
+use Rattle.std.proofs.Common.{◌-◌, ℕ, List, take, drop, length, arith}
 use Rattle.std.proofs.lemmas.List.{take_rest}
 use Rattle.mi_cond.specs.declared.front.Front.TheVariants as front
 use Rattle.mi_cond.specs.States.{state_of}
@@ -13,6 +13,12 @@ returns-in-Blank c =
     let rest : List ℕ = take (length text - at) (drop at text) in
     let is = front_here c.wants_value-wants.result c.has_value-has.result rest s c.in_ok-found.found (front.Blank) c.wants_value-wants.ensures c.has_value-has.ensures c.in-Blank.is c.in_ok-found.ensures in
     blank_on text rest at s c.read_blank.result c.requires.within (take_rest text at) is c.read_blank.ensures
+
+pub read_bracket-requires-clause-deep : goal.read_bracket-requires-clause-deep
+read_bracket-requires-clause-deep c =
+    let rest : List ℕ = take (length c.args.text.now - c.args.at) (drop c.args.at c.args.text.now) in
+    let is = front_here c.wants_value-wants.result c.has_value-has.result rest (state_of c.args.reader.now) c.in_ok-found.found (front.Bracket c.in-Bracket.bracket) c.wants_value-wants.ensures c.has_value-has.ensures c.in-Bracket.is c.in_ok-found.ensures in
+    omega (arith, is.within, c.requires.deep)
 
 pub returns-in-Bracket : goal.returns-in-Bracket
 returns-in-Bracket c =
