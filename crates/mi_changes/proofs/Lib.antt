@@ -1,0 +1,2 @@
+pub mod TouchLemmas
+pub mod ChangeLemmas

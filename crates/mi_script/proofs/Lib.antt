@@ -1,0 +1,3 @@
+pub mod TouchedLemmas
+pub mod AgainLemmas
+pub mod SpellLemmas
