@@ -3,7 +3,9 @@ pub mod ItemLemmas
 pub mod ListLemmas
 pub mod LookLemmas
 pub mod LookupLemmas
+pub mod OverlayLemmas
 pub mod PickLemmas
+pub mod PlaceLemmas
 pub mod PrefixLemmas
 pub mod RankLemmas
 pub mod ReadLemmas

@@ -85,7 +85,7 @@ where_begins true o u same either = same
 where_begins false o u same (inl none) = sym none ∙ same
 where_begins false o u same (inr here) = absurd cc
 
-no_other : {Y : Type 0} → (b : Bool) → cond {A = Option Y} b None None ≡ None
+pub no_other : {Y : Type 0} → (b : Bool) → cond {A = Option Y} b None None ≡ None
 no_other true = refl
 no_other false = refl
 

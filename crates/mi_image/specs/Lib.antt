@@ -4,5 +4,6 @@ pub mod Items
 pub mod Lists
 pub mod Lookups
 pub mod Looks
+pub mod Overlays
 pub mod Picks
 pub mod Scan

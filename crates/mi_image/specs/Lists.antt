@@ -56,3 +56,19 @@ value_below root key e = value_in_keys root (folded key) (folded key ++ 92 ∷ [
 -- where the values of a key and of the keys below it stand (Registry table)
 unfoldable pub values_under : Machine → ℕ → List ℕ → List ValueKey
 values_under m root key = picked (value_below root key) m
+
+abbrev pub folder_below : List ℕ → Entry → Option (List ℕ)
+folder_below folder (entry.Folder shown) = if is_below folder shown then Some shown else None
+folder_below folder other = None
+
+-- the shown paths of the recorded folders below a folder, and of the folder itself (CreateFolder table)
+unfoldable pub folders_under : Machine → List ℕ → List (List ℕ)
+folders_under m folder = picked (folder_below folder) m
+
+abbrev pub shortcut_below : List ℕ → Entry → Option (List ℕ)
+shortcut_below folder (entry.Shortcut s) = if is_below folder s.shown then Some s.shown else None
+shortcut_below folder other = None
+
+-- the shown paths of the shortcuts below a folder (Shortcut table)
+unfoldable pub shortcuts_under : Machine → List ℕ → List (List ℕ)
+shortcuts_under m folder = picked (shortcut_below folder) m

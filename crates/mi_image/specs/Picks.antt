@@ -1,9 +1,10 @@
 -- What the lists pick of an item.
-use Rattle.std.specs.Prelude.{ℕ, List, Option, Some, None}
+use Rattle.std.specs.Prelude.{ℕ, List, Option, Some, None, option_map}
 use Rattle.mi_base.specs.declared.entry.Client.{Client}
 use Rattle.mi_base.specs.declared.entry.Product.{Product}
+use Rattle.mi_base.specs.declared.entry.Shortcut.{Shortcut}
 use Rattle.mi_base.specs.declared.entry.ValueKey.{ValueKey}
-use Rattle.mi_base.specs.Machine.{as_client, as_product}
+use Rattle.mi_base.specs.Machine.{as_client, as_folder, as_product, as_shortcut}
 use Rattle.mi_image.specs.declared.item.Item.{Item}
 use Rattle.mi_image.specs.declared.item.Item.TheVariants.{Head, Whole}
 use Rattle.mi_image.specs.Lists.{with_component, value_in_keys}
@@ -26,3 +27,11 @@ file_in (Whole e) = None
 abbrev pub value_in : ℕ → List ℕ → List ℕ → Item → Option ValueKey
 value_in root key front (Head h content) = None
 value_in root key front (Whole e) = value_in_keys root key front e
+
+-- the shown path of a folder
+abbrev pub folder_in : Item → Option (List ℕ)
+folder_in i = as_folder (whole_of (Some i))
+
+-- the shown path of a shortcut
+abbrev pub shortcut_in : Item → Option (List ℕ)
+shortcut_in i = option_map (λ (s : Shortcut). s.shown) (as_shortcut (whole_of (Some i)))

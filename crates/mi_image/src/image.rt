@@ -95,8 +95,35 @@ impl Image {
         ensures ok { OnOk result (self.new ≡ tree.insert self.old key.items item) }
         ensures err { OnErr result (self.new ≡ self.old) }
     {
-        let former = self.items.insert(key, item)?;
+        let former = self.exchange(key, item)?;
         drop(former);
         Ok(())
+    }
+
+    /// Sets what stands at a name, and hands out what stood there.
+    pub(crate) fn exchange(&mut self, key: Vec<u8>, item: Item) -> Result<Option<Item>, NoMemory>
+        requires { MayStand key.items item }
+        ensures value { IfOk result (λ was. was ≡ tree.get self.old key.items) }
+        ensures ok { OnOk result (self.new ≡ tree.insert self.old key.items item) }
+        ensures err { OnErr result (self.new ≡ self.old) }
+    {
+        let was = self.items.insert(key, item)?;
+        Ok(was)
+    }
+
+    /// Takes away what stands at a name, and hands it out. No memory.
+    pub(crate) fn take(&mut self, name: &[u8]) -> Option<Item>
+        ensures value { result ≡ tree.get self.old name.now }
+        ensures gone { self.new ≡ tree.remove self.old name.now }
+    {
+        self.items.remove(name)
+    }
+
+    /// What stands at a name of the volume (this project's own). No memory.
+    pub fn get(&self, name: &[u8]) -> Option<&Item>
+        ensures value { option_copied result ≡ tree.get self.now name.now }
+        ensures right { AreRight self.now }
+    {
+        self.items.get(name)
     }
 }

@@ -4,12 +4,21 @@ ghost use Rattle.std.specs.Prelude.{◌≡◌, Some, is_some};
 ghost use Rattle.std.specs.Option.{option_copied, option_map};
 ghost use Rattle.mi_base.specs.Machine.{as_folder, as_key, as_value, as_shortcut, as_variable, as_client, as_product, as_system};
 
-use mi_base::{Client, Entry, Product, RegValue, Shortcut, Text, Variable};
+use mi_base::{Client, Entry, PathText, Product, RegValue, Shortcut, Text, Variable};
 
 pub fn is_folder(entry: &Entry) -> bool
     ensures { result ≡ is_some (as_folder (Some entry.now)) }
 {
     matches!(entry, Entry::Folder(_))
+}
+
+pub fn as_folder(entry: &Entry) -> Option<&PathText>
+    ensures { option_copied result ≡ as_folder (Some entry.now) }
+{
+    match entry {
+        Entry::Folder(shown) => Some(shown),
+        _ => None,
+    }
 }
 
 pub fn is_key(entry: &Entry) -> bool

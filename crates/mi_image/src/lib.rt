@@ -4,13 +4,16 @@
 mod buffer;
 mod copies;
 mod fault;
+mod former;
 mod image;
 mod item;
 mod kinds;
 mod lists;
 mod lookups;
 mod names;
+mod overlay;
 mod pick;
+mod places;
 mod reading;
 mod scan;
 mod system;
@@ -18,4 +21,5 @@ mod under;
 
 pub use fault::ImageError;
 pub use image::Image;
-pub use item::Content;
+pub use item::{Content, Item};
+pub use overlay::Overlay;

@@ -3,11 +3,11 @@
 ghost use Rattle.std.specs.Prelude.{◌≡◌, ◌||◌, nat_eq, IfOk, map};
 ghost use Rattle.std.specs.List.{filter_map, starts_with};
 ghost use Rattle.std.specs.Str.{bytes_eq};
-ghost use Rattle.mi_image.specs.Picks.{product_in, client_in, client_with, file_in, value_in};
+ghost use Rattle.mi_image.specs.Picks.{product_in, client_in, client_with, file_in, folder_in, shortcut_in, value_in};
 
 use crate::copies::{copy_client, copy_product, copy_value_key};
 use crate::item::Item;
-use crate::kinds::{as_client, as_product};
+use crate::kinds::{as_client, as_folder, as_product, as_shortcut};
 use mi_base::{Client, Entry, Guid, NoMemory, PathText, Product, ValueKey};
 use std::alloc::Global;
 
@@ -99,6 +99,36 @@ impl Pick<PathText> for EachFile {
         match item {
             Item::Head(head, _) => Ok(Some(head.shown.copy(alloc)?)),
             Item::Whole(_) => Ok(None),
+        }
+    }
+}
+
+/// The shown path of each folder.
+#[derive(Drop)]
+pub struct EachFolder;
+
+impl Pick<PathText> for EachFolder {
+    ghost picks = { λ _ i. folder_in i };
+
+    fn pick(&self, alloc: Global, item: &Item) -> Result<Option<PathText>, NoMemory> {
+        match item.whole().and_then(as_folder) {
+            Some(shown) => Ok(Some(shown.copy(alloc)?)),
+            None => Ok(None),
+        }
+    }
+}
+
+/// The shown path of each shortcut.
+#[derive(Drop)]
+pub struct EachShortcut;
+
+impl Pick<PathText> for EachShortcut {
+    ghost picks = { λ _ i. shortcut_in i };
+
+    fn pick(&self, alloc: Global, item: &Item) -> Result<Option<PathText>, NoMemory> {
+        match item.whole().and_then(as_shortcut) {
+            Some(shortcut) => Ok(Some(shortcut.shown.copy(alloc)?)),
+            None => Ok(None),
         }
     }
 }

@@ -1,0 +1,29 @@
+-- An image that changes, beside what it was before. (This project's own.)
+use Rattle.std.specs.Prelude.{ℕ, ◌++◌, List, map, Option, unwrap_or, Vec}
+use Rattle.std.specs.declared.alloc.Global.{Global}
+use Rattle.std.specs.FinMap.{get, keys, from_entries}
+use Rattle.mi_text.specs.Maps.{Map, tabulated}
+use Rattle.mi_image.specs.declared.item.Item.{Item}
+use Rattle.mi_image.specs.Items.{Items}
+
+-- what stood at the names that were changed, or that nothing did
+abbrev pub Stood : Type 0
+Stood = Map (Option Item)
+
+-- what the entries of the program's tree make
+abbrev pub stood_of : List (Vec ℕ Global × Option Item) → Stood
+stood_of es = from_entries (map (λ e. (e.0.items, e.1)) es)
+
+-- the items before the changes: at the names that were changed what stood there, and at all others what stands there
+unfoldable pub before : Items → Stood → Items
+before items stood = tabulated (λ q. unwrap_or (get stood q) (get items q)) (keys items ++ keys stood)
+
+-- the items before the changes, and those after them
+abbrev pub Overlaid : Type 0
+Overlaid = Items × Items
+
+abbrev pub former_items : Overlaid → Items
+former_items o = o.0
+
+abbrev pub present_items : Overlaid → Items
+present_items o = o.1
