@@ -17,10 +17,12 @@ use Rattle.mi_undo.proofs.EntryLemmas.{notes_in-append}
 use Rattle.mi_undo.specs.Notes.{Note, note_of, is_note, are_new}
 use Rattle.mi_undo.specs.Stands.{StandsFor, outside, is_one}
 use Rattle.mi_undo.specs.Keeps.{Robust, IsNoted, Loose, Keeps}
+use Rattle.mi_undo.specs.Steps.{Touches}
 use Rattle.mi_undo.specs.Back.{InsideStays, Removing, Returning}
 use Rattle.mi_undo.proofs.StandsLemmas.{get-outside}
 use Rattle.mi_undo.proofs.NotesOf.{none_left, none_right, note_of-append, first_of_two, both_true, new_unseen}
 use Rattle.mi_undo.proofs.OpenLemmas.{robust_step}
+use Rattle.mi_undo.proofs.TouchLemmas.{touches_start, touches_then, touches_name}
 use Rattle.mi_undo.proofs.NoteLemmas.{OrName, image_stands}
 
 -- a change of a noted name
@@ -74,6 +76,9 @@ module _ (s0 s : State) (F : Map) (ns front rest : List Note) (n : Note) (is : n
   pub step_inside : (t : State) → Keeps s F ns → OthersStay n.name s.held t.held → InsideStays s0.held s.held → InsideStays s0.held t.held
   step_inside t keeps others so_far q within = others q (λ e. let clash : Some here.0 ≡ None = sym here.1 ∙ ap (λ (y : List ℕ). note_of ns y) (sym e) ∙ keeps.outside q within in cc) ∙ so_far q within
 
+  pub step_touches : (t : State) → Touches (IsNoted ns) s0 s → GoesOn s t (ImagesOf n.name s) → OthersStay n.name s.held t.held → OnlyDirties n.name s t → Touches (IsNoted ns) s0 t
+  step_touches t so_far goes others dirty = touches_then (IsNoted ns) s0 s t so_far (touches_name (IsNoted ns) s t n.name (λ q e. subst (λ (x : List ℕ). IsNoted ns x) (sym e) here) goes others dirty)
+
   other_before : (q : List ℕ) (w : Option (List ℕ)) → q ≢ n.name → note_of (front ++ n ∷ []) q ≡ Some w → note_of front q ≡ Some w
   other_before q w ne some = at (note_of front q) refl
     where
@@ -88,6 +93,7 @@ module _ (s0 s : State) (F : Map) (ns front rest : List Note) (n : Note) (is : n
     goes = step_goes t so_far.goes so_far.keeps goes;
     keeps = step_keeps t so_far.keeps others dirty;
     inside = step_inside t so_far.keeps others so_far.inside;
+    touches = step_touches t so_far.touches goes others dirty;
     away = λ q w noted. ⊎_elim
         (λ same. ap (λ (m : Map). get m q) removed ∙ ap (λ (x : List ℕ). get (remove s.held n.name) x) same ∙ get-remove_same s.held n.name)
         (λ ne. others q ne ∙ so_far.away q w (other_before q w ne noted))
@@ -119,11 +125,12 @@ module _ (s0 s : State) (F : Map) (ns front rest : List Note) (n : Note) (is : n
   at_name_all : are_new [] ns ≡ true → note_of ns n.name ≡ Some n.was
   at_name_all new = ap (λ (l : List Note). note_of l n.name) is ∙ at_name rest new
 
-  returning : (t : State) → Returning s0 s F ns front → are_new [] ns ≡ true → GoesOn s0 t (StandsFor F) → Keeps t F ns → OthersStay n.name s.held t.held → get t.held n.name ≡ n.was → Returning s0 t F ns (front ++ n ∷ [])
-  returning t so_far new goes keeps others held = record {
+  returning : (t : State) → Returning s0 s F ns front → are_new [] ns ≡ true → GoesOn s0 t (StandsFor F) → Keeps t F ns → Touches (IsNoted ns) s0 t → OthersStay n.name s.held t.held → get t.held n.name ≡ n.was → Returning s0 t F ns (front ++ n ∷ [])
+  returning t so_far new goes keeps touches others held = record {
     goes = goes;
     keeps = keeps;
     inside = step_inside t so_far.keeps others so_far.inside;
+    touches = touches;
     back = λ q w noted. ⊎_elim
         (λ same. ap (λ (x : List ℕ). get t.held x) same ∙ held ∙ same_value q w same noted)
         (λ ne. others q ne ∙ so_far.back q w (other_before q w ne noted))
@@ -139,11 +146,11 @@ module _ (s0 s : State) (F : Map) (ns front rest : List Note) (n : Note) (is : n
 
   -- where nothing was there, nothing is put
   pub returning_none : Returning s0 s F ns front → are_new [] ns ≡ true → n.was ≡ None → Returning s0 s F ns (front ++ n ∷ [])
-  returning_none so_far new none = returning s so_far new so_far.goes so_far.keeps (λ q ne. refl) (so_far.away n.name n.was (at_name_all new) (new_before new) ∙ sym none)
+  returning_none so_far new none = returning s so_far new so_far.goes so_far.keeps so_far.touches (λ q ne. refl) (so_far.away n.name n.was (at_name_all new) (new_before new) ∙ sym none)
 
   pub returning_some : (t : State) → Returning s0 s F ns front → are_new [] ns ≡ true → GoesOn s t (ImagesOf n.name s) → OthersStay n.name s.held t.held → OnlyDirties n.name s t → get t.held n.name ≡ n.was → Returning s0 t F ns (front ++ n ∷ [])
   returning_some t so_far new goes others dirty held =
-      returning t so_far new (step_goes t so_far.goes so_far.keeps goes) (step_keeps t so_far.keeps others dirty) others held
+      returning t so_far new (step_goes t so_far.goes so_far.keeps goes) (step_keeps t so_far.keeps others dirty) (step_touches t so_far.touches goes others dirty) others held
 
   -- the name of the note is away
   pub name_away : Returning s0 s F ns front → are_new [] ns ≡ true → get s.held n.name ≡ None
@@ -157,10 +164,10 @@ module _ (s0 s : State) (F : Map) (ns front rest : List Note) (n : Note) (is : n
       at false out = refl
 
 pub removing_start : (s : State) (F : Map) (ns : List Note) → Keeps s F ns → Removing s s F ns []
-removing_start s F ns keeps = record { goes = started s (StandsFor F); keeps = keeps; inside = λ q within. refl; away = λ q w is. absurd (cc) }
+removing_start s F ns keeps = record { goes = started s (StandsFor F); keeps = keeps; inside = λ q within. refl; touches = touches_start (IsNoted ns) s; away = λ q w is. absurd (cc) }
 
 pub returning_start : (s : State) (F : Map) (ns : List Note) → Keeps s F ns → ((q : List ℕ) (w : Option (List ℕ)) → note_of ns q ≡ Some w → get s.held q ≡ None) → Returning s s F ns []
-returning_start s F ns keeps away = record { goes = started s (StandsFor F); keeps = keeps; inside = λ q within. refl; back = λ q w is. absurd (cc); away = λ q w noted none. away q w noted }
+returning_start s F ns keeps away = record { goes = started s (StandsFor F); keeps = keeps; inside = λ q within. refl; touches = touches_start (IsNoted ns) s; back = λ q w is. absurd (cc); away = λ q w noted none. away q w noted }
 
 -- all is as it was
 pub all_back : (s t : State) (F : Map) (ns : List Note) → Returning s t F ns ns → outside t.held ≡ F

@@ -1,15 +1,16 @@
 -- Beginning an area.
-use Rattle.std.proofs.Common.{◌≡◌, ◌⊎◌, inl, inr, ℕ, ◌+◌, List, [], ◌∷◌, Result, IsErr, OnOk, refl, sym, ap, subst, ◌∙◌}
+use Rattle.std.proofs.Common.{◌≡◌, ◌⊎◌, inl, inr, ⊎_elim, ℕ, ◌+◌, true, false, List, [], ◌∷◌, Result, Ok, IsErr, OnOk, refl, sym, ap, subst, ◌∙◌}
 use Rattle.std.proofs.lemmas.Result.{on_ok_weaker}
 use Rattle.std.specs.FinMap.{get, insert}
 use Rattle.mi_volume.specs.Maps.{Map, Fits, Exceeds, size}
 use Rattle.mi_volume.specs.State.{State, GoesOn, ImagesOf, NothingDirty, Stays, Rose}
 use Rattle.mi_volume.proofs.Moments.{started, weaker}
-use Rattle.mi_undo.specs.Names.{marker, area_names}
-use Rattle.mi_undo.specs.Stands.{StandsFor, outside}
+use Rattle.mi_undo.specs.Names.{marker, gate_name, area_names}
+use Rattle.mi_undo.specs.Stands.{StandsFor, is_one, noted, outside}
 use Rattle.mi_undo.specs.Keeps.{IsFree, IsOpen}
 use Rattle.mi_undo.specs.Steps.{Seals}
 use Rattle.mi_undo.specs.Begins.{Begins}
+use Rattle.mi_undo.specs.Room.{NeverShort}
 use Rattle.mi_undo.specs.Area.{notes_in, AreBelow}
 use Rattle.mi_undo.specs.declared.kept.Place.{Place}
 use Rattle.mi_undo.specs.Answers.{IsFreeUnlessRose, Opens}
@@ -19,7 +20,11 @@ use Rattle.mi_undo.specs.declared.fault.OpFault.TheVariants as op
 use Rattle.mi_undo.proofs.FaultLemmas.{at_err}
 use Rattle.mi_undo.proofs.StepLemmas.{size-new}
 use Rattle.mi_undo.proofs.StandsLemmas.{stands_itself, clean_same}
-use Rattle.mi_undo.proofs.NoteLemmas.{image_stands, begin_robust, begin_stands, begin_open}
+use Rattle.mi_undo.proofs.NameLemmas.{marker_not_gate}
+use Rattle.mi_undo.proofs.ClearLemmas.{noted_unmarked, noted_ungated}
+use Rattle.mi_undo.proofs.RecoverLemmas.{nothing_noted}
+use Rattle.mi_undo.proofs.AreaRoom.{begun_takes}
+use Rattle.mi_undo.proofs.NoteLemmas.{image_stands, shut_gate, begin_robust, begin_stands, begin_open}
 use Rattle.mi_undo.proofs.OnlyLemmas.{open_from, only_free}
 use Rattle.mi_undo.proofs.OutsideLemmas.{marker_step}
 
@@ -29,7 +34,21 @@ not_begun s r free fails = record {
   leaves = λ d image. subst (λ (m : Map). StandsFor s.held m) (sym (clean_same s s.held refl free.clean d image)) (stands_itself s.held free.nothing_inside);
   outside = refl;
   ok = at_err _ r fails;
+  unnoted = started s (λ d. noted d ≡ Ok []);
+  takes = at_err _ r fails;
 }
+
+-- no entry is behind the marker
+begin_unnoted : (s : State) → IsFree s → (d : Map) → ImagesOf marker s d → noted d ≡ Ok []
+begin_unnoted s free d image =
+    elim (is_one (get d marker)) as (λ b. is_one (get d marker) ≡ b → noted d ≡ Ok []) [
+      | true ↦ λ marked. noted_ungated d marked (λ j at below. shut_gate _ (image.agrees (gate_name j) (⊎_elim (free.clean (gate_name j)) (λ e. marker_not_gate j (sym e))) ∙ free.nothing_inside (gate_name j) refl))
+      | false ↦ λ shut. noted_unmarked d shut
+    ] refl
+
+-- meanwhile recovery has room
+pub begin_room : (s t : State) → GoesOn s t (λ d. noted d ≡ Ok []) → GoesOn s t (NeverShort s.capacity)
+begin_room s t goes = weaker s t (λ d. noted d ≡ Ok []) (NeverShort s.capacity) (nothing_noted s.capacity) goes
 
 pub is_begun : {T E U G : Type 0} (s t : State) (name : List ℕ) (r : Result T E) (w : Result U G) → IsFree s → name ≡ marker → Seals name (1 ∷ []) s t w → (OnOk w ((t.held ≡ insert s.held marker (1 ∷ [])) × NothingDirty t) → OnOk r ((t.held ≡ insert s.held marker (1 ∷ [])) × NothingDirty t)) → Begins s t r
 is_begun s t name r w free is by_name then =
@@ -39,6 +58,8 @@ is_begun s t name r w free is by_name then =
       leaves = λ d image. begin_stands s t free seals.only.others seals.only.dirty d image.agrees;
       outside = marker_step s.held t.held marker refl seals.only.others;
       ok = on_ok_weaker r (λ ok. open_from t s.held [] (begin_open s t free ok.0 ok.1) (only_free s t.held free seals.only.others)) (then seals.ok);
+      unnoted = weaker s t (ImagesOf marker s) (λ d. noted d ≡ Ok []) (begin_unnoted s free) seals.only.goes;
+      takes = on_ok_weaker r (λ ok. begun_takes s t free ok.0 ok.1) (then seals.ok);
     }
 
 free_stays : (s t : State) → IsFree s → Stays s t → IsFree t

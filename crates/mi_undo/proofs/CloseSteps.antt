@@ -1,5 +1,5 @@
 -- What the calls of the commit write leave.
-use Rattle.std.proofs.Common.{◌≡◌, ℕ, true, List, Result, Ok, Err, OnOk, is_ok, subst, ◌∙◌}
+use Rattle.std.proofs.Common.{◌≡◌, ℕ, true, List, Result, Ok, Err, OnOk, is_ok, subst}
 use Rattle.mi_volume.specs.Maps.{Map}
 use Rattle.mi_volume.specs.State.{State, GoesOn, ImagesOf, NothingDirty}
 use Rattle.mi_volume.proofs.Moments.{weaker, joined}
@@ -10,6 +10,7 @@ use Rattle.mi_undo.specs.Steps.{SealsByte}
 use Rattle.mi_undo.specs.Keeps.{IsStanding, EitherFor}
 use Rattle.mi_undo.specs.Commit.{IsHalfway, Closes}
 use Rattle.mi_undo.specs.declared.fault.CommitFault.TheVariants.{Undoable, Unknown}
+use Rattle.mi_undo.proofs.StepLemmas.{only_then}
 use Rattle.mi_undo.proofs.CloseLemmas.{halfway_open, halfway_image, halfway_step, closed, open_again}
 
 at_ok : {T E P : Type 0} (r : Result T E) → is_ok r ≡ true → OnOk r P → P
@@ -37,7 +38,7 @@ module _ (s : State) (F : Map) (parts : List (List Note)) (o : IsStanding s F pa
       let done = at_ok r fine seals.ok in
       record {
         goes = first;
-        others = seals.only.others;
+        only = seals.only;
         ok = closed s t F (outside s.held) half done.0 done.1;
         undoable = λ clash. absurd (cc);
         unknown = tt;
@@ -55,7 +56,7 @@ module _ (s : State) (F : Map) (parts : List (List Note)) (o : IsStanding s F pa
         let done = at_ok r2 fine again.ok in
         record {
           goes = second;
-          others = λ q ne. again.only.others q ne ∙ seals.only.others q ne;
+          only = only_then s t u marker seals.only again.only;
           ok = tt;
           undoable = λ _. open_again s t u F parts o seals.only.others done.0 done.1;
           unknown = tt;
@@ -64,7 +65,7 @@ module _ (s : State) (F : Map) (parts : List (List Note)) (o : IsStanding s F pa
     pub close_unknown : {U : Type 0} → (a b : ℕ) → Closes {T = U} s u F parts (Err (Unknown a b))
     close_unknown a b = record {
       goes = second;
-      others = λ q ne. again.only.others q ne ∙ seals.only.others q ne;
+      only = only_then s t u marker seals.only again.only;
       ok = tt;
       undoable = λ clash. absurd (cc);
       unknown = halfway_step t u F (outside s.held) half_after again.only.others again.only.dirty again.one_byte;

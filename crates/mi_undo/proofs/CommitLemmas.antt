@@ -12,7 +12,7 @@ use Rattle.mi_undo.specs.Keeps.{Each, EitherFor, IsStanding, OnlyBelow, Opened, 
 use Rattle.mi_undo.specs.Area.{notes_in, Works, CanGoBack}
 use Rattle.mi_undo.specs.Answers.{Commits, InCommit, IfUnknown, IsFreeUnlessRose}
 use Rattle.mi_undo.specs.Commit.{IsClosed, IsHalfway, Closes}
-use Rattle.mi_undo.specs.Clear.{IsShut, AreInside, AreAll, Clears}
+use Rattle.mi_undo.specs.Clear.{StandsPlainly, IsShut, AreInside, AreAll, Clears}
 use Rattle.mi_undo.specs.declared.kept.Kept.{Kept}
 use Rattle.mi_undo.specs.declared.fault.CommitFault.{CommitFault}
 use Rattle.mi_undo.specs.declared.fault.CommitFault.TheVariants.{Before, Undoable, Unknown}
@@ -116,13 +116,13 @@ module _ (s t : State) (kept : Kept) (F : Map) (w : Works s kept F) (looks : Goe
     second = joined s t u (EitherFor F (outside s.held)) (weaker s t (StandsFor F) (EitherFor F (outside s.held)) (λ d p. inl p) first) (subst (λ (a : Map). GoesOn t u (EitherFor F a)) same_outside c.goes)
 
     outside_now : outside u.held ≡ outside s.held
-    outside_now = marker_step t.held u.held marker refl c.others ∙ same_outside
+    outside_now = marker_step t.held u.held marker refl c.only.others ∙ same_outside
 
     entries_same : (k : ℕ) → k < length w.parts → get u.held (entry_name k) ≡ get t.held (entry_name k)
-    entries_same k below = c.others (entry_name k) (λ e. marker_not_entry k (sym e))
+    entries_same k below = c.only.others (entry_name k) (λ e. marker_not_entry k (sym e))
 
     only_now : OnlyBelow u.held (length w.parts)
-    only_now = only_same t.held u.held marker (length w.parts) (only_held s.held t.held (length w.parts) stays.held w.is_open.only) c.others (λ inside ne. ne refl)
+    only_now = only_same t.held u.held marker (length w.parts) (only_held s.held t.held (length w.parts) stays.held w.is_open.only) c.only.others (λ inside ne. ne refl)
 
     open_again : IsStanding u F w.parts → CanGoBack u kept F
     open_again standing = record {
@@ -174,7 +174,7 @@ module _ (s t : State) (kept : Kept) (F : Map) (w : Works s kept F) (looks : Goe
 
       pub commit_done : (v : State) (r : Result (Unit {0}) Failed) → Clears u v (outside s.held) r → Passes s u → (IsErr r → Rose u v) → Commits {T = Unit {0}} s v kept F (outside s.held) (Ok tt)
       commit_done v r clears passes rose = record {
-        goes = joined s u v (EitherFor F (outside s.held)) second (weaker u v (StandsFor (outside s.held)) (EitherFor F (outside s.held)) (λ d p. inr p) clears.goes);
+        goes = joined s u v (EitherFor F (outside s.held)) second (weaker u v (StandsPlainly (outside s.held)) (EitherFor F (outside s.held)) (λ d p. inr p.0) clears.goes);
         outside = clears.outside;
         leaves = clears.leaves;
         free = free r clears.ok rose;

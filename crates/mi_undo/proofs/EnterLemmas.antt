@@ -1,25 +1,28 @@
 -- The next entry is made.
-use Rattle.std.proofs.Common.{◌≡◌, ℕ, zero, suc, ◌+◌, ◌/◌, ◌%◌, ◌<◌, true, false, cond, List, [], ◌∷◌, ◌++◌, length, Option, Some, None, Result, Ok, Vec, IsErr, IsErrOf, refl, sym, ap, subst, ◌∙◌, arith, length-append}
+use Rattle.std.proofs.Common.{◌≡◌, ℕ, ◌+◌, ◌≤◌, ◌<◌, true, false, cond, List, [], ◌∷◌, ◌++◌, length, Option, Some, None, Result, Ok, Vec, IsErr, IsErrOf, refl, sym, ap, subst, ◌∙◌, arith}
 use Rattle.std.specs.declared.alloc.Global.{Global}
 use Rattle.std.specs.FinMap.{get, insert}
 use Rattle.mi_text.specs.Maps.{same_name}
 use Rattle.mi_text.proofs.MapLemmas.{from_same}
 use Rattle.mi_volume.specs.Maps.{Map, Fits, Exceeds, size}
-use Rattle.mi_volume.specs.State.{State, NothingDirty}
+use Rattle.mi_volume.specs.State.{State, GoesOn, NothingDirty}
 use Rattle.mi_volume.proofs.MapLemmas.{get-insert_same}
-use Rattle.mi_undo.specs.Names.{digits, entry_name, gate_name, most_entries}
+use Rattle.mi_volume.proofs.Moments.{joined}
+use Rattle.mi_undo.specs.Names.{entry_name, gate_name, most_entries}
 use Rattle.mi_undo.specs.Notes.{Note, note_of, notes_for, all_notes, spelled, are_new}
 use Rattle.mi_undo.specs.Keeps.{IsOpen}
 use Rattle.mi_undo.specs.Area.{notes_in}
-use Rattle.mi_undo.specs.Steps.{OnlyChanges, AddsBytes}
+use Rattle.mi_undo.specs.Steps.{OnlyChanges, HoldsNoMore, AddsBytes}
+use Rattle.mi_undo.specs.Room.{ReadsAtMost, LeavesAtMost}
 use Rattle.mi_undo.specs.Entry.{AllFit, places_from, Enters}
 use Rattle.mi_undo.specs.declared.kept.Place.{Place}
 use Rattle.mi_undo.specs.declared.fault.OpFault.{OpFault}
 use Rattle.mi_undo.specs.declared.fault.OpFault.TheVariants as op
 use Rattle.mi_undo.proofs.FaultLemmas.{at_err, value_at_err}
 use Rattle.mi_undo.proofs.NameLemmas.{gate_not_entry, same_entry}
-use Rattle.mi_undo.proofs.EntryNumbers.{digits_long}
-use Rattle.mi_undo.proofs.StepLemmas.{exceeds_more, size-new}
+use Rattle.mi_undo.proofs.EntryNumbers.{entry_long, gate_long}
+use Rattle.mi_undo.proofs.RoomLemmas.{entry_room, gate_room}
+use Rattle.mi_undo.proofs.StepLemmas.{exceeds_more, size-new, size_most}
 use Rattle.mi_undo.proofs.EncodeLemmas.{notes_of-spelled}
 use Rattle.mi_undo.proofs.EntryLemmas.{notes_in-places}
 use Rattle.mi_undo.proofs.NoteSteps.{Staged, trying_entry, staged, trying_gate, opened_gate}
@@ -33,17 +36,11 @@ notes_for-held m (n ∷ names) q w is =
     ] refl is
 
 -- an error that says nothing of room, and one that does
-pub adds_nothing : {T : Type 0} (n : ℕ) (s t : State) (r : Result T OpFault) → IsErr r → (IsErrOf r op.Full → ⊥) → AddsBytes n s t r
-adds_nothing n s t r fails never = record { ok = at_err _ r fails; fits = at_err _ r fails; full = λ full. absurd (never full) }
+pub adds_nothing : {T : Type 0} (n : ℕ) (s t : State) (r : Result T OpFault) → size t.held ≤ size s.held + n → IsErr r → (IsErrOf r op.Full → ⊥) → AddsBytes n s t r
+adds_nothing n s t r most fails never = record { ok = at_err _ r fails; most = most; fits = at_err _ r fails; full = λ full. absurd (never full) }
 
-pub adds_failed_so : {T : Type 0} (n : ℕ) (s t : State) (r : Result T OpFault) → IsErr r → (IsErrOf r op.Full → Exceeds s.capacity (size s.held + n)) → AddsBytes n s t r
-adds_failed_so n s t r fails full = record { ok = at_err _ r fails; fits = at_err _ r fails; full = full }
-
-entry_long : (k : ℕ) → length (entry_name k) ≡ 12
-entry_long k = omega (arith, digits_long 8 k)
-
-gate_long : (k : ℕ) → length (gate_name k) ≡ 12
-gate_long k = omega (arith, digits_long 8 k)
+pub adds_failed_so : {T : Type 0} (n : ℕ) (s t : State) (r : Result T OpFault) → size t.held ≤ size s.held + n → IsErr r → (IsErrOf r op.Full → Exceeds s.capacity (size s.held + n)) → AddsBytes n s t r
+adds_failed_so n s t r most fails full = record { ok = at_err _ r fails; most = most; fits = at_err _ r fails; full = full }
 
 module _ (number : ℕ) (s : State) (F : Map) (parts : List (List Note)) (ns : List Note) (o : IsOpen s F parts) (at : number ≡ length parts) (room : number < most_entries) where
   room_here : length parts < most_entries
@@ -60,15 +57,19 @@ module _ (number : ℕ) (s : State) (F : Map) (parts : List (List Note)) (ns : L
   others_kept : (t : State) → OnlyChanges (entry_name number) s t → (k : ℕ) → k < length parts → get t.held (entry_name k) ≡ get s.held (entry_name k)
   others_kept t only k below = only.others (entry_name k) (λ e. let same : k ≡ number = same_entry k number (omega (arith, room_here)) room e in omega (arith, at, same))
 
+  entry_most : (t : State) → OnlyChanges (entry_name number) s t → HoldsNoMore (entry_name number) (length (spelled ns)) s t → size t.held ≤ size s.held + (25 + length (spelled ns))
+  entry_most t only no_more = let most = size_most s.held t.held (entry_name number) (length (spelled ns)) only.others absent no_more in omega (arith, most, entry_long number)
+
   -- the entry wasn't written
-  pub enters_failed : (t : State) (r : Result (Vec Place Global) OpFault) → OnlyChanges (entry_name number) s t → IsErr r → (IsErrOf r op.Full → Exceeds s.capacity (size (insert s.held (entry_name number) (spelled ns)))) → Enters number F parts ns s t r
-  enters_failed t r only fails full = record {
+  pub enters_failed : (t : State) (r : Result (Vec Place Global) OpFault) → OnlyChanges (entry_name number) s t → HoldsNoMore (entry_name number) (length (spelled ns)) s t → IsErr r → (IsErrOf r op.Full → Exceeds s.capacity (size (insert s.held (entry_name number) (spelled ns)))) → Enters number F parts ns s t r
+  enters_failed t r only no_more fails full = record {
     trying = trying_entry s F parts o room_here t (subst (λ (k : ℕ). OnlyChanges (entry_name k) s t) at only);
     is_open = at_err _ r fails;
     placed = value_at_err r _ fails;
     places = value_at_err r _ fails;
     others = others_kept t only;
-    adds = record { ok = at_err _ r fails; fits = at_err _ r fails; full = λ is_full. entry_sum (full is_full) };
+    adds = record { ok = at_err _ r fails; most = entry_most t only no_more; fits = at_err _ r fails; full = λ is_full. entry_sum (full is_full) };
+    room = λ n left. entry_room s F parts o n left room_here (spelled ns) t (subst (λ (k : ℕ). OnlyChanges (entry_name k) s t) at only);
   }
 
   -- the entry is on the disk
@@ -94,14 +95,36 @@ module _ (number : ℕ) (s : State) (F : Map) (parts : List (List Note)) (ns : L
       gate_sum : Exceeds t.capacity (size (insert t.held (gate_name number) (1 ∷ []))) → Exceeds s.capacity (size s.held + (25 + length (spelled ns)))
       gate_sum over = subst (λ (c : Option ℕ). Exceeds c (size s.held + (25 + length (spelled ns)))) only.goes.capacity (subst (λ (k : ℕ). Exceeds t.capacity k) gate_size over)
 
-      pub gate_failed : (r : Result (Vec Place Global) OpFault) → IsErr r → (IsErrOf r op.Full → Exceeds t.capacity (size (insert t.held (gate_name number) (1 ∷ [])))) → Enters number F parts ns s u r
-      gate_failed r fails full = record {
+      gate_absent : get t.held (gate_name number) ≡ None
+      gate_absent = only.others (gate_name number) (gate_not_entry number number) ∙ o.standing.no_gate number (omega (arith, at)) room
+
+      entry_then : OnlyChanges (entry_name (length parts)) s t
+      entry_then = subst (λ (k : ℕ). OnlyChanges (entry_name k) s t) at only
+
+      gate_then : OnlyChanges (gate_name (length parts)) t u
+      gate_then = subst (λ (k : ℕ). OnlyChanges (gate_name k) t u) at gate
+
+      room_then : (n : ℕ) → LeavesAtMost n s → GoesOn s u (ReadsAtMost (n + (25 + length (spelled ns)))) × LeavesAtMost (n + (25 + length (spelled ns))) u
+      room_then n left =
+          let first = entry_room s F parts o n left room_here (spelled ns) t entry_then in
+          let second = gate_room s F parts o n left room_here (spelled ns) t entry_then (subst (λ (k : ℕ). get t.held (entry_name k) ≡ Some (spelled ns)) at entry_there) clean u gate_then in
+          (joined s t u (ReadsAtMost (n + (25 + length (spelled ns)))) first.0 second.0, second.1)
+
+      gate_most : HoldsNoMore (gate_name number) 1 t u → size u.held ≤ size s.held + (25 + length (spelled ns))
+      gate_most no_more =
+          let first = ap size written ∙ size-new s.held (entry_name number) (spelled ns) absent in
+          let second = size_most t.held u.held (gate_name number) 1 gate.others gate_absent no_more in
+          omega (arith, first, second, entry_long number, gate_long number)
+
+      pub gate_failed : (r : Result (Vec Place Global) OpFault) → HoldsNoMore (gate_name number) 1 t u → IsErr r → (IsErrOf r op.Full → Exceeds t.capacity (size (insert t.held (gate_name number) (1 ∷ [])))) → Enters number F parts ns s u r
+      gate_failed r no_more fails full = record {
         trying = trying_gate s F parts o room_here t ns (trying_entry s F parts o room_here t (subst (λ (k : ℕ). OnlyChanges (entry_name k) s t) at only)) stage u (subst (λ (k : ℕ). OnlyChanges (gate_name k) t u) at gate);
         is_open = at_err _ r fails;
         placed = value_at_err r _ fails;
         places = value_at_err r _ fails;
         others = others_then;
-        adds = record { ok = at_err _ r fails; fits = at_err _ r fails; full = λ is_full. gate_sum (full is_full) };
+        adds = record { ok = at_err _ r fails; most = gate_most no_more; fits = at_err _ r fails; full = λ is_full. gate_sum (full is_full) };
+        room = room_then;
       }
 
       pub entered : (places : Vec Place Global) → u.held ≡ insert t.held (gate_name number) (1 ∷ []) → NothingDirty u → places.items ≡ places_from number 0 ns → Fits t.capacity (size (insert t.held (gate_name number) (1 ∷ []))) → Enters number F parts ns s u (Ok places)
@@ -116,7 +139,9 @@ module _ (number : ℕ) (s : State) (F : Map) (parts : List (List Note)) (ns : L
             others = others_then;
             adds = record {
               ok = ap size opened ∙ gate_size;
+              most = let sum = ap size opened ∙ gate_size in omega (arith, sum);
               fits = subst (λ (c : Option ℕ). Fits c (size s.held + (25 + length (spelled ns)))) only.goes.capacity (subst (λ (k : ℕ). Fits t.capacity k) gate_size fits);
               full = λ is_full. absurd (cc);
             };
+            room = room_then;
           }

@@ -1,5 +1,5 @@
 -- The names of entries, read back.
-use Rattle.std.proofs.Common.{◌≡◌, ◌≢◌, ⊎_elim, ℕ, zero, suc, ◌+◌, ◌*◌, ◌/◌, ◌%◌, ◌^◌, ◌<◌, ◌≤◌, Bool, true, false, ◌&&◌, ◌==◌, List, [], ◌∷◌, ◌++◌, length, get_or, take, drop, None, Some, Option, IfSome, IfNone, refl, sym, ap, ◌∙◌, arith, length-append}
+use Rattle.std.proofs.Common.{◌≡◌, ◌≢◌, ⊎_elim, ℕ, zero, suc, ◌+◌, ◌*◌, ◌/◌, ◌%◌, ◌^◌, ◌<◌, ◌≤◌, true, false, ◌&&◌, ◌==◌, List, [], ◌∷◌, ◌++◌, length, get_or, take, drop, None, Some, Option, IfSome, IfNone, refl, sym, ap, ◌∙◌, arith, length-append}
 use Rattle.std.proofs.Math.Nat.{pow-le-pow_right}
 use Rattle.std.proofs.lemmas.Bool.{eqb-true, cases_lt}
 use Rattle.std.proofs.lemmas.Cmp.{nat_cmp_total}
@@ -14,7 +14,7 @@ use Rattle.mi_text.proofs.MapLemmas.{from_same}
 use Rattle.mi_text.proofs.NextLemmas.{next-first, next-none}
 use Rattle.mi_volume.specs.Maps.{Map}
 use Rattle.mi_volume.proofs.MapLemmas.{name_cases}
-use Rattle.mi_undo.specs.Names.{digits, entry_name, most_entries, is_entry_like}
+use Rattle.mi_undo.specs.Names.{digits, entry_name, gate_name, most_entries, is_entry_like}
 use Rattle.mi_undo.specs.Reading.{IsUnread}
 use Rattle.mi_undo.proofs.NameLemmas.{few_are}
 use Rattle.mi_undo.proofs.NotesOf.{both_true}
@@ -24,6 +24,12 @@ pub digits_long : (n k : ℕ) → length (digits n k) ≡ n
 unfolding digits
 digits_long zero k = refl
 digits_long (suc n) k = length-append (digits n (k / 10)) ((48 + k % 10) ∷ []) ∙ ap (λ (m : ℕ). m + 1) (digits_long n (k / 10)) ∙ (let one : n + 1 ≡ suc n = omega arith in one)
+
+pub entry_long : (k : ℕ) → length (entry_name k) ≡ 12
+entry_long k = omega (arith, digits_long 8 k)
+
+pub gate_long : (k : ℕ) → length (gate_name k) ≡ 12
+gate_long k = omega (arith, digits_long 8 k)
 
 digits_step : (n k d : ℕ) → d < 10 → digits (suc n) (k * 10 + d) ≡ digits n k ++ (48 + d) ∷ []
 unfolding digits

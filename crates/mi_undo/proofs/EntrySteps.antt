@@ -1,7 +1,7 @@
 -- The turns of writing an entry.
 use Rattle.std.proofs.Common.{◌≡◌, ◌≢◌, ℕ, zero, suc, ◌+◌, ◌<◌, ◌≤◌, true, false, List, [], ◌∷◌, ◌++◌, length, take, drop, get_or, Some, Result, Ok, Err, IsErr, IsErrOf, IsErrAnd, refl, sym, ap, subst, ◌∙◌, arith, length-append, take-append-drop}
 use Rattle.std.proofs.lemmas.List.{take_more}
-use Rattle.std.specs.FinMap.{get}
+use Rattle.std.specs.FinMap.{get, insert}
 use Rattle.mi_volume.specs.Maps.{Map}
 use Rattle.mi_volume.specs.State.{State, GoesOn, ImagesOf}
 use Rattle.mi_volume.specs.Calls.{Writes}
@@ -10,13 +10,13 @@ use Rattle.mi_volume.specs.declared.volume.PutFault.TheVariants as put
 use Rattle.mi_undo.specs.Names.{is_inside}
 use Rattle.mi_undo.specs.Notes.{Note, notes_for, spelled_note, spelled}
 use Rattle.mi_undo.specs.Area.{AreOutside, place_names}
-use Rattle.mi_undo.specs.Steps.{Adds}
+use Rattle.mi_undo.specs.Steps.{HoldsNoMore, Adds}
 use Rattle.mi_undo.specs.Entry.{AllFit, note_for, place_of, places_from, WritesNote}
 use Rattle.mi_undo.specs.declared.kept.Place.{Place}
 use Rattle.mi_undo.specs.declared.fault.OpFault.{OpFault}
 use Rattle.mi_undo.specs.declared.fault.OpFault.TheVariants as op
 use Rattle.mi_undo.proofs.FaultLemmas.{at_err}
-use Rattle.mi_undo.proofs.StepLemmas.{exceeds_longer}
+use Rattle.mi_undo.proofs.StepLemmas.{exceeds_longer, no_more_held, no_more_longer, no_more_written}
 use Rattle.mi_undo.proofs.SpanLemmas.{Added}
 use Rattle.mi_undo.proofs.AddLemmas.{added_then, added_get, adds_then, adds_as, adds_longer}
 use Rattle.mi_undo.proofs.EncodeLemmas.{spelled-push, spelled-append, fit-push}
@@ -42,6 +42,7 @@ pub first_failed : {T U : Type 0} (s t : State) (entry more : List ℕ) (r : Res
 first_failed s t entry more r w goes writes fails full = record {
   only = record { goes = goes; others = writes.others; dirty = writes.dirty };
   ok = at_err _ r fails;
+  most = no_more_longer s t entry 0 (length more) (omega arith) (no_more_written s t entry [] w writes);
   full = λ is_full. exceeds_longer s.capacity s.held entry [] more (omega arith) (writes.exceeds (full is_full));
 }
 
@@ -104,3 +105,7 @@ place_names-append (p ∷ xs) ys = ap (λ (l : List (List ℕ)). p.name ∷ l) (
 pub names_pushed : (xs ys : List Place) (p : Place) (names : List (List ℕ)) (i : ℕ) (n : List ℕ) → ys ≡ xs ++ p ∷ [] → place_names xs ≡ take i names → p.name ≡ n → i < length names → n ≡ get_or names i n → place_names ys ≡ take (i + 1) names
 names_pushed xs ys p names i n is so_far name below at =
     ap place_names is ∙ place_names-append xs (p ∷ []) ∙ (λ j. so_far j ++ name j ∷ []) ∙ sym (take_more names i n below ∙ ap (λ (x : List ℕ). take i names ++ x ∷ []) (sym at))
+
+-- and no more stands there, where the notes up to this one are written
+pub note_most : (s u : State) (entry : List ℕ) (ns : List Note) (all : List ℕ) → u.held ≡ insert s.held entry (spelled ns) → length (spelled ns) ≤ length all → HoldsNoMore entry (length all) s u
+note_most s u entry ns all held le = no_more_longer s u entry (length (spelled ns)) (length all) le (no_more_held s u entry (spelled ns) held)

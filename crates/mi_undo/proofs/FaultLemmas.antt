@@ -9,6 +9,8 @@ use Rattle.mi_volume.specs.declared.volume.VolFault.TheVariants as vol
 use Rattle.mi_undo.specs.declared.fault.OpFault.{OpFault}
 use Rattle.mi_undo.specs.declared.fault.OpFault.TheVariants as op
 use Rattle.mi_undo.specs.declared.fault.BackFault.TheVariants as back
+use Rattle.mi_undo.specs.declared.fault.UndoError.{UndoError}
+use Rattle.mi_undo.specs.declared.fault.UndoError.TheVariants as undo
 use Rattle.mi_undo.specs.Faults.{put_fault_of, vol_fault_of, back_fault_of}
 
 pub at_err : {T E : Type 0} (P : Type 0) (r : Result T E) → IsErr r → OnOk r P
@@ -73,3 +75,7 @@ on_err P (Err e) fails p = p
 pub all_err : {T E : Type 0} (P : Type 0) (r : Result T E) → P → OnErr r P
 all_err P (Ok x) p = tt
 all_err P (Err e) p = p
+
+pub memory_no_fault : {T : Type 0} (r : Result T UndoError) → IsErrAnd r (λ x. x ≡ undo.NoMemory) → r ≡ Err undo.Fault → ⊥
+memory_no_fault (Ok x) is h = is
+memory_no_fault (Err x) is h = cc

@@ -62,7 +62,7 @@ one_map a b e = cc
 none_of : (ns : List Note) → ◌≡◌ {A = Result (List Note) (List ℕ)} (Ok []) (Ok ns) → are_new [] ns ≡ true
 none_of ns e = let same_list : [] ≡ ns = cc in ap (λ (l : List Note). are_new [] l) (sym same_list)
 
-noted_new : (d : Map) (ns : List Note) → noted d ≡ Ok ns → are_new [] ns ≡ true
+pub noted_new : (d : Map) (ns : List Note) → noted d ≡ Ok ns → are_new [] ns ≡ true
 unfolding noted
 noted_new d ns is =
     elim (is_one (get d marker)) as (λ b. cond b (read_from d 0 most_entries []) (Ok []) ≡ Ok ns → are_new [] ns ≡ true) [

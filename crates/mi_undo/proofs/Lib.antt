@@ -37,5 +37,12 @@ pub mod SpareLemmas
 mod InsideLemmas
 mod SweepLemmas
 pub mod SettleSteps
+mod SumLemmas
 mod ShortLemmas
+mod SettlingLemmas
+mod RoomLemmas
+mod TouchLemmas
+mod RecoverLemmas
+mod AreaRoom
 mod LawLemmas
+mod SpelledLemmas

@@ -1,5 +1,5 @@
 -- Old bytes over a map, and how many bytes that takes.
-use Rattle.std.proofs.Common.{◌≡◌, ◌≢◌, ⊎_elim, ℕ, zero, suc, ◌+◌, ◌≤◌, Bool, true, false, cond, not, List, [], ◌∷◌, ◌++◌, take, drop, take-append-drop, Option, Some, None, is_some, refl, sym, ap, subst, ◌∙◌, arith}
+use Rattle.std.proofs.Common.{◌≡◌, ◌≢◌, ⊎_elim, ℕ, zero, suc, ◌+◌, ◌≤◌, true, false, cond, not, List, [], ◌∷◌, ◌++◌, take, drop, take-append-drop, Option, Some, None, is_some, refl, sym, ap, subst, ◌∙◌, arith}
 use Rattle.std.specs.FinMap.{get}
 use Rattle.mi_text.specs.Maps.{set_to, same_name}
 use Rattle.mi_text.proofs.MapLemmas.{same, same_itself, get-set_to, get-retained}
@@ -154,3 +154,7 @@ fits_less (Some c) a b le fits = omega arith
 pub exceeds_some : (capacity : Option ℕ) (n : ℕ) → Exceeds capacity n → is_some capacity ≡ true
 exceeds_some None n over = absurd over
 exceeds_some (Some c) n over = refl
+
+pub fits_not_over : (capacity : Option ℕ) (a b : ℕ) → a ≤ b → Fits capacity b → Exceeds capacity a → ⊥
+fits_not_over None a b le fits over = over
+fits_not_over (Some c) a b le fits over = omega arith

@@ -21,7 +21,7 @@ step_more : (d : Map) (k n : ℕ) (seen ns : List Note) → is_one (get d (gate_
 unfolding read_from
 step_more d k n seen ns is_open entry = rw (is_open, entry) refl
 
-step_bad : (d : Map) (k n : ℕ) (seen : List Note) → is_one (get d (gate_name k)) ≡ true → entry_notes seen (get d (entry_name k)) ≡ None → read_from d k (suc n) seen ≡ Err (entry_name k)
+pub step_bad : (d : Map) (k n : ℕ) (seen : List Note) → is_one (get d (gate_name k)) ≡ true → entry_notes seen (get d (entry_name k)) ≡ None → read_from d k (suc n) seen ≡ Err (entry_name k)
 unfolding read_from
 step_bad d k n seen is_open entry = rw (is_open, entry) refl
 

@@ -1,76 +1,26 @@
 -- Where a volume is short of room for old bytes.
-use Rattle.std.proofs.Common.{◌≡◌, ◌≢◌, ◌⊎◌, inl, inr, ⊎_elim, ℕ, zero, suc, ◌+◌, ◌<◌, ◌≤◌, Bool, true, false, cond, not, ◌&&◌, List, [], ◌∷◌, ◌++◌, length, take, drop, get_or, take-append-drop, is_none, Option, Some, None, Result, Ok, Err, IsErr, refl, sym, ap, subst, ◌∙◌, arith, append_assoc}
+use Rattle.std.proofs.Common.{◌≡◌, inr, ⊎_elim, ℕ, zero, suc, ◌+◌, ◌<◌, ◌≤◌, Bool, true, false, cond, not, List, [], ◌∷◌, ◌++◌, length, take, drop, get_or, take-append-drop, Option, Some, None, Ok, refl, sym, ap, subst, ◌∙◌, arith, append_assoc}
 use Rattle.std.proofs.lemmas.Bool.{cases_lt}
 use Rattle.std.proofs.lemmas.List.{take_more, drop_more}
 use Rattle.std.specs.FinMap.{get}
-use Rattle.mi_text.specs.Maps.{same_name}
 use Rattle.mi_volume.specs.Maps.{Map, Fits, Exceeds, size, slot_size}
 use Rattle.mi_volume.specs.State.{State}
-use Rattle.mi_volume.proofs.SizeLemmas.{size-at_most, size-set_to}
-use Rattle.mi_undo.specs.Names.{marker, entry_name, most_entries, is_inside}
-use Rattle.mi_undo.specs.Notes.{Note, note_of, is_note, are_new}
-use Rattle.mi_undo.specs.Stands.{put_over, noted, outside, is_one, StandsFor}
-use Rattle.mi_undo.specs.Keeps.{Keeps}
-use Rattle.mi_undo.specs.Area.{note_in, notes_in, place_names}
+use Rattle.mi_volume.proofs.SizeLemmas.{size-at_most}
+use Rattle.mi_undo.specs.Names.{most_entries, is_inside}
+use Rattle.mi_undo.specs.Notes.{Note, note_of, are_new}
+use Rattle.mi_undo.specs.Stands.{put_over, outside}
+use Rattle.mi_undo.specs.Area.{notes_in, place_names}
 use Rattle.mi_undo.specs.Steps.{IsWithin}
-use Rattle.mi_undo.specs.Back.{InsideStays, IsStuck, IsWithout, PutsBack}
+use Rattle.mi_undo.specs.Back.{InsideStays, IsStuck, IsWithout}
 use Rattle.mi_undo.specs.Reading.{IsUnread, first_shut, Spares}
 use Rattle.mi_undo.specs.Settle.{IsRead}
 use Rattle.mi_undo.specs.Short.{IsBase, old_sizes, IsShort}
 use Rattle.mi_undo.specs.declared.kept.Place.{Place}
-use Rattle.mi_undo.proofs.NotesOf.{both_true, new_unseen, none_right, note_of-append, first_of_two}
+use Rattle.mi_undo.proofs.NotesOf.{note_of-append, first_of_two}
 use Rattle.mi_undo.proofs.StandsLemmas.{get-outside, get-put_over, or_else}
-use Rattle.mi_undo.proofs.BackLemmas.{note_of-head}
-use Rattle.mi_undo.proofs.OverLemmas.{fits_less}
-use Rattle.mi_undo.proofs.StepLemmas.{exceeds_more}
-use Rattle.mi_undo.proofs.SettleSteps.{noted_read, notes_long, one_list}
-
--- a name that is noted once isn't noted again
-unseen_later : (seen : List Note) (n : Note) (ns : List Note) → are_new seen (n ∷ ns) ≡ true → note_of ns n.name ≡ None
-unseen_later seen n ns new = at (note_of ns n.name) refl
-  where
-    parts : (is_note n && is_none (note_of seen n.name) ≡ true) × (are_new (seen ++ n ∷ []) ns ≡ true)
-    parts = both_true (is_note n && is_none (note_of seen n.name)) (are_new (seen ++ n ∷ []) ns) new
-
-    at : (o : Option (Option (List ℕ))) → note_of ns n.name ≡ o → note_of ns n.name ≡ None
-    at None is = is
-    at (Some w) is =
-        let none = none_right seen (n ∷ []) n.name (new_unseen (seen ++ n ∷ []) ns parts.1 n.name w is) in
-        let clash : Some n.was ≡ None = sym (note_of-head n []) ∙ none in
-        absurd (cc)
-
--- The old bytes of new names count beside a map where they are away.
-pub over_sum : (seen ns : List Note) (d : Map) → are_new seen ns ≡ true → ((q : List ℕ) (w : Option (List ℕ)) → note_of ns q ≡ Some w → get d q ≡ None) → size (put_over ns d) ≡ size d + old_sizes ns
-unfolding put_over
-over_sum seen [] d new away = omega arith
-over_sum seen (n ∷ ns) d new away =
-    let parts = both_true (is_note n && is_none (note_of seen n.name)) (are_new (seen ++ n ∷ []) ns) new in
-    let rest = over_sum (seen ++ n ∷ []) ns d parts.1 later in
-    let here : get (put_over ns d) n.name ≡ None =
-    get-put_over ns d n.name ∙ ap (λ (o : Option (Option (List ℕ))). or_else o (get d n.name)) (unseen_later seen n ns new) ∙ away n.name n.was (note_of-head n ns) in
-    let none : slot_size n.name (get (put_over ns d) n.name) ≡ 0 = ap (slot_size n.name) here in
-    let sum = size-set_to (put_over ns d) n.name n.was in
-    omega (arith, rest, none, sum)
-  where
-    later : (q : List ℕ) (w : Option (List ℕ)) → note_of ns q ≡ Some w → get d q ≡ None
-    later q w is =
-        elim (same_name q n.name) as (λ b. same_name q n.name ≡ b → get d q ≡ None) [
-          | true ↦ λ e. away q n.was (ap (λ b. cond b (Some n.was) (note_of ns q)) e)
-          | false ↦ λ e. away q w (ap (λ b. cond b (Some n.was) (note_of ns q)) e ∙ is)
-        ] refl
-
--- the first notes are new where all are
-pub new_front : (seen xs ys : List Note) → are_new seen (xs ++ ys) ≡ true → are_new seen xs ≡ true
-new_front seen [] ys new = refl
-new_front seen (x ∷ xs) ys new =
-    let parts = both_true (is_note x && is_none (note_of seen x.name)) (are_new (seen ++ x ∷ []) (xs ++ ys)) new in
-    (λ i. parts.0 i && new_front (seen ++ x ∷ []) xs ys parts.1 i)
-
-front_away : (xs ys : List Note) (d : Map) → ((q : List ℕ) (w : Option (List ℕ)) → note_of (xs ++ ys) q ≡ Some w → get d q ≡ None) → (q : List ℕ) (w : Option (List ℕ)) → note_of xs q ≡ Some w → get d q ≡ None
-front_away xs ys d away q w is = away q w (note_of-append xs ys q ∙ ap (λ (o : Option (Option (List ℕ))). first_of_two o (note_of ys q)) is)
-
-pub front_sum : (xs ys : List Note) (d : Map) → are_new [] (xs ++ ys) ≡ true → ((q : List ℕ) (w : Option (List ℕ)) → note_of (xs ++ ys) q ≡ Some w → get d q ≡ None) → size (put_over xs d) ≡ size d + old_sizes xs
-front_sum xs ys d new away = over_sum [] xs d (new_front [] xs ys new) (front_away xs ys d away)
+use Rattle.mi_undo.proofs.OverLemmas.{fits_less, fits_not_over}
+use Rattle.mi_undo.proofs.SettleSteps.{noted_read, notes_long}
+use Rattle.mi_undo.proofs.SumLemmas.{one_list, front_sum}
 
 -- the name that stands at a place
 pub place_at : (places : List Place) (i : ℕ) (p : Place) (name : List ℕ) → i < length places → name ≡ (get_or places i p).name → get_or (place_names places) i name ≡ name
@@ -98,7 +48,7 @@ module _ (s : State) (places : List Place) (entries : ℕ) (read : IsRead s plac
     base_is base bare = record {
       away = bare.away;
       unread = λ q unread. let here = unread_here q unread in bare.others q (unnoted q here) ∙ away q here;
-      others = λ q none read_one. bare.others q none ∙ spares.others q (λ u. read_one (unread_there q u));
+      others = λ q none read_one. bare.others q none ∙ spares.touches.others q (λ u. read_one (unread_there q u));
     }
 
     base_small : (base : Map) → IsBase s.held ns base → size base ≤ size s.held
@@ -141,12 +91,8 @@ module _ (s : State) (places : List Place) (entries : ℕ) (read : IsRead s plac
 
     -- where all is back, it isn't
     pub not_short : (v : State) (name : List ℕ) → v.capacity ≡ s.capacity → InsideStays t.held v.held → outside v.held ≡ F → IsWithin v → IsShort s.capacity s.held name → ⊥
-    not_short v name same_capacity inside back within short = too_much s.capacity _ _ up_to (subst (λ (c : Option ℕ). Fits c (size v.held)) same_capacity within) short.passes
+    not_short v name same_capacity inside back within short = fits_not_over s.capacity _ _ up_to (subst (λ (c : Option ℕ). Fits c (size v.held)) same_capacity within) short.passes
       where
-        too_much : (capacity : Option ℕ) (a b : ℕ) → a ≤ b → Fits capacity b → Exceeds capacity a → ⊥
-        too_much None a b le fits over = over
-        too_much (Some c) a b le fits over = omega arith
-
         f : List Note
         f = short.front ++ short.note ∷ []
 
@@ -179,8 +125,8 @@ module _ (s : State) (places : List Place) (entries : ℕ) (read : IsRead s plac
         as_held q none is_read =
             is_base.others q none is_read
             ∙ elim (is_inside q) as (λ b. is_inside q ≡ b → get s.held q ≡ get v.held q) [
-              | true ↦ λ within_area. sym (inside q within_area ∙ spares.others q (λ u. is_read (unread_there q u)))
-              | false ↦ λ out. sym (at_f q out ∙ sym (spares.spare.keeps.others q out none) ∙ spares.others q (λ u. is_read (unread_there q u)))
+              | true ↦ λ within_area. sym (inside q within_area ∙ spares.touches.others q (λ u. is_read (unread_there q u)))
+              | false ↦ λ out. sym (at_f q out ∙ sym (spares.spare.keeps.others q out none) ∙ spares.touches.others q (λ u. is_read (unread_there q u)))
             ] refl
 
         empty : (q : List ℕ) → get short.base q ≡ None → slot_size q (get v.held q) < slot_size q (get short.base q) → ⊥
@@ -203,15 +149,6 @@ module _ (s : State) (places : List Place) (entries : ℕ) (read : IsRead s plac
 
         up_to : size short.base + old_sizes f ≤ size v.held
         up_to = let each = size-at_most (put_over f short.base) v.held (λ q. by_note q (note_of f q) refl) in omega (arith, each, sum)
-
--- with a marker that isn't open no volume is short
-pub shut_not_short : (capacity : Option ℕ) (h : Map) (name : List ℕ) → is_one (get h marker) ≡ false → IsShort capacity h name → ⊥
-unfolding noted
-shut_not_short capacity h name shut short = none_read short.front (sym (rw shut at short.read))
-  where
-    none_read : (front : List Note) → ◌≡◌ {A = Result (List Note) (List ℕ)} (Ok (front ++ short.note ∷ short.rest)) (Ok []) → ⊥
-    none_read [] is = cc
-    none_read (n ∷ front) is = cc
 
 pub short_same : (capacity other : Option ℕ) (h d : Map) (name : List ℕ) → other ≡ capacity → d ≡ h → IsShort other d name → IsShort capacity h name
 short_same capacity other h d name same_capacity same_map short = subst (λ (m : Map). IsShort capacity m name) same_map (subst (λ (c : Option ℕ). IsShort c d name) same_capacity short)

@@ -13,7 +13,7 @@ use Rattle.mi_undo.specs.declared.fault.OpFault.{OpFault}
 use Rattle.mi_undo.specs.declared.fault.OpFault.TheVariants as op
 use Rattle.mi_undo.specs.Steps.{OnlyChanges, Adds}
 use Rattle.mi_undo.proofs.FaultLemmas.{at_err}
-use Rattle.mi_undo.proofs.StepLemmas.{only_start, only_then, only_looks, insert_itself, insert_twice, exceeds_longer}
+use Rattle.mi_undo.proofs.StepLemmas.{only_start, only_then, only_looks, insert_itself, insert_twice, exceeds_longer, no_more_then, no_more_longer, no_more_written}
 
 -- these bytes are added so far
 pub record Added (name before so_far : List ℕ) (old new : State) : Type 0 where
@@ -106,6 +106,14 @@ piece_fails s t u v name before other piece from at n end r w added goes stays n
     record {
       only = piece_only s t u name before so_far piece added goes stays v more writes.others writes.dirty;
       ok = at_err _ r fails;
+      most =
+          let all = take (end - from) (drop from (bytes_or_none (get s.held other))) in
+          let shorter = within_run (bytes_or_none (get s.held other)) so_far piece ((at + n) - from) (end - from) from sum le in
+          let here : get u.held name ≡ Some (before ++ so_far) = ap (λ (m : Map). get m name) (stays.held ∙ added.held) ∙ get-insert_same s.held name (before ++ so_far) in
+          let long : length (bytes_or_none (get u.held name) ++ piece) ≡ length ((before ++ so_far) ++ piece) = ap (λ (o : Option (List ℕ)). length (bytes_or_none o ++ piece)) here in
+          no_more_then s u v name (before ++ so_far) (length (before ++ all)) here (omega (arith, shorter, length-append before so_far, length-append so_far piece, length-append before all))
+          (no_more_longer u v name (length (bytes_or_none (get u.held name) ++ piece)) (length (before ++ all))
+          (omega (arith, long, shorter, length-append (before ++ so_far) piece, length-append before so_far, length-append so_far piece, length-append before all)) (no_more_written u v name (bytes_or_none (get u.held name) ++ piece) w writes));
       full = λ is_full. piece_exceeds s t u name before so_far piece added goes stays (take (end - from) (drop from (bytes_or_none (get s.held other))))
           (within_run (bytes_or_none (get s.held other)) so_far piece ((at + n) - from) (end - from) from sum le)
           (writes.exceeds (full is_full));

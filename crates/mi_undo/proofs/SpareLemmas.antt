@@ -13,16 +13,17 @@ use Rattle.mi_undo.specs.Reading.{IsUnread, Spare, Spares}
 use Rattle.mi_undo.proofs.NameLemmas.{same_entry, marker_not_entry}
 use Rattle.mi_undo.proofs.OpenLemmas.{robust_step}
 use Rattle.mi_undo.proofs.BackSteps.{keeps_stays}
+use Rattle.mi_undo.proofs.TouchLemmas.{touches_start, touches_then, touches_name, touches_none}
 
 pub spares_start : (s : State) (F : Map) (ns : List Note) (n : ℕ) → Spare s F ns n → Spares s s F ns n
-spares_start s F ns n spare = record { goes = started s (StandsFor F); spare = spare; below = λ k less. refl; others = λ q read. refl }
+spares_start s F ns n spare = record { goes = started s (StandsFor F); spare = spare; below = λ k less. refl; touches = touches_start (IsUnread n) s }
 
 pub spares_then : (s t u : State) (F : Map) (ns : List Note) (n : ℕ) → Spares s t F ns n → Spares t u F ns n → Spares s u F ns n
 spares_then s t u F ns n first second = record {
   goes = joined s t u (StandsFor F) first.goes second.goes;
   spare = second.spare;
   below = λ k less. second.below k less ∙ first.below k less;
-  others = λ q read. second.others q read ∙ first.others q read;
+  touches = touches_then (IsUnread n) s t u first.touches second.touches;
 }
 
 module _ (s t : State) (F : Map) (ns : List Note) (n : ℕ) (spare : Spare s F ns n) where
@@ -35,7 +36,7 @@ module _ (s t : State) (F : Map) (ns : List Note) (n : ℕ) (spare : Spare s F n
           (λ q loose. ⊎_elim (λ now. inl (⊎_elim (λ d. inl (stays.dirty q d)) (λ noted. inr noted) now)) (λ unread. inr unread) loose);
     };
     below = λ k less. ap (λ (m : Map). get m (entry_name k)) stays.held;
-    others = λ q read. ap (λ (m : Map). get m q) stays.held;
+    touches = touches_none (IsUnread n) s t goes stays;
   }
 
   module _ (k : ℕ) (le : n ≤ k) (few : k < most_entries) (x : List ℕ) (is : x ≡ entry_name k) (goes : GoesOn s t (ImagesOf x s)) (others : OthersStay x s.held t.held) (dirty : OnlyDirties x s t) where
@@ -50,7 +51,7 @@ module _ (s t : State) (F : Map) (ns : List Note) (n : ℕ) (spare : Spare s F n
       goes = weaker s t (ImagesOf x s) (StandsFor F) (λ d image. spare.spare d (λ q free. image.agrees q (⊎_elim (λ now. free (inl (inl now))) (λ same. free (inr (at_x q same)))))) goes;
       spare = record { keeps = keeps_removed; spare = spare_removed };
       below = λ j less. others (entry_name j) (λ same. let number = same_entry j k (omega (arith, less, le, few)) few (same ∙ is) in omega (arith, number, less, le));
-      others = λ q read. others q (λ same. read (at_x q same));
+      touches = touches_name (IsUnread n) s t x at_x goes others dirty;
     }
       where
         spare_removed : Robust t.held (λ q. Loose t ns q ⊎ IsUnread n q) F

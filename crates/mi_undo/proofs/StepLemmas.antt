@@ -1,14 +1,17 @@
 -- Calls that change one name, or nothing.
-use Rattle.std.proofs.Common.{◌≡◌, inl, inr, ⊎_elim, ℕ, ◌+◌, ◌≤◌, List, length, Option, Some, None, Ok, refl, sym, ap, subst, ◌∙◌, arith}
+use Rattle.std.proofs.Common.{◌≡◌, ◌≢◌, inl, inr, ⊎_elim, ℕ, ◌+◌, ◌≤◌, max, cond, List, length, Option, Some, None, IfSome, Result, Ok, Err, refl, sym, ap, subst, ◌∙◌, arith}
 use Rattle.std.specs.FinMap.{get, insert}
-use Rattle.mi_text.proofs.MapLemmas.{same}
-use Rattle.mi_volume.specs.Maps.{Map, Fits, Exceeds, size, slot_size}
+use Rattle.mi_text.specs.Maps.{set_to}
+use Rattle.mi_text.proofs.MapLemmas.{same, same_itself, get-set_to}
+use Rattle.mi_volume.specs.Maps.{Map, Fits, Exceeds, size, slot_size, bytes_or_none, OthersStay, HoldsAtMost}
 use Rattle.mi_volume.specs.State.{State, GoesOn, Images, ImagesOf, Stays}
-use Rattle.mi_volume.proofs.MapLemmas.{name_cases, get-insert_same, get-insert_other}
+use Rattle.mi_volume.proofs.MapLemmas.{name_cases, same_name-other, get-insert_same, get-insert_other}
 use Rattle.mi_volume.proofs.Moments.{started, joined, weaker}
-use Rattle.mi_volume.proofs.SizeLemmas.{size-insert}
+use Rattle.mi_volume.proofs.SizeLemmas.{size-insert, size-set_to}
 use Rattle.mi_volume.specs.Calls.{Writes}
-use Rattle.mi_undo.specs.Steps.{OnlyChanges, IsWithin}
+use Rattle.mi_volume.specs.declared.volume.PutFault.{PutFault}
+use Rattle.mi_volume.specs.declared.volume.PutFault.TheVariants as put
+use Rattle.mi_undo.specs.Steps.{OnlyChanges, HoldsNoMore, IsWithin}
 
 image_of_earlier : (s t : State) (x : List ℕ) → OnlyChanges x s t → (d : Map) → ImagesOf x t d → ImagesOf x s d
 image_of_earlier s t x first d image = record {
@@ -76,3 +79,59 @@ size-new m n b none =
     let nothing : slot_size n (get m n) ≡ 0 = ap (slot_size n) none in
     let sum = size-insert m n b in
     omega (arith, sum, nothing)
+
+holds_some : (o : Option (List ℕ)) (bytes : List ℕ) (n : ℕ) → o ≡ Some bytes → length bytes ≤ n → IfSome o (λ b. length b ≤ n)
+holds_some o bytes n is le = subst (λ (w : Option (List ℕ)). IfSome w (λ b. length b ≤ n)) (sym is) le
+
+holds_itself : (o : Option (List ℕ)) (n : ℕ) → IfSome o (λ b. length b ≤ max (length (bytes_or_none o)) n)
+holds_itself None n = tt
+holds_itself (Some b) n = omega arith
+
+holds_longer : (o : Option (List ℕ)) (m n : ℕ) → m ≤ n → IfSome o (λ b. length b ≤ m) → IfSome o (λ b. length b ≤ n)
+holds_longer None m n le h = tt
+holds_longer (Some b) m n le h = omega (arith, le, h)
+
+-- what a name may hold after calls that change it
+pub no_more_start : (s t : State) (name : List ℕ) (n : ℕ) → t.held ≡ s.held → HoldsNoMore name n s t
+no_more_start s t name n same_held = subst (λ (m : Map). HoldsAtMost m name (max (length (bytes_or_none (get s.held name))) n)) (sym same_held) (holds_itself (get s.held name) n)
+
+pub no_more_held : (s t : State) (name bytes : List ℕ) → t.held ≡ insert s.held name bytes → HoldsNoMore name (length bytes) s t
+no_more_held s t name bytes held = holds_some (get t.held name) bytes _ (ap (λ (m : Map). get m name) held ∙ get-insert_same s.held name bytes) (omega arith)
+
+pub no_more_longer : (s t : State) (name : List ℕ) (m n : ℕ) → m ≤ n → HoldsNoMore name m s t → HoldsNoMore name n s t
+no_more_longer s t name m n le h = holds_longer (get t.held name) _ _ (omega (arith, le)) h
+
+pub no_more_stays : (s t u : State) (name : List ℕ) (n : ℕ) → u.held ≡ t.held → HoldsNoMore name n s t → HoldsNoMore name n s u
+no_more_stays s t u name n same_held h = subst (λ (m : Map). HoldsAtMost m name (max (length (bytes_or_none (get s.held name))) n)) (sym same_held) h
+
+pub no_more_looked : (s t u : State) (name : List ℕ) (n : ℕ) → t.held ≡ s.held → HoldsNoMore name n t u → HoldsNoMore name n s u
+no_more_looked s t u name n same_held h = subst (λ (m : Map). HoldsAtMost u.held name (max (length (bytes_or_none (get m name))) n)) same_held h
+
+-- behind a call that gave it these bytes
+pub no_more_then : (s t u : State) (name bytes : List ℕ) (n : ℕ) → get t.held name ≡ Some bytes → length bytes ≤ n → HoldsNoMore name n t u → HoldsNoMore name n s u
+no_more_then s t u name bytes n is le h =
+    let long : length (bytes_or_none (get t.held name)) ≡ length bytes = ap (λ (o : Option (List ℕ)). length (bytes_or_none o)) is in
+    holds_longer (get u.held name) _ _ (omega (arith, long, le)) h
+
+pub no_more_written : {T : Type 0} (s t : State) (name bytes : List ℕ) (w : Result T PutFault) → Writes name bytes s t w → HoldsNoMore name (length bytes) s t
+no_more_written s t name bytes (Ok x) writes = no_more_held s t name bytes writes.ok
+no_more_written s t name bytes (Err put.NoMemory) writes = no_more_start s t name (length bytes) (writes.no_memory refl).held
+no_more_written s t name bytes (Err put.Failed) writes = writes.failed refl
+no_more_written s t name bytes (Err put.Full) writes = no_more_start s t name (length bytes) (writes.full refl).held
+
+-- a new name, and how much more that is at most
+pub size_most : (h d : Map) (x : List ℕ) (n : ℕ) → OthersStay x h d → get h x ≡ None → HoldsAtMost d x (max (length (bytes_or_none (get h x))) n) → size d ≤ size h + (length x + n)
+size_most h d x n others none most =
+    let map : d ≡ set_to h x (get d x) = same d (set_to h x (get d x)) (λ q. ⊎_elim
+    (λ (e : q ≡ x). ap (λ (y : List ℕ). get d y) e ∙ sym (ap (λ (y : List ℕ). get (set_to h x (get d x)) y) e ∙ get-set_to h x (get d x) x ∙ ap (λ b. cond b (get d x) (get h x)) (same_itself x)))
+    (λ (ne : q ≢ x). others q ne ∙ sym (get-set_to h x (get d x) q ∙ ap (λ b. cond b (get d x) (get h q)) (same_name-other q x ne)))
+    (name_cases q x)) in
+    let sum = size-set_to h x (get d x) in
+    let was : slot_size x (get h x) ≡ 0 = ap (slot_size x) none in
+    let old : length (bytes_or_none (get h x)) ≡ 0 = ap (λ (o : Option (List ℕ)). length (bytes_or_none o)) none in
+    let slot : slot_size x (get d x) ≤ length x + n = at_most (get d x) (holds_longer (get d x) _ n (omega (arith, old)) most) in
+    omega (arith, ap size map, sum, was, slot)
+  where
+    at_most : (o : Option (List ℕ)) → IfSome o (λ b. length b ≤ n) → slot_size x o ≤ length x + n
+    at_most None h = omega arith
+    at_most (Some b) h = omega (arith, h)

@@ -12,8 +12,7 @@ use Rattle.mi_volume.specs.Calls.{Removes}
 use Rattle.mi_volume.proofs.MapLemmas.{name_cases, get-remove_same, get-remove_other}
 use Rattle.mi_volume.proofs.Moments.{started, joined, weaker}
 use Rattle.mi_undo.specs.Names.{marker, is_inside}
-use Rattle.mi_undo.specs.Stands.{StandsFor}
-use Rattle.mi_undo.specs.Clear.{IsShut, AreAll, Clears}
+use Rattle.mi_undo.specs.Clear.{StandsPlainly, IsShut, AreAll, Clears}
 use Rattle.mi_undo.specs.Sweep.{IsAway, Sweeps, Sweeping, Swept}
 use Rattle.mi_undo.proofs.FaultLemmas.{at_err}
 use Rattle.mi_undo.proofs.InsideLemmas.{past_inside, at_top}
@@ -61,11 +60,11 @@ away_top held new k is gone q inside ne before =
 
 -- the marker is left alone
 pub sweeps_marker : (s : State) (A : Map) (name : List ℕ) → IsShut s A → name ≡ marker → Sweeps {T = Unit {0}} {E = Failed} s s A name (Ok tt)
-sweeps_marker s A name shut is = record { goes = started s (StandsFor A); is_shut = shut; away = λ ne. absurd (ne is); still = λ q none. none }
+sweeps_marker s A name shut is = record { goes = started s (StandsPlainly A); is_shut = shut; away = λ ne. absurd (ne is); still = λ q none. none }
 
 pub sweeps_removed : (s t : State) (A : Map) (name : List ℕ) (r : Result (Unit {0}) Failed) → IsShut s A → is_inside name ≡ true → name ≢ marker → GoesOn s t (ImagesOf name s) → Removes name s t r → Sweeps s t A name r
 sweeps_removed s t A name r shut inside ne goes removes = record {
-  goes = weaker s t (ImagesOf name s) (StandsFor A) (shut_image_of s A name shut inside ne) goes;
+  goes = weaker s t (ImagesOf name s) (StandsPlainly A) (shut_image_of s A name shut inside ne) goes;
   is_shut = shut_kept s t A name shut inside ne removes.others removes.dirty;
   away = gone r removes.ok;
   still = stays r removes.ok;
@@ -80,17 +79,17 @@ sweeps_removed s t A name r shut inside ne goes removes = record {
     stays (Err e) ok = tt
 
 pub sweeping_start : (s : State) (A : Map) (after : List ℕ) → IsShut s A → IsAway s.held after → Sweeping s s A after
-sweeping_start s A after shut away = record { goes = started s (StandsFor A); is_shut = shut; away = away }
+sweeping_start s A after shut away = record { goes = started s (StandsPlainly A); is_shut = shut; away = away }
 
 pub sweeping_looked : (s0 s t : State) (A : Map) (after : List ℕ) → Sweeping s0 s A after → GoesOn s t (Images s) → Stays s t → Sweeping s0 t A after
 sweeping_looked s0 s t A after so_far goes stays = record {
-  goes = joined s0 s t (StandsFor A) so_far.goes (weaker s t (Images s) (StandsFor A) (shut_image s A so_far.is_shut) goes);
+  goes = joined s0 s t (StandsPlainly A) so_far.goes (weaker s t (Images s) (StandsPlainly A) (shut_image s A so_far.is_shut) goes);
   is_shut = shut_stays s t A so_far.is_shut stays;
   away = λ q inside ne before. ap (λ (m : Map). get m q) stays.held ∙ so_far.away q inside ne before;
 }
 
 pub swept_err : {T E U G : Type 0} (s0 s t : State) (A : Map) (after name : List ℕ) (r : Result T E) (e : Result U G) → Sweeping s0 s A after → Sweeps s t A name r → IsErr e → Swept s0 t A e
-swept_err s0 s t A after name r e so_far sweeps fails = record { goes = joined s0 s t (StandsFor A) so_far.goes sweeps.goes; is_shut = sweeps.is_shut; ok = at_err _ e fails }
+swept_err s0 s t A after name r e so_far sweeps fails = record { goes = joined s0 s t (StandsPlainly A) so_far.goes sweeps.goes; is_shut = sweeps.is_shut; ok = at_err _ e fails }
 
 pub swept_looked : {U G : Type 0} (s0 s : State) (A : Map) (after : List ℕ) (e : Result U G) → Sweeping s0 s A after → IsErr e → Swept s0 s A e
 swept_looked s0 s A after e so_far fails = record { goes = so_far.goes; is_shut = so_far.is_shut; ok = at_err _ e fails }
@@ -102,16 +101,16 @@ swept_all s0 s A after e so_far all = record { goes = so_far.goes; is_shut = so_
     at (Ok x) = all
     at (Err x) = tt
 
-pub sweeping_step : (s0 s t : State) (A : Map) (after k : List ℕ) → Sweeping s0 s A after → next_name s.held (Some after) ≡ Some k → GoesOn s t (StandsFor A) → IsShut t A → (k ≢ marker → get t.held k ≡ None) → ((q : List ℕ) → get s.held q ≡ None → get t.held q ≡ None) → Sweeping s0 t A k
+pub sweeping_step : (s0 s t : State) (A : Map) (after k : List ℕ) → Sweeping s0 s A after → next_name s.held (Some after) ≡ Some k → GoesOn s t (StandsPlainly A) → IsShut t A → (k ≢ marker → get t.held k ≡ None) → ((q : List ℕ) → get s.held q ≡ None → get t.held q ≡ None) → Sweeping s0 t A k
 sweeping_step s0 s t A after k so_far next goes shut gone still = record {
-  goes = joined s0 s t (StandsFor A) so_far.goes goes;
+  goes = joined s0 s t (StandsPlainly A) so_far.goes goes;
   is_shut = shut;
   away = away_more s.held after so_far.away k next t.held gone still;
 }
 
 -- a failure before the marker is removed
-pub clears_not : {U G : Type 0} (s t : State) (A : Map) (e : Result U G) → GoesOn s t (StandsFor A) → IsShut t A → IsErr e → Clears s t A e
-clears_not s t A e goes shut fails = record { goes = goes; leaves = shut_image t A shut; outside = shut_outside t A shut; stands = shut_held t A shut; ok = at_err _ e fails }
+pub clears_not : {U G : Type 0} (s t : State) (A : Map) (e : Result U G) → GoesOn s t (StandsPlainly A) → IsShut t A → IsErr e → Clears s t A e
+clears_not s t A e goes shut fails = record { goes = goes; leaves = λ d image. (shut_image t A shut d image).0; outside = shut_outside t A shut; stands = shut_held t A shut; ok = at_err _ e fails }
 
 -- what the next name is
 pub still_next : (h d : Map) (after : List ℕ) (o : Option (List ℕ)) → d ≡ h → next_name h (Some after) ≡ o → next_name d (Some after) ≡ o
@@ -124,8 +123,8 @@ pub top_not_marker : (k : List ℕ) → k ≡ 106 ∷ 47 ∷ [] → k ≢ marker
 top_not_marker k is e = let same_length : ◌≡◌ {A = ℕ} 2 3 = ap (λ (l : List ℕ). length l) (sym is ∙ e) in absurd (omega arith)
 
 -- the marker isn't removed, or is
-pub cleared_not : {T E U G : Type 0} (s t u : State) (A : Map) (r : Result T E) (e : Result U G) → GoesOn s t (StandsFor A) → Clears t u A r → IsErr e → Clears s u A e
-cleared_not s t u A r e goes clears fails = record { goes = joined s t u (StandsFor A) goes clears.goes; leaves = clears.leaves; stands = clears.stands; outside = clears.outside; ok = at_err _ e fails }
+pub cleared_not : {T E U G : Type 0} (s t u : State) (A : Map) (r : Result T E) (e : Result U G) → GoesOn s t (StandsPlainly A) → Clears t u A r → IsErr e → Clears s u A e
+cleared_not s t u A r e goes clears fails = record { goes = joined s t u (StandsPlainly A) goes clears.goes; leaves = clears.leaves; stands = clears.stands; outside = clears.outside; ok = at_err _ e fails }
 
-pub all_clears : {E G : Type 0} (s t u : State) (A : Map) → GoesOn s t (StandsFor A) → Clears {T = Unit {0}} {E = E} t u A (Ok tt) → Clears {T = Unit {0}} {E = G} s u A (Ok tt)
-all_clears s t u A goes clears = record { goes = joined s t u (StandsFor A) goes clears.goes; leaves = clears.leaves; stands = clears.stands; outside = clears.outside; ok = clears.ok }
+pub all_clears : {E G : Type 0} (s t u : State) (A : Map) → GoesOn s t (StandsPlainly A) → Clears {T = Unit {0}} {E = E} t u A (Ok tt) → Clears {T = Unit {0}} {E = G} s u A (Ok tt)
+all_clears s t u A goes clears = record { goes = joined s t u (StandsPlainly A) goes clears.goes; leaves = clears.leaves; stands = clears.stands; outside = clears.outside; ok = clears.ok }

@@ -7,8 +7,9 @@ use Rattle.mi_volume.specs.State.{State, GoesOn, NothingDirty}
 use Rattle.mi_undo.specs.Names.{is_inside}
 use Rattle.mi_undo.specs.Notes.{Note, note_of}
 use Rattle.mi_undo.specs.Stands.{StandsFor, put_over, outside}
-use Rattle.mi_undo.specs.Keeps.{Each, Keeps, IsFree}
-use Rattle.mi_undo.specs.Steps.{OnlyChanges, IsWithin}
+use Rattle.mi_undo.specs.Keeps.{Each, IsNoted, Keeps, IsFree}
+use Rattle.mi_undo.specs.Steps.{OnlyChanges, Touches, IsWithin}
+use Rattle.mi_undo.specs.Room.{LeavesAtMost, GoesOnWithRoom}
 use Rattle.mi_undo.specs.declared.fault.OpFault.{OpFault}
 use Rattle.mi_undo.specs.declared.fault.OpFault.TheVariants.{Full}
 
@@ -21,6 +22,7 @@ pub record Removing (old new : State) (F : Map) (ns front : List Note) : Type 0 
   pub goes : GoesOn old new (StandsFor F)
   pub keeps : Keeps new F ns
   pub inside : InsideStays old.held new.held
+  pub touches : Touches (IsNoted ns) old new
   pub away : (q : List ℕ) (w : Option (List ℕ)) → note_of front q ≡ Some w → get new.held q ≡ None
 
 -- While the old bytes are put back: these of them are there, and the others are away.
@@ -28,6 +30,7 @@ pub record Returning (old new : State) (F : Map) (ns front : List Note) : Type 0
   pub goes : GoesOn old new (StandsFor F)
   pub keeps : Keeps new F ns
   pub inside : InsideStays old.held new.held
+  pub touches : Touches (IsNoted ns) old new
   pub back : (q : List ℕ) (w : Option (List ℕ)) → note_of front q ≡ Some w → get new.held q ≡ w
   pub away : (q : List ℕ) (w : Option (List ℕ)) → note_of ns q ≡ Some w → note_of front q ≡ None → get new.held q ≡ None
 
@@ -36,6 +39,7 @@ pub record Removed {T E : Type 0} (old new : State) (F : Map) (ns : List Note) (
   pub goes : GoesOn old new (StandsFor F)
   pub keeps : Keeps new F ns
   pub inside : InsideStays old.held new.held
+  pub touches : Touches (IsNoted ns) old new
   pub ok : OnOk result ((q : List ℕ) (w : Option (List ℕ)) → note_of ns q ≡ Some w → get new.held q ≡ None)
 
 -- after the old bytes of one name were put back
@@ -60,6 +64,7 @@ pub record Returned {T E : Type 0} (old new : State) (F : Map) (ns : List Note) 
   pub goes : GoesOn old new (StandsFor F)
   pub keeps : Keeps new F ns
   pub inside : InsideStays old.held new.held
+  pub touches : Touches (IsNoted ns) old new
   pub ok : OnOk result (outside new.held ≡ F)
 
 -- after all are back, on the disk
@@ -67,6 +72,7 @@ pub record PutsBack {T E : Type 0} (old new : State) (F : Map) (ns : List Note) 
   pub goes : GoesOn old new (StandsFor F)
   pub keeps : Keeps new F ns
   pub inside : InsideStays old.held new.held
+  pub touches : Touches (IsNoted ns) old new
   pub back : OnOk result (outside new.held ≡ F)
   pub clean : OnOk result (NothingDirty new)
 
@@ -76,3 +82,4 @@ pub record Shuts {T E : Type 0} (old new : State) (F : Map) (result : Result T E
   pub leaves : Each new (StandsFor F)
   pub outside : outside new.held ≡ F
   pub free : OnOk result (IsFree new)
+  pub room : (n : ℕ) → LeavesAtMost n old → GoesOnWithRoom old new F n

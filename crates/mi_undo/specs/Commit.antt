@@ -1,12 +1,13 @@
 -- The commit write.
 use Rattle.std.specs.Prelude.{◌≡◌, ◌≢◌, ℕ, false, true, List, Result, OnOk, IsErrOf}
 use Rattle.std.specs.FinMap.{get}
-use Rattle.mi_volume.specs.Maps.{Map, OthersStay, HoldsByte}
+use Rattle.mi_volume.specs.Maps.{Map, HoldsByte}
 use Rattle.mi_volume.specs.State.{State, GoesOn, NothingDirty}
 use Rattle.mi_undo.specs.Names.{marker}
 use Rattle.mi_undo.specs.Notes.{Note}
 use Rattle.mi_undo.specs.Stands.{StandsFor, is_one, outside}
 use Rattle.mi_undo.specs.Keeps.{IsStanding, EitherFor}
+use Rattle.mi_undo.specs.Steps.{OnlyChanges}
 use Rattle.mi_undo.specs.Answers.{IfUnknown}
 use Rattle.mi_undo.specs.declared.fault.CommitFault.{CommitFault}
 use Rattle.mi_undo.specs.declared.fault.CommitFault.TheVariants.{Undoable}
@@ -28,7 +29,7 @@ pub record IsHalfway (s : State) (F A : Map) : Type 0 where
 pub record Closes {T : Type 0} (old new : State) (F : Map) (parts : List (List Note)) (result : Result T CommitFault) : Type 0 where
   -- a crash leaves F or what was held
   pub goes : GoesOn old new (EitherFor F (outside old.held))
-  pub others : OthersStay marker old.held new.held
+  pub only : OnlyChanges marker old new
   pub ok : OnOk result (IsClosed new (outside old.held))
   -- the gate is durably open again
   pub undoable : IsErrOf result Undoable → IsStanding new F parts

@@ -13,6 +13,7 @@ use Rattle.mi_undo.specs.Stands.{StandsFor, outside}
 use Rattle.mi_undo.specs.Keeps.{Keeps, IsOpen, OnlyBelow}
 use Rattle.mi_undo.specs.Area.{notes_in}
 use Rattle.mi_undo.specs.Steps.{Adds, AddsBytes}
+use Rattle.mi_undo.specs.Room.{ReadsAtMost, LeavesAtMost}
 use Rattle.mi_undo.specs.declared.kept.Place.{Place}
 use Rattle.mi_undo.specs.declared.fault.OpFault.{OpFault}
 
@@ -74,3 +75,4 @@ pub record Enters (number : ℕ) (F : Map) (parts : List (List Note)) (ns : List
   pub places : IfOk result (λ v. v.items ≡ places_from number 0 ns)
   pub others : (k : ℕ) → k < length parts → get new.held (entry_name k) ≡ get old.held (entry_name k)
   pub adds : AddsBytes (25 + length (spelled ns)) old new result
+  pub room : (n : ℕ) → LeavesAtMost n old → GoesOn old new (ReadsAtMost (n + (25 + length (spelled ns)))) × LeavesAtMost (n + (25 + length (spelled ns))) new

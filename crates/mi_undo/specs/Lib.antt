@@ -13,5 +13,7 @@ pub mod Begins
 pub mod Back
 pub mod Reading
 pub mod Short
+pub mod Room
+pub mod Spelled
 pub mod Sweep
 pub mod Settle

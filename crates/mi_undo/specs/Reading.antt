@@ -12,6 +12,7 @@ use Rattle.mi_undo.specs.Notes.{Note, is_note, note_at, notes_of, split_at}
 use Rattle.mi_undo.specs.Stands.{StandsFor, is_one, entry_notes, only_new, read_from}
 use Rattle.mi_undo.specs.Keeps.{Keeps, Robust, Loose}
 use Rattle.mi_undo.specs.Area.{note_in}
+use Rattle.mi_undo.specs.Steps.{Touches}
 use Rattle.mi_undo.specs.declared.kept.Place.{Place}
 use Rattle.mi_undo.specs.declared.kept.Span.{Span}
 use Rattle.mi_undo.specs.declared.read.Turn.{Turn}
@@ -88,4 +89,4 @@ pub record Spares (old new : State) (F : Map) (ns : List Note) (n : ℕ) : Type 
   pub goes : GoesOn old new (StandsFor F)
   pub spare : Spare new F ns n
   pub below : (k : ℕ) → k < n → get new.held (entry_name k) ≡ get old.held (entry_name k)
-  pub others : (q : List ℕ) → ¬ IsUnread n q → get new.held q ≡ get old.held q
+  pub touches : Touches (IsUnread n) old new

@@ -12,6 +12,7 @@ ghost use Rattle.mi_undo.specs.Stands.{outside, area_of};
 ghost use Rattle.mi_undo.specs.Keeps.{IsFree};
 ghost use Rattle.mi_undo.specs.Area.{AreOutside, Knows, entries_for, volume, noted_names, entry_count, IsWorking, IsLive, IsFresh, Works, CanGoBack};
 ghost use Rattle.mi_undo.specs.Steps.{AddsBytes};
+ghost use Rattle.mi_undo.specs.Room.{NeverShort, TakesAtMost, entry_size, GoesOnWithRoom, KeepsRoom, CommitsRoom};
 ghost use Rattle.mi_undo.specs.Begins.{Begins, progress_of};
 ghost use Rattle.mi_undo.specs.Answers.{IsFreeUnlessRose, Opens, Declines, Notes, Changes, Commits, CountsRise, IfUnknown, GoesBack};
 
@@ -28,7 +29,9 @@ use std::alloc::Global;
 use std::collections::BTreeSet;
 
 /// An open rollback area. Until `commit` each crash leaves the former map, whatever happens to the
-/// noted names. It borrows the volume until it is gone back over or ended.
+/// noted names. Where that map, 4 bytes, and 25 bytes and the notes of each entry fit the capacity,
+/// recovery of what a crash leaves has room, if its first gate that isn't open isn't held or has at
+/// most one byte. It borrows the volume until it is gone back over or ended.
 pub struct Open<'a, V, K = Kept> {
     vol: &'a mut V,
     kept: K,
@@ -55,6 +58,8 @@ pub fn begin<'a, V: Volume>(alloc: Global, vol: &'a mut V) -> Result<Open<'a, V>
     ensures full { IfErr result (λ r. r.fault ≡ OpFault.Full → V.told × Exceeds (V.state vol.old).capacity (size (V.state vol.old).held + 4)) }
     ensures fits { V.told → IfOk result (λ o. Fits (V.state vol.old).capacity (size (V.state vol.old).held + 4)) }
     ensures stays { V.told → IfErr result (λ r. r.fault ≢ OpFault.Fault → Stays (V.state vol.old) (V.state r.vol.now)) }
+    ensures room { V.told → IfOk result (λ o. KeepsRoom (V.state vol.old) (V.state (volume o)) (V.state vol.old).held 0) }
+    ensures room_declined { V.told → IfErr result (λ r. GoesOn (V.state vol.old) (V.state r.vol.now) (NeverShort (V.state vol.old).capacity)) }
 {
     match begin_area(alloc, vol) {
         Ok(marker) => Ok(Open {
@@ -113,7 +118,8 @@ fn progress_after(outcome: &Result<(), CommitFault>) -> Progress
 impl<'a, V: Volume> Open<'a, V> {
     /// Notes the old bytes or absence of each name that isn't noted yet, as one entry. Where all are
     /// noted, nothing is done, and the answer is Ok or NoMemory. Else the size grows by 25 bytes and the
-    /// notes: Full comes only where that passes the capacity, and Ok only where it fits.
+    /// notes, and by no more where the call fails: Full comes only where that passes the capacity, and
+    /// Ok only where it fits.
     pub fn note(&mut self, alloc: Global, names: &[Name]) -> Result<(), OpFault>
         requires working { IsWorking self.old }
         requires outside { AreOutside names.now }
@@ -131,6 +137,7 @@ impl<'a, V: Volume> Open<'a, V> {
         ensures fault { IsErrOf result OpFault.Fault → Rose (V.state (volume self.old)) (V.state (volume self.new)) }
         ensures full { IsErrOf result OpFault.Full → V.told × ((F : Map) → Works (V.state (volume self.old)) self.old.kept F → Exceeds (V.state (volume self.old)).capacity (size (V.state (volume self.old)).held + (25 + length (spelled (notes_for (V.state (volume self.old)).held (new_names (noted_names self.old) names.now)))))) }
         ensures adds { V.told → (F : Map) → Works (V.state (volume self.old)) self.old.kept F → new_names (noted_names self.old) names.now ≢ [] → AddsBytes (25 + length (spelled (notes_for (V.state (volume self.old)).held (new_names (noted_names self.old) names.now)))) (V.state (volume self.old)) (V.state (volume self.new)) result }
+        ensures room { V.told → (F : Map) (n : ℕ) → Works (V.state (volume self.old)) self.old.kept F → TakesAtMost n (V.state (volume self.old)) → KeepsRoom (V.state (volume self.old)) (V.state (volume self.new)) F (n + entry_size (notes_for (V.state (volume self.old)).held (new_names (noted_names self.old) names.now))) }
     {
         self.progress = Progress::Failed;
         match note_names(alloc, self.vol, &mut self.kept, names) {
@@ -153,6 +160,7 @@ impl<'a, V: Volume> Open<'a, V> {
         ensures working { OnOk result (IsWorking self.new) }
         ensures kept { self.new.kept ≡ self.old.kept }
         ensures changes { V.told → (F : Map) → Works (V.state (volume self.old)) self.old.kept F → Changes (V.state (volume self.old)) (V.state (volume self.new)) self.new.kept F }
+        ensures room { V.told → (F : Map) (n : ℕ) → Works (V.state (volume self.old)) self.old.kept F → TakesAtMost n (V.state (volume self.old)) → KeepsRoom (V.state (volume self.old)) (V.state (volume self.new)) F n }
         ensures map { V.told → OnOk result (outside (V.state (volume self.new)).held ≡ insert (outside (V.state (volume self.old)).held) name.now bytes.now) }
         ensures others { V.told → OthersStay name.now (V.state (volume self.old)).held (V.state (volume self.new)).held }
         ensures passes { Passes (V.state (volume self.old)) (V.state (volume self.new)) }
@@ -178,6 +186,7 @@ impl<'a, V: Volume> Open<'a, V> {
         ensures working { OnOk result (IsWorking self.new) }
         ensures kept { self.new.kept ≡ self.old.kept }
         ensures changes { V.told → (F : Map) → Works (V.state (volume self.old)) self.old.kept F → Changes (V.state (volume self.old)) (V.state (volume self.new)) self.new.kept F }
+        ensures room { V.told → (F : Map) (n : ℕ) → Works (V.state (volume self.old)) self.old.kept F → TakesAtMost n (V.state (volume self.old)) → KeepsRoom (V.state (volume self.old)) (V.state (volume self.new)) F n }
         ensures map { V.told → OnOk result (outside (V.state (volume self.new)).held ≡ insert (outside (V.state (volume self.old)).held) name.now (bytes_or_none (get (V.state (volume self.old)).held name.now) ++ bytes.now)) }
         ensures others { V.told → OthersStay name.now (V.state (volume self.old)).held (V.state (volume self.new)).held }
         ensures passes { Passes (V.state (volume self.old)) (V.state (volume self.new)) }
@@ -201,6 +210,7 @@ impl<'a, V: Volume> Open<'a, V> {
         ensures working { OnOk result (IsWorking self.new) }
         ensures kept { self.new.kept ≡ self.old.kept }
         ensures changes { V.told → (F : Map) → Works (V.state (volume self.old)) self.old.kept F → Changes (V.state (volume self.old)) (V.state (volume self.new)) self.new.kept F }
+        ensures room { V.told → (F : Map) (n : ℕ) → Works (V.state (volume self.old)) self.old.kept F → TakesAtMost n (V.state (volume self.old)) → KeepsRoom (V.state (volume self.old)) (V.state (volume self.new)) F n }
         ensures map { V.told → OnOk result (outside (V.state (volume self.new)).held ≡ remove (outside (V.state (volume self.old)).held) name.now) }
         ensures others { V.told → OthersStay name.now (V.state (volume self.old)).held (V.state (volume self.new)).held }
         ensures passes { Passes (V.state (volume self.old)) (V.state (volume self.new)) }
@@ -225,6 +235,7 @@ impl<'a, V: Volume> Open<'a, V> {
         ensures moments { GoesOn (V.state (volume self.old)) (V.state (volume self.new)) (Images (V.state (volume self.old))) }
         ensures works { V.told → (F : Map) → Works (V.state (volume self.old)) self.old.kept F → Changes (V.state (volume self.old)) (V.state (volume self.new)) self.new.kept F }
         ensures can_go_back { V.told → (F : Map) → CanGoBack (V.state (volume self.old)) self.old.kept F → CanGoBack (V.state (volume self.new)) self.new.kept F }
+        ensures room { V.told → (F : Map) (n : ℕ) → CanGoBack (V.state (volume self.old)) self.old.kept F → TakesAtMost n (V.state (volume self.old)) → KeepsRoom (V.state (volume self.old)) (V.state (volume self.new)) F n }
         ensures fault { OnErr result (Rose (V.state (volume self.old)) (V.state (volume self.new))) }
     {
         self.vol.size(name)
@@ -249,6 +260,7 @@ impl<'a, V: Volume> Open<'a, V> {
         ensures moments { GoesOn (V.state (volume self.old)) (V.state (volume self.new)) (Images (V.state (volume self.old))) }
         ensures works { V.told → (F : Map) → Works (V.state (volume self.old)) self.old.kept F → Changes (V.state (volume self.old)) (V.state (volume self.new)) self.new.kept F }
         ensures can_go_back { V.told → (F : Map) → CanGoBack (V.state (volume self.old)) self.old.kept F → CanGoBack (V.state (volume self.new)) self.new.kept F }
+        ensures room { V.told → (F : Map) (n : ℕ) → CanGoBack (V.state (volume self.old)) self.old.kept F → TakesAtMost n (V.state (volume self.old)) → KeepsRoom (V.state (volume self.old)) (V.state (volume self.new)) F n }
         ensures fault { IsErrOf result VolFault.Failed → Rose (V.state (volume self.old)) (V.state (volume self.new)) }
     {
         self.vol.read(alloc, name, at, want)
@@ -272,6 +284,7 @@ impl<'a, V: Volume> Open<'a, V> {
         ensures before_live { IsErrOf result CommitFault.Before → IsLive self.new }
         ensures undoable_live { IsErrOf result CommitFault.Undoable → IsLive self.new }
         ensures commits { V.told → (F : Map) → Works (V.state (volume self.old)) self.old.kept F → Commits (V.state (volume self.old)) (V.state (volume self.new)) self.new.kept F (outside (V.state (volume self.old)).held) result }
+        ensures room { V.told → (F : Map) (n : ℕ) → Works (V.state (volume self.old)) self.old.kept F → TakesAtMost n (V.state (volume self.old)) → CommitsRoom (V.state (volume self.old)) (V.state (volume self.new)) F n result }
         ensures passes { Passes (V.state (volume self.old)) (V.state (volume self.new)) }
         ensures before { IsErrOf result CommitFault.Before → Rose (V.state (volume self.old)) (V.state (volume self.new)) }
         ensures undoable { IsErrOf result CommitFault.Undoable → Rose (V.state (volume self.old)) (V.state (volume self.new)) }
@@ -289,6 +302,7 @@ impl<'a, V: Volume> Open<'a, V> {
         requires live { IsLive self }
         requires can_go_back { V.told → (F : Map) × CanGoBack (V.state (volume self)) self.kept F }
         ensures back { V.told → (F : Map) → CanGoBack (V.state self.entry.vol.now) self.entry.kept F → GoesBack (V.state self.entry.vol.now) (V.state self.exit.0.now) F result }
+        ensures room { V.told → (F : Map) (n : ℕ) → CanGoBack (V.state self.entry.vol.now) self.entry.kept F → TakesAtMost n (V.state self.entry.vol.now) → GoesOnWithRoom (V.state self.entry.vol.now) (V.state self.exit.0.now) F n }
         ensures passes { Passes (V.state self.entry.vol.now) (V.state self.exit.0.now) }
         ensures fault { IsErrOf result BackFault.Fault → Rose (V.state self.entry.vol.now) (V.state self.exit.0.now) }
         ensures full { IsErrOf result BackFault.Full → V.told × IsSome (V.state self.entry.vol.now).capacity }

@@ -13,6 +13,7 @@ ghost use Rattle.mi_undo.specs.Clear.{AreInside, AreAll};
 ghost use Rattle.mi_undo.specs.Answers.{GoesBack};
 ghost use Rattle.mi_undo.specs.Back.{PutsOne, Removed, Returned, PutsBack, IsStuck, IsWithout, Shuts};
 ghost use Rattle.mi_undo.specs.Steps.{IsWithin};
+ghost use Rattle.mi_undo.specs.Room.{TakesAtMost, GoesOnWithRoom};
 
 use crate::clear::clear_area;
 use crate::fault::{BackFault, OpFault};
@@ -140,6 +141,7 @@ fn shut_area<V: Volume>(vol: &mut V, kept: &Kept) -> Result<(), Failed>
 pub(crate) fn back_area<V: Volume>(alloc: Global, vol: &mut V, kept: &Kept) -> Result<(), BackFault>
     requires { V.told → (F : Map) × CanGoBack (V.state vol.old) kept.now F }
     ensures back { V.told → (F : Map) → CanGoBack (V.state vol.old) kept.now F → GoesBack (V.state vol.old) (V.state vol.new) F result }
+    ensures room { V.told → (F : Map) (n : ℕ) → CanGoBack (V.state vol.old) kept.now F → TakesAtMost n (V.state vol.old) → GoesOnWithRoom (V.state vol.old) (V.state vol.new) F n }
     ensures passes { Passes (V.state vol.old) (V.state vol.new) }
     ensures fault { IsErrOf result BackFault.Fault → Rose (V.state vol.old) (V.state vol.new) }
     ensures told { IsErrOf result BackFault.Full → V.told }

@@ -10,6 +10,7 @@ ghost use Rattle.mi_undo.specs.Keeps.{IsStanding};
 ghost use Rattle.mi_undo.specs.Area.{Works};
 ghost use Rattle.mi_undo.specs.Answers.{Commits, CountsRise, IfUnknown};
 ghost use Rattle.mi_undo.specs.Commit.{Closes};
+ghost use Rattle.mi_undo.specs.Room.{TakesAtMost, CommitsRoom};
 
 use crate::clear::clear_area;
 use crate::fault::CommitFault;
@@ -43,6 +44,7 @@ fn close_marker<V: Volume>(vol: &mut V, name: &Name) -> Result<(), CommitFault>
 pub(crate) fn commit_area<V: Volume>(vol: &mut V, kept: &Kept) -> Result<(), CommitFault>
     requires { V.told → (F : Map) × Works (V.state vol.old) kept.now F }
     ensures commits { V.told → (F : Map) → Works (V.state vol.old) kept.now F → Commits (V.state vol.old) (V.state vol.new) kept.now F (outside (V.state vol.old).held) result }
+    ensures room { V.told → (F : Map) (n : ℕ) → Works (V.state vol.old) kept.now F → TakesAtMost n (V.state vol.old) → CommitsRoom (V.state vol.old) (V.state vol.new) F n result }
     ensures passes { Passes (V.state vol.old) (V.state vol.new) }
     ensures before { IsErrOf result CommitFault.Before → Rose (V.state vol.old) (V.state vol.new) }
     ensures undoable { IsErrOf result CommitFault.Undoable → Rose (V.state vol.old) (V.state vol.new) }

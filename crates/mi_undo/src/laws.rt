@@ -9,6 +9,7 @@ ghost use Rattle.mi_undo.specs.Stands.{StandsFor, is_one, noted, outside, put_ov
 ghost use Rattle.mi_undo.specs.Keeps.{Opened, AreNew};
 ghost use Rattle.mi_undo.specs.Entry.{AllFit};
 ghost use Rattle.mi_undo.specs.Reading.{IsUnread, first_shut};
+ghost use Rattle.mi_undo.specs.Spelled.{SpellWhatIsRead, OnlyOpenAreRead, AllOpenAreRead, OnlyBadAreRefused, FirstBadIsRefused};
 
 /// Notes whose lengths have room are read as they are spelled.
 pub fn spelled_notes_are_read()
@@ -30,6 +31,25 @@ pub fn a_shut_area_changes_nothing()
 pub fn entries_behind_open_gates_are_read()
     ensures { (d : Map) (parts : List (List Note)) → is_one (get d marker) ≡ true → Opened d 0 parts → AreNew [] parts → length parts ≤ most_entries
         → (length parts < most_entries → is_one (get d (gate_name (length parts))) ≡ false) → noted d ≡ Ok (all_notes parts) }
+{}
+
+/// Bytes that are read as notes are spelled so.
+pub fn what_is_read_is_spelled_so()
+    ensures { SpellWhatIsRead }
+{}
+
+/// The notes that are read are those of the entries behind open gates, up to the first gate that is
+/// shut, and no others.
+pub fn exactly_the_open_entries_are_read()
+    ensures only { OnlyOpenAreRead }
+    ensures all { AllOpenAreRead }
+{}
+
+/// A map stands for nothing exactly where behind an open gate, and spelled entries before it, no entry
+/// stands that is spelled and new: the first of these is named.
+pub fn exactly_the_first_bad_entry_is_refused()
+    ensures only { OnlyBadAreRefused }
+    ensures first { FirstBadIsRefused }
 {}
 
 /// In what a map stands for each noted name has its noted bytes or absence, each other is as in the

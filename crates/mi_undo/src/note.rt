@@ -8,6 +8,7 @@ ghost use Rattle.mi_undo.specs.Notes.{Note, all_notes, new_names, notes_for, spe
 ghost use Rattle.mi_undo.specs.Keeps.{IsOpen};
 ghost use Rattle.mi_undo.specs.Area.{AreOutside, Knows, Works, place_names, notes_in, entries_for};
 ghost use Rattle.mi_undo.specs.Steps.{AddsBytes};
+ghost use Rattle.mi_undo.specs.Room.{TakesAtMost, KeepsRoom, entry_size};
 ghost use Rattle.mi_undo.specs.Answers.{Notes};
 ghost use Rattle.mi_undo.specs.Entry.{AreGood, Enters};
 
@@ -117,6 +118,8 @@ fn note_fresh<V: Volume>(
     ensures told { IsErrOf result OpFault.Full → V.told }
     ensures adds { V.told → (F : Map) → Works (V.state vol.old) kept.old F → are_new (notes_in (V.state vol.old).held kept.old.places.items) (notes_for (V.state vol.old).held names.now) ≡ true
         → AddsBytes (25 + length (spelled (notes_for (V.state vol.old).held names.now))) (V.state vol.old) (V.state vol.new) result }
+    ensures room { V.told → (F : Map) (n : ℕ) → Works (V.state vol.old) kept.old F → are_new (notes_in (V.state vol.old).held kept.old.places.items) (notes_for (V.state vol.old).held names.now) ≡ true
+        → TakesAtMost n (V.state vol.old) → KeepsRoom (V.state vol.old) (V.state vol.new) F (n + (25 + length (spelled (notes_for (V.state vol.old).held names.now)))) }
 {
     let entry = entry_of(alloc, kept.entries)?;
     let gate = gate_of(alloc, kept.entries)?;
@@ -149,6 +152,8 @@ pub(crate) fn note_names<V: Volume>(
     ensures told { IsErrOf result OpFault.Full → V.told }
     ensures adds { V.told → (F : Map) → Works (V.state vol.old) kept.old F → new_names (place_names kept.old.places.items) names.now ≢ []
         → AddsBytes (25 + length (spelled (notes_for (V.state vol.old).held (new_names (place_names kept.old.places.items) names.now)))) (V.state vol.old) (V.state vol.new) result }
+    ensures room { V.told → (F : Map) (n : ℕ) → Works (V.state vol.old) kept.old F → TakesAtMost n (V.state vol.old)
+        → KeepsRoom (V.state vol.old) (V.state vol.new) F (n + entry_size (notes_for (V.state vol.old).held (new_names (place_names kept.old.places.items) names.now))) }
 {
     let fresh = fresh_names(alloc, &mut kept.seen, names)?;
     let fresh = fresh.as_slice();

@@ -12,7 +12,8 @@ ghost use Rattle.mi_undo.specs.Area.{notes_in, place_names};
 ghost use Rattle.mi_undo.specs.Steps.{IsWithin};
 ghost use Rattle.mi_undo.specs.Reading.{Looks};
 ghost use Rattle.mi_undo.specs.Short.{IsShort};
-ghost use Rattle.mi_undo.specs.Settle.{IsRead, Undoes, Settles};
+ghost use Rattle.mi_undo.specs.Room.{ShortAs};
+ghost use Rattle.mi_undo.specs.Settle.{IsRead, Undoes, Settles, IsSettling};
 ghost use Rattle.mi_undo.specs.Answers.{IfBad, IfFull};
 
 use crate::back::{Stuck, put_back};
@@ -128,13 +129,16 @@ fn settle_synced<V: Volume>(
 /// at any moment, and called again after any answer. Fault comes only where the volume's count rose.
 /// BadRollback names the first entry that is read and absent or not spelled; all stays as it was then.
 /// Full names the first noted name at which the old bytes, in the order of the notes, pass the capacity
-/// beside what is held otherwise; where there is such a name, the answer is an error.
+/// beside what is held otherwise; where there is such a name, the answer is an error. Where nothing is
+/// dirty at its start, a crash leaves no other name at which that is so.
 pub fn settle<V: Volume>(alloc: Global, vol: &mut V) -> Result<Settled, UndoError>
+    ensures settles { V.told → IsSettling (V.state vol.old) (V.state vol.new) result }
     ensures settled { V.told → IfOk result (λ s. s ≡ settled (V.state vol.old).held) }
     ensures free { V.told → IfOk result (λ s. IsFree (V.state vol.new)) }
     ensures value { V.told → IfOk result (λ s. stands (V.state vol.old).held ≡ Ok (V.state vol.new).held) }
     ensures stops { V.told → NothingDirty (V.state vol.old) → (F : Map) → stands (V.state vol.old).held ≡ Ok F → GoesOn (V.state vol.old) (V.state vol.new) (StandsFor F) }
     ensures leaves { V.told → NothingDirty (V.state vol.old) → (F : Map) → stands (V.state vol.old).held ≡ Ok F → Each (V.state vol.new) (StandsFor F) }
+    ensures room { V.told → NothingDirty (V.state vol.old) → GoesOn (V.state vol.old) (V.state vol.new) (ShortAs (V.state vol.old).capacity (V.state vol.old).held) }
     ensures again { V.told → (F : Map) → stands (V.state vol.old).held ≡ Ok F → StandsFor F (V.state vol.new).held }
     ensures others { V.told → (F : Map) (ns : List Note) → stands (V.state vol.old).held ≡ Ok F → noted (V.state vol.old).held ≡ Ok ns → (q : List ℕ) → is_inside q ≡ false → note_of ns q ≡ None → get (V.state vol.new).held q ≡ get F q }
     ensures unread { V.told → NothingDirty (V.state vol.old) → (bad : List ℕ) → stands (V.state vol.old).held ≡ Err bad → GoesOn (V.state vol.old) (V.state vol.new) (λ d. d ≡ (V.state vol.old).held) }

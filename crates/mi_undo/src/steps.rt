@@ -4,7 +4,7 @@ ghost use Rattle.std.specs.Prelude.{◌≡◌, ◌≢◌, ◌⊎◌, ◌≤◌, 
 ghost use Rattle.std.specs.FinMap.{get, insert};
 ghost use Rattle.mi_volume.specs.Maps.{HoldsByte, Fits, Exceeds, size, bytes_or_none};
 ghost use Rattle.mi_volume.specs.State.{Passes, Rose, Stays};
-ghost use Rattle.mi_undo.specs.Steps.{Adds, Seals, SealsByte, IsWithin};
+ghost use Rattle.mi_undo.specs.Steps.{HoldsNoMore, Adds, Seals, SealsByte, IsWithin};
 
 use crate::fault::OpFault;
 use mi_text::Name;
@@ -20,6 +20,7 @@ pub(crate) fn put_synced<V: Volume>(
 ) -> Result<(), OpFault>
     requires { length bytes.now ≤ PIECE }
     ensures seals { V.told → Seals name.now bytes.now (V.state vol.old) (V.state vol.new) result }
+    ensures most { V.told → HoldsNoMore name.now (length bytes.now) (V.state vol.old) (V.state vol.new) }
     ensures passes { Passes (V.state vol.old) (V.state vol.new) }
     ensures fault { IsErrOf result OpFault.Fault → Rose (V.state vol.old) (V.state vol.new) }
     ensures stays { V.told → IsErrOf result OpFault.NoMemory ⊎ IsErrOf result OpFault.Full → Stays (V.state vol.old) (V.state vol.new) }

@@ -1,7 +1,7 @@
 use Rattle.std.proofs.Common.{ℕ, List, refl, sym, ap, subst, ◌∙◌}
 use Rattle.mi_undo.specs.Area.{AreOutside, Knows, place_names}
 use Rattle.mi_undo.specs.declared.kept.Place.{Place}
-use Rattle.mi_undo.proofs.BeginLemmas.{opens}
+use Rattle.mi_undo.proofs.BeginLemmas.{opens, begin_room}
 use Rattle.mi_undo.proofs.area.begin.Goals as goal
 
 pub returns-in-Ok-clause-fresh : goal.returns-in-Ok-clause-fresh
@@ -23,3 +23,11 @@ pub returns-in-Err-clause-declines : goal.returns-in-Err-clause-declines
 returns-in-Err-clause-declines g c = λ told.
     let begins = c.begin_area.ensures.begins told in
     record { goes = begins.goes; leaves = begins.leaves; outside = begins.outside; free = c.in-Err.ensures.free told }
+
+pub returns-in-Ok-clause-room : goal.returns-in-Ok-clause-room
+returns-in-Ok-clause-room g c = λ told.
+    let s = g.V.Volume.state c.args.vol.now in let t = g.V.Volume.state c.begin_area.new.vol in
+    record { takes = (c.in-Ok.ensures.begins told).takes; goes = λ fits. begin_room s t (c.begin_area.ensures.begins told).unnoted }
+
+pub returns-in-Err-clause-room_declined : goal.returns-in-Err-clause-room_declined
+returns-in-Err-clause-room_declined g c = λ told. begin_room (g.V.Volume.state c.args.vol.now) (g.V.Volume.state c.begin_area.new.vol) (c.begin_area.ensures.begins told).unnoted

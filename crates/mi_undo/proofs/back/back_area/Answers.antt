@@ -4,7 +4,7 @@ use Rattle.mi_undo.specs.Area.{notes_in}
 use Rattle.mi_undo.specs.declared.fault.BackFault.TheVariants as back
 use Rattle.mi_undo.proofs.FaultLemmas.{on_err, back_was_full}
 use Rattle.mi_undo.proofs.OverLemmas.{stuck_exceeds, area_within_all, fits_less}
-use Rattle.mi_undo.proofs.PutLemmas.{not_gone, byte_after, area_after, area_within, gone_back}
+use Rattle.mi_undo.proofs.PutLemmas.{not_gone, byte_after, area_after, area_within, gone_back, put_room, back_room}
 use Rattle.mi_undo.proofs.back.back_area.Goals as goal
 
 pub shut_area-requires : goal.shut_area-requires
@@ -40,3 +40,16 @@ returns-clause-back g c = λ told F can.
     gone_back s c.args.kept.now F can t c.put_back.result puts c.put_back.ensures.passes u c.shut_area.result
     (c.shut_area.ensures.shuts told F can.notes puts.keeps done.clean done.back can.marker (area_within s c.args.kept.now F can t) (area_after s c.args.kept.now F can t c.put_back.result puts))
     (λ fails. on_err _ c.shut_area.result fails c.shut_area.ensures.fault)
+
+pub returns-in-Err-clause-room : goal.returns-in-Err-clause-room
+returns-in-Err-clause-room g c = λ told F n can takes.
+    let s = g.V.Volume.state c.args.vol.now in let t = g.V.Volume.state c.put_back.new.vol in
+    put_room s c.args.kept.now F can t n takes.left c.put_back.result (c.put_back.ensures.back told F can.notes (ap (notes_in s.held) c.deref.ensures.value ∙ can.placed) can.keeps can.are_new)
+
+pub returns-clause-room : goal.returns-clause-room
+returns-clause-room g c = λ told F n can takes.
+    let s = g.V.Volume.state c.args.vol.now in let t = g.V.Volume.state c.put_back.new.vol in let u = g.V.Volume.state c.shut_area.new.vol in
+    let puts = c.put_back.ensures.back told F can.notes (ap (notes_in s.held) c.deref.ensures.value ∙ can.placed) can.keeps can.are_new in
+    let done = c.in_default.ensures.back told F can.notes (ap (notes_in s.held) c.deref.ensures.value ∙ can.placed) can.keeps can.are_new in
+    back_room s c.args.kept.now F can t n takes.left c.put_back.result puts u c.shut_area.result
+    (c.shut_area.ensures.shuts told F can.notes puts.keeps done.clean done.back can.marker (area_within s c.args.kept.now F can t) (area_after s c.args.kept.now F can t c.put_back.result puts))

@@ -24,7 +24,7 @@ returns-in_err-return_all-clause-back g c = λ told F ns is keeps new.
     let removed = subst (λ (l : List Note). Removed s t F l c.remove_all.result) is (c.remove_all.ensures.removed told F (subst (λ (l : List Note). Keeps s F l) (sym is) keeps)) in
     let away = no_error _ c.remove_all.result (sym c.if-is_err.ensures.value) removed.ok in
     let returned = c.return_all.ensures.returned told F ns (notes_in_inside s.held t.held c.args.places.now removed.inside ∙ is) removed.keeps new away in
-    half_put s t u F ns c.return_all.result removed.goes removed.inside returned c.from_residual.result c.from_residual.ensures.0
+    half_put s t u F ns c.return_all.result removed.goes removed.inside removed.touches returned c.from_residual.result c.from_residual.ensures.0
 
 pub returns-in_err-return_all-clause-stuck : goal.returns-in_err-return_all-clause-stuck
 returns-in_err-return_all-clause-stuck g c = λ told F ns is keeps new.
@@ -50,7 +50,7 @@ returns-then-is_err-2-clause-back g c = λ told F ns is keeps new.
     let removed = subst (λ (l : List Note). Removed s t F l c.remove_all.result) is (c.remove_all.ensures.removed told F (subst (λ (l : List Note). Keeps s F l) (sym is) keeps)) in
     let away = no_error _ c.remove_all.result (sym c.if-is_err.ensures.value) removed.ok in
     let returned = c.return_all.ensures.returned told F ns (notes_in_inside s.held t.held c.args.places.now removed.inside ∙ is) removed.keeps new away in
-    unsynced_put s t u F ns c.return_all.result removed.goes removed.inside returned v c.sync.ensures.moments (c.sync.ensures.syncs told).stays _ refl
+    unsynced_put s t u F ns c.return_all.result removed.goes removed.inside removed.touches returned v c.sync.ensures.moments (c.sync.ensures.syncs told).stays _ refl
 
 pub returns-clause-back : goal.returns-clause-back
 returns-clause-back g c = λ told F ns is keeps new.
@@ -61,4 +61,4 @@ returns-clause-back g c = λ told F ns is keeps new.
     let returned = c.return_all.ensures.returned told F ns notes removed.keeps new away in
     let back = (c.in_ok-return_all.ensures.returned told F ns notes removed.keeps new away).ok in
     let syncs = c.sync.ensures.syncs told in
-    all_put s t u F ns c.return_all.result removed.goes removed.inside returned v c.sync.ensures.moments syncs.stays tt back (no_error _ c.sync.result (sym c.if-is_err-2.ensures.value) syncs.ok)
+    all_put s t u F ns c.return_all.result removed.goes removed.inside removed.touches returned v c.sync.ensures.moments syncs.stays tt back (no_error _ c.sync.result (sym c.if-is_err-2.ensures.value) syncs.ok)

@@ -5,7 +5,7 @@ use Rattle.mi_undo.specs.Area.{note_in, notes_in}
 use Rattle.mi_undo.specs.Notes.{Note}
 use Rattle.mi_undo.specs.Back.{Returning}
 use Rattle.mi_undo.specs.declared.kept.Place.{Place}
-use Rattle.mi_undo.proofs.BackLemmas.{split_at_place, take_place, note_in_inside, step_goes, step_keeps, step_inside, name_away, name_out, returning_some, all_back}
+use Rattle.mi_undo.proofs.BackLemmas.{split_at_place, take_place, note_in_inside, step_goes, step_keeps, step_inside, step_touches, name_away, name_out, returning_some, all_back}
 use Rattle.mi_undo.proofs.OverLemmas.{take_notes, stuck}
 use Rattle.mi_undo.proofs.back.return_all.Goals as goal
 
@@ -20,6 +20,7 @@ returns-in-Err-clause-returned g c = λ told F ns is keeps new away.
       goes = step_goes s0 s F ns _ _ n split t so_far.goes so_far.keeps puts.only.goes;
       keeps = step_keeps s0 s F ns _ _ n split t so_far.keeps puts.only.others puts.only.dirty;
       inside = step_inside s0 s F ns _ _ n split t so_far.keeps puts.only.others so_far.inside;
+      touches = step_touches s0 s F ns _ _ n split t so_far.touches puts.only.goes puts.only.others puts.only.dirty;
       ok = tt;
     }
 
@@ -58,4 +59,4 @@ pub returns-clause-returned : goal.returns-clause-returned
 returns-clause-returned g c = λ told F ns is keeps new away.
     let s0 = g.V.Volume.state c.args.vol.now in let s = g.V.Volume.state c.loop-at.vol in
     let so_far = subst (λ (l : List Note). Returning s0 s F ns l) (ap (λ (l : List Place). notes_in s0.held l) (take_all c.loop-at.at c.args.places.now c.loop-at-test.false) ∙ is) (c.loop-at.invariant.returning told F ns is keeps new away) in
-    record { goes = so_far.goes; keeps = so_far.keeps; inside = so_far.inside; ok = all_back s0 s F ns so_far }
+    record { goes = so_far.goes; keeps = so_far.keeps; inside = so_far.inside; touches = so_far.touches; ok = all_back s0 s F ns so_far }

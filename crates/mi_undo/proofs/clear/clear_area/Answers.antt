@@ -7,7 +7,7 @@ pub returns-in_err-clear_names-clause-clears : goal.returns-in_err-clear_names-c
 returns-in_err-clear_names-clause-clears g c = λ told A is inside shut all.
     let cleared = c.clear_names.ensures.cleared told A inside shut in
     let t = g.V.Volume.state c.clear_names.new.vol in
-    record { goes = cleared.goes; leaves = shut_image t A cleared.is_shut; stands = shut_held t A cleared.is_shut; outside = shut_outside t A cleared.is_shut; ok = at_err _ c.from_residual.result c.from_residual.ensures.0 }
+    record { goes = cleared.goes; leaves = λ d image. (shut_image t A cleared.is_shut d image).0; stands = shut_held t A cleared.is_shut; outside = shut_outside t A cleared.is_shut; ok = at_err _ c.from_residual.result c.from_residual.ensures.0 }
 
 pub returns-clause-clears : goal.returns-clause-clears
 returns-clause-clears g c = λ told A is inside shut all.

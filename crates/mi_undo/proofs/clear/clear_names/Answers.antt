@@ -2,8 +2,7 @@ use Rattle.std.proofs.Common.{ℕ, List, sym, subst}
 use Rattle.std.proofs.lemmas.List.{take_all}
 use Rattle.std.proofs.lemmas.Result.{err_from_is_err_and}
 use Rattle.mi_volume.proofs.Moments.{passes, then_passes, joined, weaker}
-use Rattle.mi_undo.specs.Stands.{StandsFor}
-use Rattle.mi_undo.specs.Clear.{Clearing}
+use Rattle.mi_undo.specs.Clear.{StandsPlainly, Clearing}
 use Rattle.mi_undo.proofs.ClearLemmas.{inside_at, shut_image_of, shut_kept, clearing_step, take_name}
 use Rattle.mi_undo.proofs.clear.clear_names.Goals as goal
 
@@ -14,7 +13,7 @@ returns-in_err-remove-clause-cleared g c = λ told A inside shut.
     let removes = c.remove.ensures.removes told in
     let p = err_from_is_err_and c.from_residual.result c.from_residual.ensures.1 in
     record {
-      goes = joined _ _ _ (StandsFor A) so_far.goes (weaker _ _ _ (StandsFor A) (shut_image_of _ A _ so_far.is_shut here.0 here.1) c.remove.ensures.moments);
+      goes = joined _ _ _ (StandsPlainly A) so_far.goes (weaker _ _ _ (StandsPlainly A) (shut_image_of _ A _ so_far.is_shut here.0 here.1) c.remove.ensures.moments);
       is_shut = shut_kept _ _ A _ so_far.is_shut here.0 here.1 removes.others removes.dirty;
       away = rw (p.1) tt;
       still = rw (p.1) tt;

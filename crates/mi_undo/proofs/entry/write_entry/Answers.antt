@@ -1,12 +1,13 @@
-use Rattle.std.proofs.Common.{◌+◌, ◌≤◌, List, ◌∷◌, ◌++◌, [], Err, length, take, map, sym, ap, subst}
+use Rattle.std.proofs.Common.{ℕ, ◌+◌, ◌≤◌, List, ◌∷◌, ◌++◌, [], Err, length, take, map, sym, ap, subst}
+use Rattle.std.proofs.lemmas.List.{take_all}
 use Rattle.mi_volume.proofs.Moments.{passes, then_passes}
 use Rattle.mi_undo.specs.Notes.{Note, notes_for, spelled}
 use Rattle.mi_undo.specs.Entry.{note_for}
 use Rattle.mi_undo.specs.declared.kept.Place.{Place}
 use Rattle.mi_undo.proofs.FaultLemmas.{at_err, value_at_err, full_was, memory_not_full}
 use Rattle.mi_undo.proofs.StepLemmas.{only_then}
-use Rattle.mi_undo.proofs.AddLemmas.{adds_failed}
-use Rattle.mi_undo.proofs.EntrySteps.{Begun, begun, first_failed, notes_for-take, prefix_shorter, outside_at, apart, names_pushed, before_note, note_failed, note_more}
+use Rattle.mi_undo.proofs.AddLemmas.{adds_failed, adds_added}
+use Rattle.mi_undo.proofs.EntrySteps.{Begun, begun, first_failed, notes_for-take, prefix_shorter, outside_at, apart, names_pushed, before_note, note_failed, note_more, note_most}
 use Rattle.mi_undo.proofs.entry.write_entry.Goals as goal
 
 pub returns-in_err-put-clause-writes : goal.returns-in_err-put-clause-writes
@@ -49,8 +50,13 @@ returns-in_err-push-clause-writes g c = λ told inside out.
     let s = g.V.Volume.state c.args.vol.now in
     let before = before_note s (g.V.Volume.state c.loop-name.vol) (g.V.Volume.state c.write_note.new.vol) c.args.entry.now c.name-item.result _ _ _ _ far ne in
     let r = c.from_residual-in_err-push in
+    let next = notes_for-take s.held c.args.names.now c.loop-name.name-index c.name-item.result c.loop-name-test.true c.name-item.is in
+    let more = note_more s (g.V.Volume.state c.loop-name.vol) (g.V.Volume.state c.write_note.new.vol) c.args.entry.now c.name-item.result _ _ _ _ far ne _ (c.in_ok-place.ensures.writes told ne _ before) c.in_ok-place.ensures.length in
+    let le : length (spelled (notes_for s.held (take c.loop-name.name-index c.args.names.now) ++ note_for s.held c.name-item.result ∷ [])) ≤ length (spelled (notes_for s.held c.args.names.now)) =
+    subst (λ (l : List Note). length (spelled l) ≤ length (spelled (notes_for s.held c.args.names.now))) next (prefix_shorter s.held c.args.names.now (c.loop-name.name-index + 1)) in
+    let most = note_most s (g.V.Volume.state c.write_note.new.vol) c.args.entry.now _ (spelled (notes_for s.held c.args.names.now)) more.added.held le in
     record {
-      adds = adds_failed s (g.V.Volume.state c.write_note.new.vol) c.args.entry.now [] _ r.result (only_then _ _ _ _ far.added.only (c.in_ok-place.ensures.writes told ne _ before).adds.only) r.ensures.0 (memory_not_full r.result r.ensures.1);
+      adds = adds_failed s (g.V.Volume.state c.write_note.new.vol) c.args.entry.now [] _ r.result (only_then _ _ _ _ far.added.only (c.in_ok-place.ensures.writes told ne _ before).adds.only) most r.ensures.0 (memory_not_full r.result r.ensures.1);
       places = value_at_err r.result _ r.ensures.0;
       fit = at_err _ r.result r.ensures.0;
     }
@@ -69,3 +75,9 @@ loop-name-preserved g c = record {
       subst (λ (l : List Note). Begun c.args.entry.now c.args.number l s (g.V.Volume.state c.write_note.new.vol) c.push.new.self.items c.in_ok-place.end) (sym next)
       (subst (λ (l : List Place). Begun c.args.entry.now c.args.number (notes_for s.held (take c.loop-name.name-index c.args.names.now) ++ note_for s.held c.name-item.result ∷ []) s (g.V.Volume.state c.write_note.new.vol) l c.in_ok-place.end) (sym c.in_ok-push.ensures.items) more);
 }
+
+pub returns-clause-writes : goal.returns-clause-writes
+returns-clause-writes g c = λ told inside out.
+    let s = g.V.Volume.state c.args.vol.now in let t = g.V.Volume.state c.loop-name.vol in
+    let far = subst (λ (l : List (List ℕ)). Begun c.args.entry.now c.args.number (notes_for s.held l) s t c.loop-name.places.items c.loop-name.at) (take_all c.loop-name.name-index c.args.names.now c.loop-name-test.false) (c.loop-name.invariant.begun told inside out) in
+    record { adds = adds_added s t c.args.entry.now [] _ c.loop-name.places far.added; places = far.places_are; fit = far.fit }

@@ -9,6 +9,8 @@ use Rattle.mi_undo.proofs.EnterLemmas.{adds_nothing}
 use Rattle.mi_undo.specs.Entry.{AreGood}
 use Rattle.mi_undo.proofs.FreshLemmas.{good_outside, nothing_new, one_entry, some_new, fresh_are_new, knows_same}
 use Rattle.mi_undo.proofs.AreaLemmas.{unwritten, noted_before}
+use Rattle.mi_undo.specs.Room.{KeepsRoom, entry_size}
+use Rattle.mi_undo.proofs.AreaRoom.{room_start, some_size}
 use Rattle.mi_undo.proofs.note.note_names.Goals as goal
 
 pub note_fresh-requires : goal.note_fresh-requires
@@ -55,7 +57,7 @@ returns-clause-notes g c = λ told F w.
     (fresh_are_new (g.V.Volume.state c.args.vol.now).held c.args.kept.now.places.items c.args.names.now c.as_slice-fresh.result.now are (subst AreGood (sym c.as_slice-fresh.ensures.value) c.in_ok-fresh.ensures.good))
 
 pub returns-in_err-fresh-clause-adds : goal.returns-in_err-fresh-clause-adds
-returns-in_err-fresh-clause-adds g c = λ told F w some. adds_nothing _ (g.V.Volume.state c.args.vol.now) (g.V.Volume.state c.args.vol.now) _ c.from_residual.ensures.0 (memory_not_full _ c.from_residual.ensures.1)
+returns-in_err-fresh-clause-adds g c = λ told F w some. adds_nothing _ (g.V.Volume.state c.args.vol.now) (g.V.Volume.state c.args.vol.now) _ (omega arith) c.from_residual.ensures.0 (memory_not_full _ c.from_residual.ensures.1)
 
 pub returns-then-is_empty-clause-adds : goal.returns-then-is_empty-clause-adds
 returns-then-is_empty-clause-adds g c = λ told F w some.
@@ -94,3 +96,19 @@ returns-clause-adds g c = λ told F w some.
     subst (λ (l : List (List ℕ)). AddsBytes (25 + length (spelled (notes_for s.held l))) s (g.V.Volume.state c.note_fresh.new.vol) c.note_fresh.result) are
     (c.note_fresh.ensures.adds told F (record { parts = w.parts; is_open = w.is_open; placed = w.placed; numbers = w.numbers; entries = w.entries; area = w.area; marker = w.marker })
     (fresh_are_new s.held c.args.kept.now.places.items c.args.names.now c.as_slice-fresh.result.now are (subst AreGood (sym c.as_slice-fresh.ensures.value) c.in_ok-fresh.ensures.good)))
+
+pub returns-in_err-fresh-clause-room : goal.returns-in_err-fresh-clause-room
+returns-in_err-fresh-clause-room g c = λ told F n w takes. room_start (g.V.Volume.state c.args.vol.now) F n _ takes (omega arith)
+
+pub returns-then-is_empty-clause-room : goal.returns-then-is_empty-clause-room
+returns-then-is_empty-clause-room g c = λ told F n w takes. room_start (g.V.Volume.state c.args.vol.now) F n _ takes (omega arith)
+
+pub returns-clause-room : goal.returns-clause-room
+returns-clause-room g c = λ told F n w takes.
+    let s = g.V.Volume.state c.args.vol.now in
+    let known = place_names c.args.kept.now.places.items in
+    let are = c.as_slice-fresh.ensures.value ∙ c.in_ok-fresh.ensures.fresh known c.requires.knows in
+    subst (λ (l : List (List ℕ)). KeepsRoom s (g.V.Volume.state c.note_fresh.new.vol) F (n + entry_size (notes_for s.held l))) are
+    (subst (λ (k : ℕ). KeepsRoom s (g.V.Volume.state c.note_fresh.new.vol) F (n + k)) (sym (some_size s.held c.as_slice-fresh.result.now c.if-is_empty.ensures))
+    (c.note_fresh.ensures.room told F n (record { parts = w.parts; is_open = w.is_open; placed = w.placed; numbers = w.numbers; entries = w.entries; area = w.area; marker = w.marker })
+    (fresh_are_new s.held c.args.kept.now.places.items c.args.names.now c.as_slice-fresh.result.now are (subst AreGood (sym c.as_slice-fresh.ensures.value) c.in_ok-fresh.ensures.good)) takes))

@@ -5,7 +5,7 @@ use Rattle.mi_undo.specs.Stands.{StandsFor, put_over, outside}
 use Rattle.mi_undo.specs.Area.{notes_in}
 use Rattle.mi_undo.proofs.StepLemmas.{within_stays}
 use Rattle.mi_undo.proofs.FaultLemmas.{at_err}
-use Rattle.mi_undo.proofs.SettleSteps.{stands_read, stands_bad, not_both_read, settled_undone, looked_goes, looked_stands, settles_looked, settles_undone, settles_cleared, bad_handed, full_handed}
+use Rattle.mi_undo.proofs.SettleSteps.{stands_read, stands_bad, not_both_read, settled_undone, looked_goes, looked_stands, settles_looked, settles_undone, settles_cleared, short_after, bad_handed, full_handed}
 use Rattle.mi_undo.proofs.ShortLemmas.{short_same}
 use Rattle.mi_undo.proofs.settling.settle_open.Goals as goal
 
@@ -44,7 +44,7 @@ returns-in_err-clear_rest-clause-settles g c = λ told F sf.
     let looks = c.read_area.ensures.looks told in let clean = c.requires.clean told in let marked = c.requires.marked told in let reads = c.in_ok-places.ensures.reads told in
     let u = g.V.Volume.state c.undo_read.new.vol in
     let undoes = c.in_ok-undo_read.ensures.undoes told F (looked_stands s t F clean sf looks) in
-    settles_cleared s u (g.V.Volume.state c.clear_rest.new.vol) F c.clear_rest.result c.from_residual-in_err-clear_rest.result (joined s t u (StandsFor F) (looked_goes s t F clean sf looks) undoes.goes)
+    settles_cleared s u (g.V.Volume.state c.clear_rest.new.vol) F c.clear_rest.result c.from_residual-in_err-clear_rest.result (joined s t u (StandsFor F) (looked_goes s t F clean sf looks) undoes.goes) (short_after s t u clean looks undoes.short)
     (c.clear_rest.ensures.clears told F c.requires.name undoes.ok) (at_err _ c.from_residual-in_err-clear_rest.result c.from_residual-in_err-clear_rest.ensures.0)
 
 pub returns-in_err-clear_rest-clause-unread : goal.returns-in_err-clear_rest-clause-unread
@@ -72,7 +72,7 @@ returns-clause-settles g c = λ told F sf.
     let looks = c.read_area.ensures.looks told in let clean = c.requires.clean told in let marked = c.requires.marked told in let reads = c.in_ok-places.ensures.reads told in
     let u = g.V.Volume.state c.undo_read.new.vol in
     let undoes = c.in_ok-undo_read.ensures.undoes told F (looked_stands s t F clean sf looks) in
-    settles_cleared s u (g.V.Volume.state c.clear_rest.new.vol) F _ _ (joined s t u (StandsFor F) (looked_goes s t F clean sf looks) undoes.goes)
+    settles_cleared s u (g.V.Volume.state c.clear_rest.new.vol) F _ _ (joined s t u (StandsFor F) (looked_goes s t F clean sf looks) undoes.goes) (short_after s t u clean looks undoes.short)
     (c.in_ok-clear_rest.ensures.clears told F c.requires.name undoes.ok) (λ ok. ok)
 
 pub returns-clause-unread : goal.returns-clause-unread

@@ -2,9 +2,10 @@ use Rattle.std.proofs.Common.{ℕ, Option, IsSome, false, OnOk, sym, subst}
 use Rattle.mi_volume.specs.Maps.{Map}
 use Rattle.mi_undo.specs.Stands.{StandsFor, outside}
 use Rattle.mi_undo.proofs.FaultLemmas.{at_err}
-use Rattle.mi_undo.proofs.SettleSteps.{stands_shut, not_both_read, settled_clean, looked_goes, looked_stands, settles_looked, settles_after, settles_cleared, at_marker, shut_looked, full_weaker}
+use Rattle.mi_undo.proofs.SettleSteps.{stands_shut, not_both_read, settled_clean, looked_goes, looked_short, looked_stands, settles_looked, settles_after, settles_cleared, at_marker, shut_looked, full_weaker}
 use Rattle.mi_undo.proofs.StepLemmas.{within_stays}
-use Rattle.mi_undo.proofs.ShortLemmas.{short_same, shut_not_short}
+use Rattle.mi_undo.proofs.ShortLemmas.{short_same}
+use Rattle.mi_undo.proofs.SumLemmas.{shut_not_short}
 use Rattle.mi_undo.proofs.settling.settle_synced.Goals as goal
 
 pub returns-in_err-is_open-clause-settles : goal.returns-in_err-is_open-clause-settles
@@ -28,7 +29,7 @@ returns-in_err-clear_rest-clause-settles g c = λ told F sf.
     let s = g.V.Volume.state c.args.vol.now in let t = g.V.Volume.state c.is_open.new.vol in
     let looks = c.is_open.ensures.looks told in let clean = c.requires.clean told in
     let shut = at_marker s.held c.args.marker_name.now c.in_ok-is_open.field-0 false (c.in_ok-is_open.ensures.value told) c.requires.name c.if-branch.false in
-    settles_cleared s t (g.V.Volume.state c.clear_rest.new.vol) F c.clear_rest.result c.from_residual-in_err-clear_rest.result (looked_goes s t F clean sf looks)
+    settles_cleared s t (g.V.Volume.state c.clear_rest.new.vol) F c.clear_rest.result c.from_residual-in_err-clear_rest.result (looked_goes s t F clean sf looks) (looked_short s t clean looks)
     (c.clear_rest.ensures.clears told F c.requires.name (shut_looked s t F clean sf looks shut)) (at_err _ c.from_residual-in_err-clear_rest.result c.from_residual-in_err-clear_rest.ensures.0)
 
 pub returns-in_err-clear_rest-clause-unread : goal.returns-in_err-clear_rest-clause-unread
@@ -57,7 +58,7 @@ returns-clause-settles g c = λ told F sf.
     let s = g.V.Volume.state c.args.vol.now in let t = g.V.Volume.state c.is_open.new.vol in
     let looks = c.is_open.ensures.looks told in let clean = c.requires.clean told in
     let shut = at_marker s.held c.args.marker_name.now c.in_ok-is_open.field-0 false (c.in_ok-is_open.ensures.value told) c.requires.name c.if-branch.false in
-    settles_cleared s t (g.V.Volume.state c.clear_rest.new.vol) F _ _ (looked_goes s t F clean sf looks) (c.in_ok-clear_rest.ensures.clears told F c.requires.name (shut_looked s t F clean sf looks shut)) (λ ok. ok)
+    settles_cleared s t (g.V.Volume.state c.clear_rest.new.vol) F _ _ (looked_goes s t F clean sf looks) (looked_short s t clean looks) (c.in_ok-clear_rest.ensures.clears told F c.requires.name (shut_looked s t F clean sf looks shut)) (λ ok. ok)
 
 pub returns-clause-unread : goal.returns-clause-unread
 returns-clause-unread g c = λ told bad refused.

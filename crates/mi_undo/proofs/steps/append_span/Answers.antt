@@ -1,11 +1,11 @@
-use Rattle.std.proofs.Common.{◌≡◌, ℕ, ◌-◌, List, ◌++◌, Err, length, take, drop, refl, sym, ap, subst, ◌∙◌, arith}
+use Rattle.std.proofs.Common.{◌≡◌, ℕ, ◌-◌, List, ◌++◌, Err, length, length-append, take, drop, refl, sym, ap, subst, ◌∙◌, arith}
 use Rattle.std.proofs.lemmas.Bool.{eqb-true}
 use Rattle.std.specs.FinMap.{get, insert}
 use Rattle.mi_volume.specs.Maps.{bytes_or_none}
 use Rattle.mi_volume.proofs.Moments.{passes, then_passes}
 use Rattle.mi_undo.proofs.FaultLemmas.{at_err, full_was, never_full}
-use Rattle.mi_undo.proofs.StepLemmas.{only_looks, only_then, within_stays, within_put}
-use Rattle.mi_undo.proofs.SpanLemmas.{Added, added_start, more_read, piece_added, piece_fails, run_whole, run_ended}
+use Rattle.mi_undo.proofs.StepLemmas.{only_looks, only_then, within_stays, within_put, no_more_held, no_more_longer}
+use Rattle.mi_undo.proofs.SpanLemmas.{Added, added_start, more_read, piece_added, piece_fails, run_longer, run_whole, run_ended}
 use Rattle.mi_undo.proofs.steps.append_span.Goals as goal
 
 pub loop-at-init : goal.loop-at-init
@@ -32,6 +32,10 @@ returns-then-is_empty-clause-adds g c = λ told other before is.
       only = only_then _ (g.V.Volume.state c.loop-at.vol) _ _ added.only (only_looks _ _ _ c.read.ensures.moments stays);
       ok = stays.held ∙ added.held ∙ ap (λ (l : List ℕ). insert (g.V.Volume.state c.args.vol.now).held c.args.to.now (before ++ l))
           (run_ended bytes c.args.at c.loop-at.at c.min-want.result c.args.end c.loop-at.invariant.low (omega (arith, c.loop-at-test.true)) (omega (arith, c.min-want.ensures, c.loop-at-test.true)) nothing);
+      most = no_more_longer (g.V.Volume.state c.args.vol.now) (g.V.Volume.state c.read.new.self) c.args.to.now _ _
+          (let longer = run_longer (drop c.args.at bytes) (c.loop-at.at - c.args.at) (c.args.end - c.args.at) (omega (arith, c.loop-at-test.true)) in
+          omega (arith, longer, length-append before (take (c.loop-at.at - c.args.at) (drop c.args.at bytes)), length-append before (take (c.args.end - c.args.at) (drop c.args.at bytes))))
+          (no_more_held (g.V.Volume.state c.args.vol.now) (g.V.Volume.state c.read.new.self) c.args.to.now (before ++ take (c.loop-at.at - c.args.at) (drop c.args.at bytes)) (stays.held ∙ added.held));
       full = λ full. absurd (cc);
     }
 
@@ -44,6 +48,12 @@ returns-in_err-bytes-clause-adds g c = λ told other before is.
     record {
       only = only_then _ (g.V.Volume.state c.loop-at.vol) _ _ added.only (only_looks _ _ _ c.read.ensures.moments (c.read.ensures.stays told));
       ok = at_err _ c.from_residual.result c.from_residual.ensures.0;
+      most =
+          let bytes = bytes_or_none (get (g.V.Volume.state c.args.vol.now).held c.args.from.now) in
+          no_more_longer (g.V.Volume.state c.args.vol.now) (g.V.Volume.state c.read.new.self) c.args.to.now _ _
+          (let longer = run_longer (drop c.args.at bytes) (c.loop-at.at - c.args.at) (c.args.end - c.args.at) (omega (arith, c.loop-at-test.true)) in
+          omega (arith, longer, length-append before (take (c.loop-at.at - c.args.at) (drop c.args.at bytes)), length-append before (take (c.args.end - c.args.at) (drop c.args.at bytes))))
+          (no_more_held (g.V.Volume.state c.args.vol.now) (g.V.Volume.state c.read.new.self) c.args.to.now (before ++ take (c.loop-at.at - c.args.at) (drop c.args.at bytes)) ((c.read.ensures.stays told).held ∙ added.held));
       full = λ full. absurd (never_full c.from_residual.result c.in_err-bytes.field-0.0 c.from_residual.ensures.1 full);
     }
 
@@ -71,8 +81,10 @@ loop-at-preserved g c = record {
 pub returns-clause-adds : goal.returns-clause-adds
 returns-clause-adds g c = λ told other before is.
     let added = c.loop-at.invariant.added told other before is in
+    let whole = added.held ∙ run_whole _ _ _ _ _ c.loop-at.invariant.low c.loop-at.invariant.high c.loop-at-test.false in
     record {
       only = added.only;
-      ok = added.held ∙ run_whole _ _ _ _ _ c.loop-at.invariant.low c.loop-at.invariant.high c.loop-at-test.false;
+      ok = whole;
+      most = no_more_held (g.V.Volume.state c.args.vol.now) (g.V.Volume.state c.loop-at.vol) c.args.to.now _ whole;
       full = λ full. absurd (cc);
     }

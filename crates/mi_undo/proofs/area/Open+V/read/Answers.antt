@@ -1,6 +1,7 @@
 use Rattle.mi_volume.specs.State.{Images}
 use Rattle.mi_volume.proofs.Moments.{weaker}
 use Rattle.mi_undo.specs.Stands.{StandsFor}
+use Rattle.mi_undo.proofs.AreaRoom.{room_looked}
 use Rattle.mi_undo.proofs.CommitLemmas.{works_stays, works_image, go_back_stays}
 use Rattle.mi_undo.proofs.area.Open+V.read.Goals as goal
 
@@ -12,3 +13,6 @@ returns-clause-works g c = λ told F w. record {
 
 pub returns-clause-can_go_back : goal.returns-clause-can_go_back
 returns-clause-can_go_back g c = λ told F can. go_back_stays (g.V.Volume.state c.args.self.now.vol.now) (g.V.Volume.state c.read.new.self) _ F can (c.read.ensures.stays told)
+
+pub returns-clause-room : goal.returns-clause-room
+returns-clause-room g c = λ told F n can takes. room_looked (g.V.Volume.state c.args.self.now.vol.now) (g.V.Volume.state c.read.new.self) _ F n can c.read.ensures.moments (c.read.ensures.stays told) takes
