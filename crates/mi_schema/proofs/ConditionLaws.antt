@@ -1,7 +1,8 @@
 -- Each text is a condition or has its one place, and which of the two the definition says.
-use Rattle.std.proofs.Common.{◌≡◌, ℕ, List, Some, None, Result, Ok, Err, sym, ap}
+use Rattle.std.proofs.Common.{◌≡◌, ℕ, ◌≤◌, List, Some, None, Result, Ok, Err, sym, ap, subst, ◌∙◌, arith}
+use Rattle.std.specs.Prelude.{◌↔◌}
 use Rattle.mi_cond.specs.Tree.{Tree}
-use Rattle.mi_cond.specs.Place.{IsPlace, IsConditionFault}
+use Rattle.mi_cond.specs.Place.{IsRead, IsPlace, IsConditionFault}
 use Rattle.mi_cond.specs.declared.error.CondFault.{CondFault}
 use Rattle.mi_cond.specs.declared.error.CondFault.TheVariants.{Syntax, TooDeep}
 use Rattle.mi_cond.specs.Answer as answer
@@ -23,6 +24,24 @@ is_placed (Err f) text is = is_place f text is
 pub conditions_are : (text : List ℕ) → IsCondition (condition_of text) text
 unfolding condition_of
 conditions_are text = is_placed (answer.condition_of text) text (answer_is text)
+
+-- and they are those that the grammar gives, and no others
+is_the_tree : (r : Result Tree ℕ) (text : List ℕ) (tree : Tree) → IsCondition r text → IsRead text tree → r ≡ Ok tree
+is_the_tree (Ok t) text tree is read = ap Ok (read.only 64 t is.reads)
+is_the_tree (Err place) text tree is read = absurd (is.none tree read.reads)
+
+is_the_place : (r : Result Tree ℕ) (text : List ℕ) (place : ℕ) → IsCondition r text → IsPlace text place → r ≡ Err place
+is_the_place (Ok t) text place is at = absurd (at.none t is.reads)
+is_the_place (Err p) text place is at =
+    let below : p ≤ place = at.longest p is.in_text is.begins in
+    let above : place ≤ p = is.longest place at.in_text at.begins in
+    ap Err (let same : p ≡ place = omega (arith, below, above) in same)
+
+pub reads_exactly : (text : List ℕ) (tree : Tree) → (condition_of text ≡ Ok tree) ↔ IsRead text tree
+reads_exactly text tree = (λ e. subst (λ (r : Result Tree ℕ). IsCondition r text) e (conditions_are text), is_the_tree (condition_of text) text tree (conditions_are text))
+
+pub stops_exactly : (text : List ℕ) (place : ℕ) → (condition_of text ≡ Err place) ↔ IsPlace text place
+stops_exactly text place = (λ e. subst (λ (r : Result Tree ℕ). IsCondition r text) e (conditions_are text), is_the_place (condition_of text) text place (conditions_are text))
 
 -- a text that reads as a tree
 condition_read : (text : List ℕ) (t : Tree) → answer.condition_of text ≡ Ok t → condition_of text ≡ Ok t

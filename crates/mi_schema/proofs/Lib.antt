@@ -14,8 +14,10 @@ pub mod NumberLaws
 pub mod PackageLaws
 pub mod PlaceLemmas
 pub mod ReferenceLaws
+pub mod RowLaws
 pub mod RowLemmas
 pub mod RowsLemmas
+pub mod SizeLaws
 pub mod SuitLemmas
 pub mod TableLemmas
 pub mod TopLemmas

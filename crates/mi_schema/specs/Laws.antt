@@ -1,14 +1,16 @@
 -- What holds of every lawful package, for those who read it. (Database Tables.)
-use Rattle.std.specs.Prelude.{◌≡◌, ◌≢◌, ◌⊎◌, ℕ, ℤ, zero, suc, pos, negsuc, ◌≤◌, ◌≤ℤ◌, ◌==◌, ◌/◌, ◌%◌, not, Bool, true, false, List, [], length, find, unwrap_or, codes, bit_and, Option, Some, None, is_some, IfSome, if◌then◌else◌, All, AllPairs, Contains}
+use Rattle.std.specs.Prelude.{◌≡◌, ◌≢◌, ◌⊎◌, ℕ, ℤ, zero, suc, pos, negsuc, ◌≤◌, ◌≤ℤ◌, ◌==◌, ◌/◌, ◌%◌, not, Bool, true, false, List, [], ◌∷◌, length, find, unwrap_or, codes, bit_and, Option, Some, None, is_some, IfSome, if◌then◌else◌, All, AllPairs, Contains}
 use Rattle.std.specs.Map.{keys_of}
 use Rattle.std.specs.Ordering.{int_eq}
-use Rattle.mi_text.specs.FileNames.{is_file_name, is_file_pattern, is_default_dir}
+use Rattle.mi_text.specs.FileNames.{is_file_name, is_file_pattern, is_default_dir, short_name, long_name, target_part, source_part, is_pattern_part}
+use Rattle.mi_text.specs.Path.{is_part}
 use Rattle.mi_text.specs.Maps.{Name}
 use Rattle.mi_text.specs.PropertyNames.{is_property_name}
 use Rattle.mi_text.specs.Version.{version_of}
 use Rattle.mi_text.specs.declared.guid.Guid.{Guid}
 use Rattle.mi_idt.specs.Fields.{number_on}
 use Rattle.mi_cond.specs.Place.{IsRead}
+use Rattle.mi_cond.specs.Tree.{Tree}
 use Rattle.mi_schema.specs.declared.package.Package.{Package}
 use Rattle.mi_schema.specs.declared.typed_rows.ComponentRow.{ComponentRow}
 use Rattle.mi_schema.specs.declared.typed_rows.DirectoryRow.{DirectoryRow}
@@ -111,6 +113,71 @@ pub record TablesSmall (p : Package) : Type 0 where
   pub shortcut : AreFew p.shortcut.entries
   pub summary_information : AreFew p.summary_information.entries
   pub upgrade : AreFew p.upgrade.entries
+
+-- a text has at most the bytes of a table, 16,777,216
+abbrev pub IsShort : List ℕ → Type 0
+IsShort text = length text ≤ 16777216
+
+abbrev pub AreShort : List (Option (List ℕ)) → Type 0
+AreShort [] = Unit {0}
+AreShort (o ∷ os) = IfSome o IsShort × AreShort os
+
+-- every text of a row is short
+pub record TextsShort (p : Package) : Type 0 where
+  pub component : EachRow p.component.entries (λ r. AreShort (Some r.component ∷ Some r.directory ∷ r.key_path ∷ []))
+  pub condition : EachRow p.condition.entries (λ r. AreShort (Some r.feature ∷ []))
+  pub create_folder : EachRow p.create_folder.entries (λ r. AreShort (Some r.directory ∷ Some r.component ∷ []))
+  pub custom_action : EachRow p.custom_action.entries (λ r. AreShort (Some r.action ∷ r.source ∷ r.target ∷ []))
+  pub directory : EachRow p.directory.entries (λ r. AreShort (Some r.directory ∷ r.directory_parent ∷ Some r.default_dir ∷ []))
+  pub duplicate_file : EachRow p.duplicate_file.entries (λ r. AreShort (Some r.file_key ∷ Some r.component ∷ Some r.file ∷ r.dest_name ∷ r.dest_folder ∷ []))
+  pub environment : EachRow p.environment.entries (λ r. AreShort (Some r.environment ∷ Some r.name ∷ r.value ∷ Some r.component ∷ []))
+  pub feature : EachRow p.feature.entries (λ r. AreShort (Some r.feature ∷ r.feature_parent ∷ r.title ∷ r.description ∷ r.directory ∷ []))
+  pub feature_components : EachRow p.feature_components.entries (λ r. AreShort (Some r.feature ∷ Some r.component ∷ []))
+  pub file : EachRow p.file.entries (λ r. AreShort (Some r.file ∷ Some r.component ∷ Some r.file_name ∷ r.version ∷ r.language ∷ []))
+  pub install_execute_sequence : EachRow p.install_execute_sequence.entries (λ r. AreShort (Some r.action ∷ []))
+  pub launch_condition : EachRow p.launch_condition.entries (λ r. AreShort (Some r.description ∷ []))
+  pub msi_file_hash : EachRow p.msi_file_hash.entries (λ r. AreShort (Some r.file ∷ []))
+  pub property : EachRow p.property.entries (λ r. AreShort (Some r.property ∷ Some r.value ∷ []))
+  pub registry : EachRow p.registry.entries (λ r. AreShort (Some r.registry ∷ Some r.key ∷ r.name ∷ r.value ∷ Some r.component ∷ []))
+  pub remove_file : EachRow p.remove_file.entries (λ r. AreShort (Some r.file_key ∷ Some r.component ∷ r.file_name ∷ Some r.dir_property ∷ []))
+  pub remove_registry : EachRow p.remove_registry.entries (λ r. AreShort (Some r.remove_registry ∷ Some r.key ∷ r.name ∷ Some r.component ∷ []))
+  pub shortcut : EachRow p.shortcut.entries (λ r. AreShort (Some r.shortcut ∷ Some r.directory ∷ Some r.name ∷ Some r.component ∷ Some r.target ∷ r.arguments ∷ r.description ∷ r.icon ∷ r.wk_dir ∷ []))
+  pub summary_information : EachRow p.summary_information.entries (λ r. AreShort (r.value ∷ []))
+  pub upgrade : EachRow p.upgrade.entries (λ r. AreShort (Some r.upgrade_code ∷ r.version_min ∷ r.version_max ∷ r.language ∷ r.remove ∷ Some r.action_property ∷ []))
+  pub launch_condition_key : All (λ e. IsShort e.0) p.launch_condition.entries
+
+-- ---- conditions (Conditional Statement Syntax)
+
+-- the one tree that some short text reads as, by the grammar
+abbrev pub IsOfText : Tree → Type 0
+IsOfText tree = (text : List ℕ) × IsShort text × IsRead text tree
+
+pub record ConditionsStand (p : Package) : Type 0 where
+  pub component : EachRow p.component.entries (λ r. IfSome r.condition IsOfText)
+  pub condition : EachRow p.condition.entries (λ r. IfSome r.condition IsOfText)
+  pub install_execute_sequence : EachRow p.install_execute_sequence.entries (λ r. IfSome r.condition IsOfText)
+  pub launch_condition : All (λ e. IsShort e.0 × IsRead e.0 e.1.condition) p.launch_condition.entries
+
+-- ---- names (Filename; WildCardFilename; Directory table, DefaultDir)
+
+-- a short and a long name of a file
+abbrev pub AreNames : List ℕ → Type 0
+AreNames text = (is_part (short_name text) ≡ true) × (is_part (long_name text) ≡ true)
+
+-- a short and a long pattern of names
+abbrev pub ArePatterns : List ℕ → Type 0
+ArePatterns text = (is_pattern_part (short_name text) ≡ true) × (is_pattern_part (long_name text) ≡ true)
+
+-- the parent's folder, or a folder with a short and a long name
+abbrev pub IsFolder : List ℕ → Type 0
+IsFolder text = (text ≡ codes ".") ⊎ AreNames text
+
+pub record NamesStand (p : Package) : Type 0 where
+  pub directory : EachRow p.directory.entries (λ r. (is_root_below r.directory r.directory_parent ≡ true) ⊎ (IsFolder (target_part r.default_dir) × IsFolder (source_part r.default_dir)))
+  pub duplicate_file : EachRow p.duplicate_file.entries (λ r. IfSome r.dest_name AreNames)
+  pub file : EachRow p.file.entries (λ r. AreNames r.file_name)
+  pub remove_file : EachRow p.remove_file.entries (λ r. IfSome r.file_name ArePatterns)
+  pub shortcut : EachRow p.shortcut.entries (λ r. AreNames r.name)
 
 -- ---- references
 

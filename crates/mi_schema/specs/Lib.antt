@@ -15,8 +15,10 @@ pub mod Places
 pub mod Read
 pub mod Reads
 pub mod Rows
+pub mod RowsOf
 pub mod Seen
 pub mod Suits
+pub mod TableRows
 pub mod Tables
 pub mod Tells
 pub mod Texts

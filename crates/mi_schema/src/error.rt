@@ -8,7 +8,7 @@ use mi_source::{Failed, SrcFault};
 use std::alloc::{AllocError, AllocFailed};
 
 /// Why a package isn't loaded.
-#[derive(Debug, Drop)]
+#[derive(Drop)]
 pub enum LoadError {
     /// Memory ran out.
     NoMemory,

@@ -1,7 +1,11 @@
 //! Laws of lawful packages, which the crates above may use.
 
+ghost use Rattle.std.specs.Prelude.{◌≡◌, ◌↔◌, ℕ, List, Ok, Err};
+ghost use Rattle.mi_cond.specs.Place.{IsRead, IsPlace};
+ghost use Rattle.mi_cond.specs.Tree.{Tree};
+ghost use Rattle.mi_schema.specs.Conditions.{condition_of};
 ghost use Rattle.mi_schema.specs.Lawful.{IsLawful};
-ghost use Rattle.mi_schema.specs.Laws.{KeysStand, KeysApart, ReferencesStand, ParentsEnd, PropertiesStand, ValuesStand, SourceStands, TablesSmall};
+ghost use Rattle.mi_schema.specs.Laws.{KeysStand, KeysApart, ReferencesStand, ParentsEnd, PropertiesStand, ValuesStand, SourceStands, TablesSmall, TextsShort, ConditionsStand, NamesStand};
 
 use crate::package::Package;
 
@@ -51,4 +55,29 @@ pub fn source_stands(loaded: &Package)
 pub fn tables_small(loaded: &Package)
     requires lawful { IsLawful loaded.now }
     ensures { TablesSmall loaded.now }
+{}
+
+/// Every text of a row has at most 16,777,216 bytes.
+pub fn texts_short(loaded: &Package)
+    requires lawful { IsLawful loaded.now }
+    ensures { TextsShort loaded.now }
+{}
+
+/// Each condition is what some text reads as by the grammar, and of LaunchCondition that text is the key.
+pub fn conditions_stand(loaded: &Package)
+    requires lawful { IsLawful loaded.now }
+    ensures { ConditionsStand loaded.now }
+{}
+
+/// The short, long, target and source parts of names are names.
+pub fn names_stand(loaded: &Package)
+    requires lawful { IsLawful loaded.now }
+    ensures { NamesStand loaded.now }
+{}
+
+/// A text is read as the condition that it is by the grammar, or refused at the place where by the grammar it stops being
+/// one (Conditional Statement Syntax).
+pub fn conditions_read()
+    ensures tree { (text : List ℕ) (tree : Tree) → (condition_of text ≡ Ok tree) ↔ IsRead text tree }
+    ensures place { (text : List ℕ) (place : ℕ) → (condition_of text ≡ Err place) ↔ IsPlace text place }
 {}

@@ -8,6 +8,7 @@ ghost use Rattle.mi_schema.specs.Held.{content_as};
 ghost use Rattle.mi_schema.specs.Lawful.{AreTables, IsLawful};
 ghost use Rattle.mi_schema.specs.Package.{IsPackage};
 ghost use Rattle.mi_schema.specs.Read.{rows_as};
+ghost use Rattle.mi_schema.specs.RowsOf.{folder_rows, rows_in};
 ghost use Rattle.mi_schema.specs.Tables.{tables};
 ghost use Rattle.mi_base.specs.declared.answers.Fault.TheVariants as faults;
 ghost use Rattle.mi_schema.specs.Reads.{Refuses};
@@ -122,11 +123,13 @@ pub fn load_content<S: Source>(
 }
 
 impl Package {
-    /// Loads the package of a folder: the rows of every known table, or the first fault (Database Tables). Memory or the
-    /// source may fail.
+    /// Loads the package of a folder: exactly the rows of every known table in their files, or exactly the first fault
+    /// (Database Tables). Memory or the source may fail.
     pub fn load<S: Source>(alloc: Global, src: &mut S, folder: &str) -> Result<Package, LoadError>
         ensures value { S.told → Answers (Rose (S.faults src.old) (S.faults src.new)) (load_fault (S.files src.old) folder.now)
             (λ p. IsPackage p (content_of (S.files src.old) folder.now)) result }
+        ensures rows { S.told → Answers (Rose (S.faults src.old) (S.faults src.new)) (load_fault (S.files src.old) folder.now)
+            (λ p. rows_in p ≡ folder_rows (S.files src.old) folder.now) result }
         ensures lawful { IfOk result IsLawful }
         ensures counted { IsCounted (Rose (S.faults src.old) (S.faults src.new)) result }
         ensures stays { S.files src.new ≡ S.files src.old }

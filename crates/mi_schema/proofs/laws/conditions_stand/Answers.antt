@@ -1,0 +1,5 @@
+use Rattle.mi_schema.proofs.SizeLaws.{conditions_stand}
+use Rattle.mi_schema.proofs.laws.conditions_stand.Goals as goal
+
+pub returns : goal.returns
+returns c = conditions_stand c.args.loaded.now c.requires.lawful
