@@ -2,6 +2,7 @@
 use Rattle.std.specs.Prelude.{ℕ, nat_lt, if◌then◌else◌, List, [], ◌∷◌, ◌++◌, map, codes}
 use Rattle.std.specs.List.{flat_map}
 use Rattle.std.specs.Fmt.{decimal}
+use Rattle.mi_text.specs.Guid.{guid_text}
 use Rattle.mi_text.specs.declared.answers.Settled.{Settled}
 use Rattle.mi_text.specs.declared.answers.Settled.TheVariants.{Clean, Undone}
 use Rattle.mi_text.specs.declared.answers.IdtFault.{IdtFault}
@@ -11,7 +12,7 @@ use Rattle.mi_base.specs.declared.answers.Kind.TheVariants.{Done, Listed, Recove
 use Rattle.mi_base.specs.declared.answers.Place.{Place}
 use Rattle.mi_base.specs.declared.answers.Place.TheVariants.{InRollback, InCommit}
 use Rattle.mi_base.specs.declared.answers.Cause.{Cause}
-use Rattle.mi_base.specs.declared.answers.Cause.TheVariants.{BadWords, VolumeFault, BadRollback, BadImage, SourceFault, Table}
+use Rattle.mi_base.specs.declared.answers.Cause.TheVariants.{BadWords, VolumeFault, BadRollback, RecoveryFull, BadImage, SourceFault, Table, UnknownProduct, Launch, ErrorAction, Full}
 use Rattle.mi_base.specs.declared.answers.Fault.{Fault}
 use Rattle.mi_base.specs.declared.answers.Fault.TheVariants as fault
 
@@ -45,14 +46,35 @@ fault_words (fault.MissingProperty name) = codes "MissingProperty" ∷ shown nam
 fault_words (fault.Reference table row column) = codes "Reference" ∷ shown table ∷ decimal row ∷ decimal column ∷ []
 fault_words (fault.Cycle table row) = codes "Cycle" ∷ shown table ∷ decimal row ∷ []
 fault_words (fault.Compressed file) = codes "Compressed" ∷ shown file ∷ []
+fault_words (fault.UnknownFeature item) = codes "UnknownFeature" ∷ shown item ∷ []
+fault_words fault.AddSource = codes "AddSource" ∷ []
+fault_words (fault.BadProperty name) = codes "BadProperty" ∷ shown name ∷ []
+fault_words (fault.BadPath table row) = codes "BadPath" ∷ shown table ∷ decimal row ∷ []
+fault_words (fault.TooDeep table row) = codes "TooDeep" ∷ shown table ∷ decimal row ∷ []
+fault_words (fault.BadKey table row) = codes "BadKey" ∷ shown table ∷ decimal row ∷ []
+fault_words (fault.BadValue table row) = codes "BadValue" ∷ shown table ∷ decimal row ∷ []
+fault_words (fault.BadEnvironment row) = codes "BadEnvironment" ∷ decimal row ∷ []
+fault_words (fault.SameTarget former later) = codes "SameTarget" ∷ shown former ∷ shown later ∷ []
+fault_words (fault.Missing file) = codes "Missing" ∷ shown file ∷ []
+fault_words (fault.SizeDiffers file stated found) = codes "SizeDiffers" ∷ shown file ∷ decimal stated ∷ decimal found ∷ []
+fault_words (fault.UnknownAction action) = codes "UnknownAction" ∷ shown action ∷ []
+fault_words (fault.Executable action) = codes "Executable" ∷ shown action ∷ []
+fault_words (fault.SequenceOrder action) = codes "SequenceOrder" ∷ shown action ∷ []
+fault_words fault.NoFinalize = codes "NoFinalize" ∷ []
+fault_words (fault.BadName action) = codes "BadName" ∷ shown action ∷ []
 
 abbrev pub cause_words : Cause → List (List ℕ)
 cause_words (BadWords place) = codes "BadWords" ∷ decimal place ∷ []
 cause_words VolumeFault = codes "VolumeFault" ∷ []
 cause_words (BadRollback name) = codes "BadRollback" ∷ shown name ∷ []
+cause_words (RecoveryFull name) = codes "RecoveryFull" ∷ shown name ∷ []
 cause_words (BadImage name) = codes "BadImage" ∷ shown name ∷ []
 cause_words SourceFault = codes "SourceFault" ∷ []
 cause_words (Table f) = codes "Table" ∷ fault_words f
+cause_words (UnknownProduct code) = codes "UnknownProduct" ∷ guid_text code.number ∷ []
+cause_words (Launch text) = codes "Launch" ∷ shown text ∷ []
+cause_words (ErrorAction action text) = codes "ErrorAction" ∷ shown action ∷ shown text ∷ []
+cause_words (Full need room) = codes "Full" ∷ decimal need ∷ decimal room ∷ []
 
 abbrev pub settled_words : Settled → List (List ℕ)
 settled_words Clean = codes "Clean" ∷ []

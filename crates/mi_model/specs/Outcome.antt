@@ -1,80 +1,75 @@
--- The outcome of a run, over the words, the source's files and the map that is handed in. (Installation; the order
--- of refusals is this project's own: words, settling, image, package, plan.)
-use Rattle.std.specs.Prelude.{ℕ, List, Option, Some, None, Result, Ok, Err}
+-- The outcome of a run, over what is handed in. (Installation; Rollback Installation. The order of refusals is this project's own: words,
+-- settling, image, and what stands in PackageOutcome.)
+use Rattle.std.specs.Prelude.{◌≡◌, ℕ, ◌-◌, false, List, codes, Option, option_map, Result, Ok, Err}
 use Rattle.mi_text.specs.Maps.{Name}
 use Rattle.mi_text.specs.declared.answers.Settled.{Settled}
-use Rattle.mi_volume.specs.Maps.{Map}
+use Rattle.mi_volume.specs.Maps.{Map, size}
 use Rattle.mi_source.specs.Paths.{Files}
 use Rattle.mi_undo.specs.Stands.{stands, settled}
-use Rattle.mi_base.specs.Machine.{Machine, machine_of}
-use Rattle.mi_base.specs.declared.answers.Fault.{Fault}
-use Rattle.mi_base.specs.declared.answers.Cause.{Cause}
-use Rattle.mi_base.specs.declared.answers.Cause.TheVariants.{BadWords, BadRollback, BadImage, Table}
-use Rattle.mi_base.specs.declared.answers.Kind.{Kind}
-use Rattle.mi_base.specs.declared.answers.Kind.TheVariants as kind
-use Rattle.mi_schema.specs.Checks.{load_fault, content_of}
-use Rattle.mi_model.specs.Listings.{products_text_of}
-use Rattle.mi_model.specs.Words.{Command, Install, Products, Recover, command_of}
-use Rattle.mi_model.specs.Plan.{plan_of}
+use Rattle.mi_base.specs.Machine.{Machine, machine_of, volume_of}
+use Rattle.mi_model.specs.Listings.{products_text_of, clients_text_of}
+use Rattle.mi_model.specs.Texts.{Text}
+use Rattle.mi_base.specs.declared.answers.Cause.TheVariants.{BadWords, BadRollback, RecoveryFull, BadImage}
+use Rattle.mi_model.specs.Words.{Command, Package, Selftest, Clients, Products, Recover, command_of}
+use Rattle.mi_model.specs.Selftest.{selftest_files}
+use Rattle.mi_undo.specs.Short.{IsShort}
+use Rattle.mi_model.specs.PackageOutcome.{End, Done, Listed, Recovered, Refused, Outcome, only, of_package}
 
-pub data Outcome : Type 0 where
-  -- the map after
-  Done : (after : Map) → Outcome
-  -- the lines of a listing
-  Listed : (text : List ℕ) → Outcome
-  -- what settling found
-  Recovered : (found : Settled) → Outcome
-  Refused : (cause : Cause) → Outcome
+-- What a run is handed.
+pub record Handed : Type 0 where
+  pub words : List Text
+  -- the source's files
+  pub files : Files
+  -- what the volume holds
+  pub held : Map
+  -- its capacity, where it tells one
+  pub capacity : Option ℕ
+  -- the moment, in seconds
+  pub now : ℕ
 
--- ---- with the former map F, which spells the machine m, and what settling found
+-- ---- the command, over the former machine, the free room and what settling found
 
--- what the plan of a package makes
-abbrev pub of_plan : Result Map Cause → Outcome
-of_plan (Ok A) = Done A
-of_plan (Err cause) = Refused cause
+abbrev pub of_command : Handed → Option ℕ → Machine → Settled → Command → Outcome
+of_command h free m found (Package recorded folder words) = of_package h.files free h.now m recorded folder words
+of_command h free m found (Selftest files words) = of_package (selftest_files files) free h.now m false (codes "self") words
+of_command h free m found Clients = only (Listed (clients_text_of m))
+of_command h free m found Products = only (Listed (products_text_of m))
+of_command h free m found Recover = only (Recovered found)
 
--- a package with a fault is refused
-abbrev pub of_loaded : Option Fault → Result Map Cause → Outcome
-of_loaded (Some fault) plan = Refused (Table fault)
-of_loaded None plan = of_plan plan
+abbrev pub free_room : Option ℕ → Map → Option ℕ
+free_room capacity F = option_map (λ c. c - size F) capacity
 
--- the package of a folder: its first fault, or what its plan makes
-abbrev pub of_package : Files → Name → Map → Machine → Outcome
-of_package files folder F m = of_loaded (load_fault files folder) (plan_of (content_of files folder) F m)
+abbrev pub of_machine : Handed → Map → Command → Result Machine Name → Outcome
+of_machine h F command (Ok m) = of_command h (free_room h.capacity F) m (settled h.held) command
+of_machine h F command (Err name) = only (Refused (BadImage name))
 
-abbrev pub of_command : Files → Settled → Map → Machine → Command → Outcome
-of_command files found F m (Install folder) = of_package files folder F m
-of_command files found F m Products = Listed (products_text_of m)
-of_command files found F m Recover = Recovered found
+abbrev pub of_former : Handed → Command → Result Map Name → Outcome
+of_former h command (Ok F) = of_machine h F command (machine_of F)
+of_former h command (Err name) = only (Refused (BadRollback name))
 
--- ---- the order of refusals
+abbrev pub of_words : Handed → Result Command ℕ → Outcome
+of_words h (Ok command) = of_former h command (stands h.held)
+of_words h (Err place) = only (Refused (BadWords place))
 
-abbrev pub of_machine : Files → Settled → Map → Command → Result Machine Name → Outcome
-of_machine files found F command (Ok m) = of_command files found F m command
-of_machine files found F command (Err name) = Refused (BadImage name)
+-- what a run comes to, where settling has room for the old bytes of the rollback area
+unfoldable pub outcome : Handed → Outcome
+outcome h = of_words h (command_of h.words)
 
-abbrev pub of_former : Files → Settled → Command → Result Map Name → Outcome
-of_former files found command (Ok F) = of_machine files found F command (machine_of F)
-of_former files found command (Err name) = Refused (BadRollback name)
+-- settling has no room for the old bytes of this name
+pub record IsWithoutRoom (h : Handed) (name : Name) : Type 0 where
+  pub command : Command
+  pub asked : command_of h.words ≡ Ok command
+  pub short : IsShort h.capacity h.held name
 
-abbrev pub of_words : Files → Map → Result Command ℕ → Outcome
-of_words files d0 (Ok command) = of_former files (settled d0) command (stands d0)
-of_words files d0 (Err place) = Refused (BadWords place)
-
--- the outcome over the map d0 that is handed in
-abbrev pub outcome : List (List ℕ) → Files → Map → Outcome
-outcome words files d0 = of_words files d0 (command_of words)
-
--- the answer of an outcome
-abbrev pub kind_of : Outcome → Kind
-kind_of (Done after) = kind.Done
-kind_of (Listed text) = kind.Listed
-kind_of (Recovered found) = kind.Recovered found
-kind_of (Refused cause) = kind.Refused cause
+-- What a run comes to: it is refused where settling has no room, and else this is the outcome.
+pub record ComesTo (h : Handed) (o : Outcome) : Type 0 where
+  pub short : (name : Name) → IsWithoutRoom h name → o ≡ only (Refused (RecoveryFull name))
+  pub room : ((name : Name) → ¬ IsWithoutRoom h name) → o ≡ outcome h
 
 -- the map that an outcome makes of the former one
+abbrev pub map_of_end : Map → End → Map
+map_of_end F (Done m) = volume_of m
+map_of_end F other = F
+
 abbrev pub map_after : Map → Outcome → Map
-map_after F (Done after) = after
-map_after F (Listed text) = F
-map_after F (Recovered found) = F
-map_after F (Refused cause) = F
+map_after F o = map_of_end F o.end

@@ -1,0 +1,6 @@
+pub mod EnvironmentExamples
+pub mod FeatureExamples
+pub mod FileExamples
+pub mod RegistryExamples
+pub mod StepExamples
+pub mod WordExamples
