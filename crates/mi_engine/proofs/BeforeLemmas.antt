@@ -7,12 +7,12 @@ use Rattle.mi_volume.specs.State.{State, Passes}
 use Rattle.mi_volume.proofs.Moments.{rose_before}
 use Rattle.mi_undo.specs.Keeps.{IsFree}
 use Rattle.mi_base.specs.declared.answers.Cause.{Cause}
-use Rattle.mi_base.specs.declared.answers.Cause.TheVariants.{BadWords, VolumeFault, BadRollback, BadImage, SourceFault, Table}
+use Rattle.mi_base.specs.declared.answers.Cause.TheVariants.{BadWords, VolumeFault, BadRollback, SourceFault, Table}
 use Rattle.mi_base.specs.declared.answers.Pause.{Pause}
 use Rattle.mi_base.specs.declared.answers.Kind.{Kind}
 use Rattle.mi_base.specs.declared.answers.Kind.TheVariants.{Done, Listed, Recovered, Refused, Suspended, NoMemory}
-use Rattle.mi_model.specs.Words.{Command}
-use Rattle.mi_model.specs.Outcome.{Outcome, map_after}
+use Rattle.mi_model.specs.PlainWords.{Command}
+use Rattle.mi_model.specs.PlainOutcome.{Outcome, map_after}
 use Rattle.mi_engine.specs.Calls.{Fails}
 use Rattle.mi_engine.specs.Ends.{Ends}
 use Rattle.mi_engine.specs.Answers.{IsDone, Caused, MayPause, Cleans, walks, Tells, IsLog}
@@ -41,12 +41,10 @@ module _ (volume source : Type 0) (o o' : Outcome) (is : volume → o' ≡ o) (f
   caused_from Done c = λ v src. done_as o o' (is v) (c v src)
   caused_from Listed c = λ v. ((c v).0, sym (is v) ∙ (c v).1)
   caused_from (Recovered settled) c = λ v. sym (is v) ∙ c v
-  caused_from (Refused (BadWords place)) c = λ v. sym (is v) ∙ c v
   caused_from (Refused VolumeFault) c = rises c
-  caused_from (Refused (BadRollback name)) c = λ v. sym (is v) ∙ c v
-  caused_from (Refused (BadImage name)) c = λ v. sym (is v) ∙ c v
   caused_from (Refused SourceFault) c = c
   caused_from (Refused (Table fault)) c = λ v src. sym (is v) ∙ c v src
+  caused_from (Refused other) c = λ v. sym (is v) ∙ c v
   caused_from (Suspended pause) c = (lasts pause c.0, λ v src. done_as o o' (is v) (c.1 v src))
   caused_from NoMemory c = tt
 
@@ -56,9 +54,7 @@ refusal_as : (found found' : Settled → Type 0) → ((s : Settled) → found' s
 refusal_as found found' f (BadWords place) s is = is
 refusal_as found found' f VolumeFault s is = ⊎_elim (λ x. inl (f s x)) (λ x. inr x) is
 refusal_as found found' f (BadRollback name) s is = is
-refusal_as found found' f (BadImage name) s is = f s is
-refusal_as found found' f SourceFault s is = f s is
-refusal_as found found' f (Table fault) s is = f s is
+refusal_as found found' f other s is = f s is
 
 module _ (volume : Type 0) (found found' : Settled → Type 0) (f : (s : Settled) → found' s → found s) (says : Bool) (o o' : Outcome) (is : volume → o' ≡ o) (bytes : List ℕ) where
   pub log_from : (kind : Kind) → IsLog volume found' says o' kind bytes → IsLog volume found says o kind bytes
@@ -78,9 +74,7 @@ cleans_from s t u pass (Recovered settled) c = c
 cleans_from s t u pass (Refused (BadWords place)) c = c
 cleans_from s t u pass (Refused VolumeFault) c = c
 cleans_from s t u pass (Refused (BadRollback name)) c = c
-cleans_from s t u pass (Refused (BadImage name)) c = free_then s t u pass c
-cleans_from s t u pass (Refused SourceFault) c = free_then s t u pass c
-cleans_from s t u pass (Refused (Table fault)) c = free_then s t u pass c
+cleans_from s t u pass (Refused other) c = free_then s t u pass c
 cleans_from s t u pass (Suspended pause) c = c
 cleans_from s t u pass NoMemory c = c
 

@@ -16,7 +16,6 @@ use Rattle.mi_undo.proofs.StandsLemmas.{get-outside, stands_unmarked}
 use Rattle.mi_undo.proofs.NoteLemmas.{shut_gate}
 use Rattle.mi_base.specs.declared.answers.Cause.{Cause}
 use Rattle.mi_base.specs.declared.answers.Cause.TheVariants.{VolumeFault}
-use Rattle.mi_base.specs.declared.answers.Cause.TheVariants as cause
 use Rattle.mi_base.specs.declared.answers.Place.{Place}
 use Rattle.mi_base.specs.declared.answers.Place.TheVariants.{InRollback, InCommit}
 use Rattle.mi_base.specs.declared.answers.Kind.{Kind}
@@ -50,11 +49,7 @@ caused_before n k m kind.Done le more c = tt
 caused_before n k m kind.Listed le more c = absurd c
 caused_before n k m (kind.Recovered settled) le more c = absurd c
 caused_before n k m (kind.Refused VolumeFault) le more c = below_before n k m le more c
-caused_before n k m (kind.Refused cause.SourceFault) le more c = absurd c
-caused_before n k m (kind.Refused (cause.Table fault)) le more c = absurd c
-caused_before n k m (kind.Refused (cause.BadWords place)) le more c = absurd c
-caused_before n k m (kind.Refused (cause.BadRollback name)) le more c = absurd c
-caused_before n k m (kind.Refused (cause.BadImage name)) le more c = absurd c
+caused_before n k m (kind.Refused other) le more c = absurd c
 caused_before n k m (kind.Suspended pause) le more c = paused_before n k m pause.place pause.begun pause.again pause.why le c
 caused_before n k m kind.NoMemory le more c = tt
 
@@ -135,11 +130,7 @@ gone_ends (Refuse cause) n s t F A go leaves reads = fallen_at n s t F A (Stands
 pub gone_caused : (n m : ℕ) (why : Stop) → IsVolumeStop (BelowCount n m) why → WriteCaused n m (gone why)
 gone_caused n m NoMemory is = tt
 gone_caused n m (Refuse VolumeFault) is = is
-gone_caused n m (Refuse cause.SourceFault) is = absurd is
-gone_caused n m (Refuse (cause.Table fault)) is = absurd is
-gone_caused n m (Refuse (cause.BadWords place)) is = absurd is
-gone_caused n m (Refuse (cause.BadRollback name)) is = absurd is
-gone_caused n m (Refuse (cause.BadImage name)) is = absurd is
+gone_caused n m (Refuse other) is = absurd is
 
 -- ---- the commit
 

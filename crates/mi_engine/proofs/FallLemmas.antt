@@ -7,7 +7,6 @@ use Rattle.mi_undo.specs.Answers.{GoesBack}
 use Rattle.mi_undo.specs.declared.fault.BackFault.{BackFault}
 use Rattle.mi_undo.specs.declared.fault.BackFault.TheVariants as back
 use Rattle.mi_base.specs.declared.answers.Cause.TheVariants.{VolumeFault}
-use Rattle.mi_base.specs.declared.answers.Cause.TheVariants as cause
 use Rattle.mi_engine.specs.declared.stop.Stop.{Stop}
 use Rattle.mi_engine.specs.declared.stop.Stop.TheVariants.{NoMemory, Refuse}
 use Rattle.mi_engine.specs.Calls.{IsVolumeStop}
@@ -42,11 +41,7 @@ module _ (s t : State) (F : Map) where
 pub gone_kind : (rose : Type 0) (why : Stop) → IsVolumeStop rose why → IsWriteKind (gone why)
 gone_kind rose NoMemory is = tt
 gone_kind rose (Refuse VolumeFault) is = tt
-gone_kind rose (Refuse cause.SourceFault) is = absurd is
-gone_kind rose (Refuse (cause.Table fault)) is = absurd is
-gone_kind rose (Refuse (cause.BadWords place)) is = absurd is
-gone_kind rose (Refuse (cause.BadRollback name)) is = absurd is
-gone_kind rose (Refuse (cause.BadImage name)) is = absurd is
+gone_kind rose (Refuse other) is = absurd is
 
 stuck_kind : (why : Stop) (begun again : ℕ) → IsWriteKind (stuck why begun again)
 stuck_kind NoMemory begun again = tt
@@ -63,20 +58,12 @@ fell_kind rose (Err back.Full) why begun again is = stuck_kind why begun again
 later_gone : (n a m : ℕ) (why : Stop) → n ≤ a → a ≤ m → IsVolumeStop (BelowCount n a) why → WriteCaused n m (gone why)
 later_gone n a m NoMemory le more is = tt
 later_gone n a m (Refuse VolumeFault) le more is = λ under. grind (arith, le, more, under, is)
-later_gone n a m (Refuse cause.SourceFault) le more is = absurd is
-later_gone n a m (Refuse (cause.Table fault)) le more is = absurd is
-later_gone n a m (Refuse (cause.BadWords place)) le more is = absurd is
-later_gone n a m (Refuse (cause.BadRollback name)) le more is = absurd is
-later_gone n a m (Refuse (cause.BadImage name)) le more is = absurd is
+later_gone n a m (Refuse other) le more is = absurd is
 
 later_stuck : (n a m : ℕ) (why : Stop) → n ≤ a → a ≤ m → IsVolumeStop (BelowCount n a) why → BelowCount a m → WriteCaused n m (stuck why n a)
 later_stuck n a m NoMemory le more is rose = tt
 later_stuck n a m (Refuse VolumeFault) le more is rose = record { entry = omega arith; between = le; exit = more; rose = rose; met = refl; fell = is }
-later_stuck n a m (Refuse cause.SourceFault) le more is rose = absurd is
-later_stuck n a m (Refuse (cause.Table fault)) le more is rose = absurd is
-later_stuck n a m (Refuse (cause.BadWords place)) le more is rose = absurd is
-later_stuck n a m (Refuse (cause.BadRollback name)) le more is rose = absurd is
-later_stuck n a m (Refuse (cause.BadImage name)) le more is rose = absurd is
+later_stuck n a m (Refuse other) le more is rose = absurd is
 
 pub fell_caused : {T told : Type 0} (r : Result T BackFault) (why : Stop) (n : ℕ) (s t : State) → n ≤ s.faults → s.faults ≤ t.faults → IsVolumeStop (IsNone s.capacity → BelowCount n s.faults) why → IsNone s.capacity
     → (IsErrOf r back.Fault → Rose s t) → (IsErrOf r back.Full → told × IsSome s.capacity) → WriteCaused n t.faults (fell r why n s.faults)

@@ -3,7 +3,7 @@ use Rattle.std.proofs.Common.{◌≡◌, List, Option, None, Result, Ok, Err, Ve
 use Rattle.std.specs.Prelude.{IsErrAnd, IfErr}
 use Rattle.std.specs.declared.alloc.Global.{Global}
 use Rattle.mi_base.specs.declared.answers.Fault.{Fault}
-use Rattle.mi_base.specs.declared.answers.Cause.TheVariants.{BadWords, VolumeFault, BadRollback, BadImage, SourceFault, Table}
+use Rattle.mi_base.specs.declared.answers.Cause.TheVariants.{Table}
 use Rattle.mi_model.specs.Built.{Row}
 use Rattle.mi_engine.specs.declared.stop.Stop.{Stop}
 use Rattle.mi_engine.specs.declared.stop.Stop.TheVariants.{NoMemory, Refuse}
@@ -18,23 +18,15 @@ module _ (failed : Type 0) (fault : Option Fault) (rows : Result (List Row) Faul
   pub loaded : (r : Result (Vec Row Global) Stop) → fault ≡ None → Loads ⊥ rows r → Loads failed (unless_fault fault rows) r
   loaded (Ok v) none is = no_fault none ∙ is
   loaded (Err NoMemory) none is = tt
-  loaded (Err (Refuse SourceFault)) none is = absurd is
   loaded (Err (Refuse (Table f))) none is = no_fault none ∙ is
-  loaded (Err (Refuse (BadWords place))) none is = absurd is
-  loaded (Err (Refuse VolumeFault)) none is = absurd is
-  loaded (Err (Refuse (BadRollback name))) none is = absurd is
-  loaded (Err (Refuse (BadImage name))) none is = absurd is
+  loaded (Err (Refuse other)) none is = absurd is
 
 -- ---- answers of the plan
 
 any_source : (failed : Type 0) (s : Stop) → IsSourceStop ⊥ s → IsSourceStop failed s
 any_source failed NoMemory is = tt
-any_source failed (Refuse SourceFault) is = absurd is
 any_source failed (Refuse (Table f)) is = tt
-any_source failed (Refuse (BadWords place)) is = absurd is
-any_source failed (Refuse VolumeFault) is = absurd is
-any_source failed (Refuse (BadRollback name)) is = absurd is
-any_source failed (Refuse (BadImage name)) is = absurd is
+any_source failed (Refuse other) is = absurd is
 
 pub source_stop : (failed : Type 0) (r : Result (Vec Row Global) Stop) → IfErr r (IsSourceStop ⊥) → IfErr r (IsSourceStop failed)
 source_stop failed (Ok v) is = tt
@@ -46,18 +38,10 @@ want_of_memory rows (Err e) is = subst (CausedStop ⊥ rows) (sym is) tt
 
 pub refused : (rows : Result (List Row) Fault) (fault : Fault) (s : Stop) → rows ≡ Err fault → Refuses fault s → CausedStop ⊥ rows s
 refused rows fault NoMemory is refuses = tt
-refused rows fault (Refuse SourceFault) is refuses = refuses
 refused rows fault (Refuse (Table f)) is refuses = is ∙ ap Err (sym refuses)
-refused rows fault (Refuse (BadWords place)) is refuses = refuses
-refused rows fault (Refuse VolumeFault) is refuses = refuses
-refused rows fault (Refuse (BadRollback name)) is refuses = refuses
-refused rows fault (Refuse (BadImage name)) is refuses = refuses
+refused rows fault (Refuse other) is refuses = refuses
 
 pub refused_stop : (fault : Fault) (s : Stop) → Refuses fault s → IsSourceStop ⊥ s
 refused_stop fault NoMemory refuses = tt
-refused_stop fault (Refuse SourceFault) refuses = refuses
 refused_stop fault (Refuse (Table f)) refuses = tt
-refused_stop fault (Refuse (BadWords place)) refuses = refuses
-refused_stop fault (Refuse VolumeFault) refuses = refuses
-refused_stop fault (Refuse (BadRollback name)) refuses = refuses
-refused_stop fault (Refuse (BadImage name)) refuses = refuses
+refused_stop fault (Refuse other) refuses = refuses

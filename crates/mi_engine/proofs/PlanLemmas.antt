@@ -26,7 +26,7 @@ use Rattle.mi_model.specs.After.{is_new, key_entry, value_entry, path_of, keys_o
 use Rattle.mi_engine.specs.Calls.{or_else, first_under, Adds, Overlays, Fails, IsVolumeStop}
 use Rattle.mi_engine.specs.declared.stop.Stop.{Stop}
 use Rattle.mi_engine.specs.declared.stop.Stop.TheVariants.{NoMemory, Refuse}
-use Rattle.mi_base.specs.declared.answers.Cause.TheVariants.{BadWords, VolumeFault, BadRollback, BadImage, SourceFault, Table}
+use Rattle.mi_base.specs.declared.answers.Cause.TheVariants.{VolumeFault}
 
 or_else_assoc : {X : Type 0} (a b c : Option X) → or_else (or_else a b) c ≡ or_else a (or_else b c)
 or_else_assoc None b c = refl
@@ -327,11 +327,7 @@ insert_entry b c name bytes e is same_entry = is ∙ ap (λ (x : Name × List �
 pub volume_stop : (a b : Type 0) (stop : Stop) → (a → b) → IsVolumeStop a stop → IsVolumeStop b stop
 volume_stop a b NoMemory then is = tt
 volume_stop a b (Refuse VolumeFault) then is = then is
-volume_stop a b (Refuse SourceFault) then is = absurd is
-volume_stop a b (Refuse (Table fault)) then is = absurd is
-volume_stop a b (Refuse (BadWords place)) then is = absurd is
-volume_stop a b (Refuse (BadRollback name)) then is = absurd is
-volume_stop a b (Refuse (BadImage name)) then is = absurd is
+volume_stop a b (Refuse other) then is = absurd is
 
 -- ---- planned names are outside the rollback area
 

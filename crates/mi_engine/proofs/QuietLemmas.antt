@@ -7,11 +7,11 @@ use Rattle.mi_volume.specs.State.{State}
 use Rattle.mi_volume.proofs.Moments.{weaker}
 use Rattle.mi_undo.specs.Stands.{StandsFor, outside}
 use Rattle.mi_undo.specs.Keeps.{IsFree}
-use Rattle.mi_base.specs.declared.answers.Cause.TheVariants.{BadWords, VolumeFault, BadRollback, BadImage, SourceFault, Table}
+use Rattle.mi_base.specs.declared.answers.Cause.TheVariants.{BadWords, VolumeFault, BadRollback}
 use Rattle.mi_base.specs.declared.answers.Kind.{Kind}
 use Rattle.mi_base.specs.declared.answers.Kind.TheVariants.{Done, Listed, Recovered, Refused, Suspended, NoMemory}
-use Rattle.mi_model.specs.Words.{Command, Install, Products, Recover}
-use Rattle.mi_model.specs.Outcome.{Outcome, map_after}
+use Rattle.mi_model.specs.PlainWords.{Command, Install, Products, Recover}
+use Rattle.mi_model.specs.PlainOutcome.{Outcome, map_after}
 use Rattle.mi_engine.specs.Calls.{Fails}
 use Rattle.mi_engine.specs.Ends.{BelowCount, Allowed, AtExit, Reads, Ends}
 use Rattle.mi_engine.specs.Answers.{AnswersCommand, Caused, MayPause, Cleans, walks, log_of, IsLog}
@@ -61,9 +61,7 @@ quiet_cleans s t (Recovered settled) quiet free = free
 quiet_cleans s t (Refused (BadWords place)) quiet free = tt
 quiet_cleans s t (Refused VolumeFault) quiet free = tt
 quiet_cleans s t (Refused (BadRollback name)) quiet free = tt
-quiet_cleans s t (Refused (BadImage name)) quiet free = inl free
-quiet_cleans s t (Refused SourceFault) quiet free = inl free
-quiet_cleans s t (Refused (Table fault)) quiet free = inl free
+quiet_cleans s t (Refused other) quiet free = inl free
 quiet_cleans s t (Suspended pause) quiet free = absurd quiet
 quiet_cleans s t NoMemory quiet free = tt
 

@@ -3,7 +3,7 @@ use Rattle.std.proofs.Common.{◌≡◌, inl, inr, Bool, true, List, [], ◌++�
 use Rattle.std.proofs.lemmas.List.{append-nil}
 use Rattle.mi_text.specs.declared.answers.Settled.{Settled}
 use Rattle.mi_text.specs.declared.answers.Settled.TheVariants.{Clean}
-use Rattle.mi_base.specs.declared.answers.Cause.TheVariants.{BadWords, VolumeFault, BadRollback, BadImage, SourceFault, Table}
+use Rattle.mi_base.specs.declared.answers.Cause.TheVariants.{VolumeFault}
 use Rattle.mi_base.specs.declared.answers.Kind.{Kind}
 use Rattle.mi_base.specs.declared.answers.Kind.TheVariants.{Done, Listed, Recovered, Refused, Suspended, NoMemory}
 use Rattle.mi_model.specs.Lines.{recovered_line, result_line}
@@ -26,11 +26,7 @@ tells found Done is = refl
 tells found Listed is = absurd is
 tells found (Recovered settled) is = absurd is
 tells found (Refused VolumeFault) is = inl refl
-tells found (Refused (BadWords place)) is = absurd is
-tells found (Refused (BadRollback name)) is = absurd is
-tells found (Refused (BadImage name)) is = absurd is
-tells found (Refused SourceFault) is = absurd is
-tells found (Refused (Table fault)) is = absurd is
+tells found (Refused other) is = absurd is
 tells found (Suspended pause) is = refl
 tells found NoMemory is = inl refl
 

@@ -26,9 +26,9 @@ use Rattle.mi_base.specs.declared.answers.Place.TheVariants.{InRollback, InCommi
 use Rattle.mi_base.specs.declared.answers.Kind.{Kind}
 use Rattle.mi_base.specs.declared.answers.Kind.TheVariants.{Done, Listed, Recovered, Refused, Suspended, NoMemory}
 use Rattle.mi_engine.specs.declared.reply.Reply.{Reply}
-use Rattle.mi_model.specs.Words.{Command, Install, Products, Recover, Installs}
-use Rattle.mi_model.specs.Outcome.{Outcome, kind_of, map_after, of_machine, of_former, of_words}
-use Rattle.mi_model.specs.Outcome as outcome
+use Rattle.mi_model.specs.PlainWords.{Command, Install, Products, Recover, Installs}
+use Rattle.mi_model.specs.PlainOutcome.{Outcome, kind_of, map_after, of_machine, of_former, of_words}
+use Rattle.mi_model.specs.PlainOutcome as outcome
 use Rattle.mi_engine.specs.Calls.{Fails}
 use Rattle.mi_engine.specs.Ends.{BelowCount, Allowed, AtExit, Reads, Ends, Paused}
 use Rattle.mi_engine.specs.Answers.{IsBefore, AnswersCommand, AnswersWords, Caused, MayPause, Completes, SameCount, MayStand, UnnotedStay, ReadsAfter, Cleans, walks, log_of, IsLog}
@@ -55,9 +55,7 @@ reads_after d0 F A command (Recovered settled) h is = is
 reads_after d0 F A command (Refused (BadWords place)) h is = tt
 reads_after d0 F A command (Refused VolumeFault) h is = λ ns noted q out none. get_outer h F is q out
 reads_after d0 F A command (Refused (BadRollback name)) h is = tt
-reads_after d0 F A command (Refused (BadImage name)) h is = is
-reads_after d0 F A command (Refused SourceFault) h is = is
-reads_after d0 F A command (Refused (Table fault)) h is = is
+reads_after d0 F A command (Refused other) h is = is
 reads_after d0 F A command (Suspended pause) h is = tt
 reads_after d0 F A command NoMemory h is = tt
 
@@ -249,24 +247,20 @@ pub completes : (volume source : Type 0) (s u : State) (o : Outcome) (n m : ℕ)
 completes volume source s u o n m Done v src none is_source is c = inl (sym (ap kind_of (c v src).1))
 completes volume source s u o n m Listed v src none is_source is c = inl (sym (ap kind_of (c v).1))
 completes volume source s u o n m (Recovered settled) v src none is_source is c = inl (sym (ap kind_of (c v)))
-completes volume source s u o n m (Refused (BadWords place)) v src none is_source is c = inl (sym (ap kind_of (c v)))
 completes volume source s u o n m (Refused VolumeFault) v src none is_source is c = absurd (fault_rose s u (c none) is)
-completes volume source s u o n m (Refused (BadRollback name)) v src none is_source is c = inl (sym (ap kind_of (c v)))
-completes volume source s u o n m (Refused (BadImage name)) v src none is_source is c = inl (sym (ap kind_of (c v)))
 completes volume source s u o n m (Refused SourceFault) v src none is_source is c = absurd (source_rose n m c is_source)
 completes volume source s u o n m (Refused (Table fault)) v src none is_source is c = inl (sym (ap kind_of (c v src)))
+completes volume source s u o n m (Refused other) v src none is_source is c = inl (sym (ap kind_of (c v)))
 completes volume source s u o n m (Suspended pause) v src none is_source is c = absurd (paused_rose s.faults u.faults pause.place pause.begun pause.again pause.why (c.0 none) is)
 completes volume source s u o n m NoMemory v src none is_source is c = inr refl
 
 -- the same of words that ask for no package, over any source
 module _ (volume source : Type 0) (s u : State) (o : Outcome) (n m : ℕ) (told : volume) (none : IsNone s.capacity) (same : SameCount s.faults u.faults) where
   completes_before : (cause : Cause) → IsBefore cause → Caused volume source o (Fails s u) (counts.Rose n m) (MayPause s u) (Refused cause) → Completes o (Refused cause)
-  completes_before (BadWords place) is c = absurd is
   completes_before VolumeFault is c = absurd (fault_rose s u (c none) same)
   completes_before (BadRollback name) is c = inl (sym (ap kind_of (c told)))
   completes_before (BadImage name) is c = inl (sym (ap kind_of (c told)))
-  completes_before SourceFault is c = absurd is
-  completes_before (Table fault) is c = absurd is
+  completes_before other is c = absurd is
 
   completes_command : (command : Command) (kind : Kind) → (Installs (Ok command) → ⊥) → AnswersCommand command kind → Caused volume source o (Fails s u) (counts.Rose n m) (MayPause s u) kind → Completes o kind
   completes_command (Install folder) kind alone is c = absurd (alone tt)

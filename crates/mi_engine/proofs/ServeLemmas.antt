@@ -10,7 +10,7 @@ use Rattle.mi_undo.specs.Keeps.{IsFree}
 use Rattle.mi_undo.specs.Answers.{IsFreeUnlessRose}
 use Rattle.mi_base.specs.Machine.{Machine, machine_of}
 use Rattle.mi_base.specs.declared.answers.Fault.{Fault}
-use Rattle.mi_base.specs.declared.answers.Cause.TheVariants.{BadWords, VolumeFault, BadRollback, BadImage, SourceFault, Table}
+use Rattle.mi_base.specs.declared.answers.Cause.TheVariants.{VolumeFault, SourceFault, Table}
 use Rattle.mi_base.specs.declared.answers.Kind.{Kind}
 use Rattle.mi_base.specs.declared.answers.Kind.TheVariants.{Done, Listed, Recovered, Refused, Suspended, NoMemory}
 use Rattle.mi_image.specs.Items.{Items, machine_over, ImageOf}
@@ -22,11 +22,11 @@ use Rattle.mi_engine.specs.declared.stop.Stop.TheVariants as stop
 use Rattle.mi_engine.specs.declared.reply.Reply.{Reply}
 use Rattle.mi_model.specs.Built.{Row}
 use Rattle.mi_model.specs.After.{after}
-use Rattle.mi_model.specs.Words.{Command, Install, Products, Recover}
+use Rattle.mi_model.specs.PlainWords.{Command, Install, Products, Recover}
 use Rattle.mi_schema.specs.Checks.{load_fault, content_of}
 use Rattle.mi_model.specs.Plan.{planned_rows, made_by}
-use Rattle.mi_model.specs.Outcome.{Outcome, map_after, of_loaded, of_package, of_command, of_machine}
-use Rattle.mi_model.specs.Outcome as outcome
+use Rattle.mi_model.specs.PlainOutcome.{Outcome, map_after, of_loaded, of_package, of_command, of_machine}
+use Rattle.mi_model.specs.PlainOutcome as outcome
 use Rattle.mi_engine.specs.Calls.{Fails, CausedStop, IsSourceStop}
 use Rattle.mi_engine.specs.Rows.{unless_fault, rows_of, of_rows}
 use Rattle.mi_engine.specs.Ends.{BelowCount, Ends, WriteCaused, IsWriteKind}
@@ -125,28 +125,19 @@ module _ (volume source : Type 0) (files : Files) (folder : List ℕ) (found : S
   load_caused s loaded stop.NoMemory caused is = tt
   load_caused s loaded (stop.Refuse SourceFault) caused is = is
   load_caused s loaded (stop.Refuse (Table fault)) caused is = λ v src. ap (of_rows s.held) (caused src)
-  load_caused s loaded (stop.Refuse (BadWords place)) caused is = absurd is
-  load_caused s loaded (stop.Refuse VolumeFault) caused is = absurd is
-  load_caused s loaded (stop.Refuse (BadRollback name)) caused is = absurd is
-  load_caused s loaded (stop.Refuse (BadImage name)) caused is = absurd is
+  load_caused s loaded (stop.Refuse other) caused is = absurd is
 
   load_answers : (e : Stop) → IsSourceStop source_fails e → AnswersCommand (Install folder) (kind_unloaded e)
   load_answers stop.NoMemory is = tt
   load_answers (stop.Refuse SourceFault) is = tt
   load_answers (stop.Refuse (Table fault)) is = tt
-  load_answers (stop.Refuse (BadWords place)) is = absurd is
-  load_answers (stop.Refuse VolumeFault) is = absurd is
-  load_answers (stop.Refuse (BadRollback name)) is = absurd is
-  load_answers (stop.Refuse (BadImage name)) is = absurd is
+  load_answers (stop.Refuse other) is = absurd is
 
   load_log : (o : Outcome) (e : Stop) → IsSourceStop source_fails e → IsLog volume (λ x. x ≡ found) true o (kind_unloaded e) (log_of true found (kind_unloaded e))
   load_log o stop.NoMemory is = (found, (inl refl, refl))
   load_log o (stop.Refuse SourceFault) is = (found, (refl, refl))
   load_log o (stop.Refuse (Table fault)) is = (found, (refl, refl))
-  load_log o (stop.Refuse (BadWords place)) is = absurd is
-  load_log o (stop.Refuse VolumeFault) is = absurd is
-  load_log o (stop.Refuse (BadRollback name)) is = absurd is
-  load_log o (stop.Refuse (BadImage name)) is = absurd is
+  load_log o (stop.Refuse other) is = absurd is
 
   pub unloaded_serves : (s : State) (loaded : Result (List Row) Fault) (e : Stop) (r : Reply) → (volume → IsFree s) → (source → CausedStop source_fails loaded e) → IsSourceStop source_fails e → Replies true found (kind_unloaded e) r → Serves volume source s s (of_rows s.held loaded) (Install folder) (λ x. x ≡ found) source_fails r.kind (log_in r)
   unloaded_serves s loaded e r free caused is replies =
@@ -177,11 +168,7 @@ module _ (volume source : Type 0) (files : Files) (folder : List ℕ) (found : S
       where
         caused_rose : BelowCount s.faults u.faults → u.faults < 2 ^ 64 - 1 → s.faults < u.faults
         caused_rose below under = grind (arith, le, below)
-    write_caused le (Refused (BadWords place)) caused is = absurd is
-    write_caused le (Refused (BadRollback name)) caused is = absurd is
-    write_caused le (Refused (BadImage name)) caused is = absurd is
-    write_caused le (Refused SourceFault) caused is = absurd is
-    write_caused le (Refused (Table fault)) caused is = absurd is
+    write_caused le (Refused other) caused is = absurd is
     write_caused le (Suspended pause) caused is = (caused, λ v src. (after rows s.held, makes src))
     write_caused le NoMemory caused is = tt
 
@@ -190,11 +177,7 @@ module _ (volume source : Type 0) (files : Files) (folder : List ℕ) (found : S
     write_answers Listed is = absurd is
     write_answers (Recovered settled) is = absurd is
     write_answers (Refused VolumeFault) is = tt
-    write_answers (Refused (BadWords place)) is = absurd is
-    write_answers (Refused (BadRollback name)) is = absurd is
-    write_answers (Refused (BadImage name)) is = absurd is
-    write_answers (Refused SourceFault) is = absurd is
-    write_answers (Refused (Table fault)) is = absurd is
+    write_answers (Refused other) is = absurd is
     write_answers (Suspended pause) is = tt
     write_answers NoMemory is = tt
 
@@ -203,11 +186,7 @@ module _ (volume source : Type 0) (files : Files) (folder : List ℕ) (found : S
     write_cleans Listed free is = absurd is
     write_cleans (Recovered settled) free is = absurd is
     write_cleans (Refused VolumeFault) free is = tt
-    write_cleans (Refused (BadWords place)) free is = absurd is
-    write_cleans (Refused (BadRollback name)) free is = absurd is
-    write_cleans (Refused (BadImage name)) free is = absurd is
-    write_cleans (Refused SourceFault) free is = absurd is
-    write_cleans (Refused (Table fault)) free is = absurd is
+    write_cleans (Refused other) free is = absurd is
     write_cleans (Suspended pause) free is = tt
     write_cleans NoMemory free is = tt
 

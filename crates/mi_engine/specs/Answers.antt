@@ -16,9 +16,9 @@ use Rattle.mi_base.specs.declared.answers.Pause.{Pause}
 use Rattle.mi_base.specs.declared.answers.Kind.{Kind}
 use Rattle.mi_base.specs.declared.answers.Kind.TheVariants.{Done, Listed, Recovered, Refused, Suspended, NoMemory}
 use Rattle.mi_model.specs.Report.{report_of}
-use Rattle.mi_model.specs.Words.{Command, Install, Products, Recover}
-use Rattle.mi_model.specs.Outcome.{Outcome, kind_of}
-use Rattle.mi_model.specs.Outcome as outcome
+use Rattle.mi_model.specs.PlainWords.{Command, Install, Products, Recover}
+use Rattle.mi_model.specs.PlainOutcome.{Outcome, kind_of}
+use Rattle.mi_model.specs.PlainOutcome as outcome
 use Rattle.mi_engine.specs.Ends.{MayCommit, Paused}
 
 -- ---- which answers the words allow, whatever the devices tell

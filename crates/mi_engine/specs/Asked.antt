@@ -1,5 +1,5 @@
 -- What a read command asks for.
-use Rattle.mi_model.specs.Words.{Command, Install, Products, Recover}
+use Rattle.mi_model.specs.PlainWords.{Command, Install, Products, Recover}
 use Rattle.mi_engine.specs.declared.words.Command as read
 use Rattle.mi_engine.specs.declared.words.Command.TheVariants as variant
 

@@ -11,8 +11,8 @@ use Rattle.mi_base.specs.declared.answers.Kind.TheVariants.{Listed, NoMemory}
 use Rattle.mi_image.specs.Items.{Items, machine_over}
 use Rattle.mi_model.specs.Listings.{products_text_of}
 use Rattle.mi_engine.specs.declared.reply.Reply.{Reply}
-use Rattle.mi_model.specs.Words.{Command}
-use Rattle.mi_model.specs.Outcome.{Outcome, map_after}
+use Rattle.mi_model.specs.PlainWords.{Command}
+use Rattle.mi_model.specs.PlainOutcome.{Outcome, map_after}
 use Rattle.mi_engine.specs.Calls.{Fails}
 use Rattle.mi_engine.specs.Ends.{Ends, BelowCount, AtExit}
 use Rattle.mi_engine.specs.Answers.{AnswersCommand, AnswersWords, Caused, MayPause, MayStand, ReadsAfter, Cleans, walks, log_of, Tells, IsLog}

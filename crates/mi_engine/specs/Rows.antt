@@ -9,7 +9,7 @@ use Rattle.mi_base.specs.declared.answers.Cause.TheVariants.{Table}
 use Rattle.mi_schema.specs.Checks.{load_fault, content_of}
 use Rattle.mi_model.specs.Built.{Row}
 use Rattle.mi_model.specs.After.{after}
-use Rattle.mi_model.specs.Outcome.{Outcome, Done, Refused}
+use Rattle.mi_model.specs.PlainOutcome.{Outcome, Done, Refused}
 use Rattle.mi_model.specs.Plan.{planned_rows}
 
 -- a package with a fault writes nothing

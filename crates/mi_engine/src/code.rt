@@ -32,10 +32,15 @@ fn code_of_cause(cause: &Cause) -> u8
     match cause {
         Cause::BadWords(_) => 10,
         Cause::Table(_) => 11,
+        Cause::UnknownProduct(_) => 12,
+        Cause::Launch(_) => 13,
+        Cause::ErrorAction(_, _) => 14,
+        Cause::Full(_, _) => 15,
         Cause::SourceFault => 16,
         Cause::VolumeFault => 17,
         Cause::BadImage(_) => 18,
         Cause::BadRollback(_) => 19,
+        Cause::RecoveryFull(_) => 20,
     }
 }
 

@@ -37,7 +37,10 @@ fn answer_back(back: Result<(), BackFault>, why: Stop, begun: u64, again: u64) -
 {
     match back {
         Ok(()) => give_up(why),
-        Err(BackFault::NoMemory) => Kind::NoMemory,
+        Err(BackFault::NoMemory) => {
+            drop(why);
+            Kind::NoMemory
+        }
         Err(BackFault::Fault) => still_back(why, begun, again),
         Err(BackFault::Full) => still_back(why, begun, again),
     }

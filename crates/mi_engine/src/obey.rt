@@ -7,10 +7,10 @@ ghost use Rattle.mi_undo.specs.Keeps.{IsFree};
 ghost use Rattle.mi_undo.specs.Answers.{IsFreeUnlessRose};
 ghost use Rattle.mi_base.specs.Machine.{Machine};
 ghost use Rattle.mi_image.specs.Items.{machine_over};
-ghost use Rattle.mi_model.specs.Words.{Install, Installs};
+ghost use Rattle.mi_model.specs.PlainWords.{Install, Installs};
 ghost use Rattle.mi_engine.specs.Asked.{asked};
 ghost use Rattle.mi_model.specs.After.{after};
-ghost use Rattle.mi_model.specs.Outcome.{of_command, of_package};
+ghost use Rattle.mi_model.specs.PlainOutcome.{of_command, of_package};
 ghost use Rattle.mi_engine.specs.Ends.{Ends, WriteCaused, IsWriteKind};
 ghost use Rattle.mi_engine.specs.Replies.{Serves, Lists, WriteLogs, log_in};
 

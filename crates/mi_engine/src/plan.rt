@@ -2,9 +2,9 @@
 
 ghost use Rattle.std.specs.Prelude.{◌≡◌, ◌∷◌, [], ◌++◌, ◌<◌, ◌≤◌, true, List, ℕ, take, filter, map, IfOk, IfErr, OnOk};
 ghost use Rattle.std.specs.FinMap.{get};
-ghost use Rattle.mi_base.specs.Limits.{is_key};
+ghost use Rattle.mi_base.specs.Limits.{fits, is_key};
 ghost use Rattle.mi_volume.specs.State.{Passes};
-ghost use Rattle.mi_model.specs.After.{is_new, key_entry, value_entry, path_of, planned};
+ghost use Rattle.mi_model.specs.After.{is_new, key_entry, value_entry, path_of, planned, spelled};
 ghost use Rattle.mi_model.specs.Built.{Row};
 ghost use Rattle.mi_engine.specs.Calls.{map_of, Fails, IsVolumeStop, Adds};
 ghost use Rattle.mi_engine.specs.Changes.{NothingInside};
@@ -23,6 +23,19 @@ pub type Plan = BTreeMap<Name, Bytes>;
 /// The root HKEY_LOCAL_MACHINE.
 const LOCAL_MACHINE: u8 = 2;
 
+/// The name and the record of an entry that keeps the rules of its kind.
+fn record_of(alloc: Global, entry: &Entry) -> Result<(Name, Bytes), Stop>
+    requires { fits entry.now ≡ true }
+    ensures record { IfOk result (λ e. e ≡ spelled entry.now) }
+    ensures stopped { IfErr result (λ stop. stop ≡ Stop.NoMemory) }
+{
+    match enc_entry(alloc, entry) {
+        Ok(record) => Ok(record),
+        Err(EncError::NoMemory) => Err(Stop::NoMemory),
+        Err(EncError::Field) => unreachable!(),
+    }
+}
+
 /// The name and the record of a key.
 fn key_record(alloc: Global, key: &str) -> Result<(Name, Bytes), Stop>
     requires { is_key key.now ≡ true }
@@ -30,11 +43,10 @@ fn key_record(alloc: Global, key: &str) -> Result<(Name, Bytes), Stop>
     ensures stopped { IfErr result (λ stop. stop ≡ Stop.NoMemory) }
 {
     let shown = Text::copy_of(alloc, key)?;
-    match enc_entry(alloc, &Entry::Key(LOCAL_MACHINE, shown)) {
-        Ok(record) => Ok(record),
-        Err(EncError::NoMemory) => Err(Stop::NoMemory),
-        Err(EncError::Field) => unreachable!(),
-    }
+    let entry = Entry::Key(LOCAL_MACHINE, shown);
+    let record = record_of(alloc, &entry);
+    drop(entry);
+    record
 }
 
 /// The name and the record of the value that a row writes.
@@ -50,11 +62,10 @@ fn value_record(alloc: Global, row: &PlainRow) -> Result<(Name, Bytes), Stop>
         key,
         shown,
     };
-    match enc_entry(alloc, &Entry::Value(place, RegValue::Text(text))) {
-        Ok(record) => Ok(record),
-        Err(EncError::NoMemory) => Err(Stop::NoMemory),
-        Err(EncError::Field) => unreachable!(),
-    }
+    let entry = Entry::Value(place, RegValue::Text(text));
+    let record = record_of(alloc, &entry);
+    drop(entry);
+    record
 }
 
 /// Plans a key that is neither planned nor held.

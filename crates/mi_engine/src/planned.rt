@@ -20,6 +20,7 @@ use mi_base::{Cause, Fault, NoMemory, Text};
 use mi_schema::{Package, RegistryRow};
 use std::alloc::Global;
 use std::collections::BTreeMap;
+use std::mem;
 
 /// What the rows of Registry write.
 #[derive(Drop)]
@@ -125,10 +126,12 @@ fn first_of(
 }
 
 /// The rows of Registry; the others are dropped.
-fn registry_of(loaded: Package) -> IndexMap<Text, RegistryRow>
+fn registry_of(alloc: Global, mut loaded: Package) -> IndexMap<Text, RegistryRow>
     ensures { result ≡ loaded.registry }
 {
-    loaded.registry
+    let registry = mem::replace(&mut loaded.registry, IndexMap::new(alloc));
+    drop(loaded);
+    registry
 }
 
 /// The refusal of a row that isn't built.
@@ -149,7 +152,7 @@ pub fn planned(alloc: Global, loaded: Package) -> Result<Vec<PlainRow>, Stop>
 {
     let before = before_registry(&loaded);
     let behind = behind_registry(&loaded);
-    let values = registry_values(alloc, registry_of(loaded))?;
+    let values = registry_values(alloc, registry_of(alloc, loaded))?;
     match first_of(before, values.unbuilt, behind) {
         Some((table, row)) => Err(not_yet(alloc, table, row)),
         None => {

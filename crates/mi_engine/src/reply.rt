@@ -31,12 +31,28 @@ pub fn logged(alloc: Global, kind: Kind, settled: Settled, walks: bool) -> Reply
     };
     match report(alloc, &outcome, 0) {
         Ok(front) => Reply {
-            kind: outcome.kind,
+            kind: kind_of(outcome),
             front,
             line: b"",
         },
-        Err(_) => out_of_memory(alloc),
+        Err(_) => {
+            drop(outcome);
+            out_of_memory(alloc)
+        }
     }
+}
+
+/// The answer alone.
+fn kind_of(outcome: Outcome) -> Kind
+    ensures { result ≡ outcome.kind }
+{
+    let Outcome {
+        kind,
+        settled: _,
+        walks: _,
+        begun: _,
+    } = outcome;
+    kind
 }
 
 /// The answer of want of memory, which takes none.
@@ -62,7 +78,9 @@ pub fn front_of(alloc: Global, settled: Settled) -> Result<Bytes, NoMemory>
         walks: true,
         begun: Texts::new(alloc),
     };
-    report(alloc, &outcome, 0)
+    let front = report(alloc, &outcome, 0);
+    drop(outcome);
+    front
 }
 
 /// The answer of a run that has written its plan, with a front that was made before. It takes no memory.

@@ -6,9 +6,9 @@ ghost use Rattle.mi_source.specs.Counts.{Rose};
 ghost use Rattle.mi_undo.specs.Keeps.{IsFree};
 ghost use Rattle.mi_undo.specs.Stands.{stands, settled};
 ghost use Rattle.mi_base.specs.Machine.{machine_of};
-ghost use Rattle.mi_model.specs.Words.{Installs};
+ghost use Rattle.mi_model.specs.PlainWords.{Installs};
 ghost use Rattle.mi_engine.specs.Asked.{asked};
-ghost use Rattle.mi_model.specs.Outcome.{of_machine, of_former};
+ghost use Rattle.mi_model.specs.PlainOutcome.{of_machine, of_former};
 ghost use Rattle.mi_engine.specs.Replies.{Serves, Runs, log_in};
 
 use crate::ending::{unscanned, unsettled};

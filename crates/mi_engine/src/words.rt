@@ -3,12 +3,12 @@
 ghost use Rattle.std.specs.Prelude.{◌≡◌, Ok, Err, MatchResult};
 ghost use Rattle.std.specs.Str.{bytes_eq};
 ghost use Rattle.mi_text.specs.Fold.{folded};
-ghost use Rattle.mi_model.specs.Words.{texts_of, command_of, install_in, alone};
+ghost use Rattle.mi_model.specs.PlainWords.{texts_of, command_of, install_in, alone};
 ghost use Rattle.mi_engine.specs.Asked.{asked};
 ghost use Rattle.mi_engine.specs.Answers.{walks};
 
 /// What a run is asked for.
-#[derive(Clone, Copy, Debug)]
+#[derive(Clone, Copy)]
 pub enum Command<'a> {
     /// The package of this folder.
     Install(&'a str),

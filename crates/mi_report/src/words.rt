@@ -2,9 +2,11 @@
 
 ghost use Rattle.std.specs.Prelude.{◌≡◌, ◌++◌, ◌∷◌, [], OnOk, codes};
 ghost use Rattle.std.specs.Fmt.{decimal};
+ghost use Rattle.mi_text.specs.Guid.{guid_text};
+ghost use Rattle.mi_report.specs.Fields.{field_words};
 ghost use Rattle.mi_model.specs.Lines.{shown, spaced, idt_words, fault_words, cause_words, settled_words, place_words, result_words, result_line};
 
-use mi_base::{Cause, Fault, IdtFault, Kind, NoMemory, Place, Settled};
+use mi_base::{Cause, Fault, Guid, IdtFault, Kind, NoMemory, Place, Settled};
 use std::alloc::Global;
 
 /// Adds a text; bytes below 32 are written as `?`.
@@ -52,25 +54,25 @@ pub fn push_field(alloc: Global, out: &mut Vec<u8>, number: u64) -> Result<(), N
 }
 
 // A name and a number.
-fn push_numbered(alloc: Global, out: &mut Vec<u8>, name: &str, number: u32) -> Result<(), NoMemory>
+fn push_numbered(alloc: Global, out: &mut Vec<u8>, name: &str, number: u64) -> Result<(), NoMemory>
     ensures { OnOk result (out.new.items ≡ out.old.items ++ spaced (name.now ∷ decimal number ∷ [])) }
 {
     push_word(out, name)?;
-    push_field(alloc, out, u64::from(number))
+    push_field(alloc, out, number)
 }
 
-// A name, a row and a column.
-fn push_placed(
+// A name and two numbers.
+fn push_numbers(
     alloc: Global,
     out: &mut Vec<u8>,
     name: &str,
-    row: u32,
-    column: u32,
+    first: u64,
+    second: u64,
 ) -> Result<(), NoMemory>
-    ensures { OnOk result (out.new.items ≡ out.old.items ++ spaced (name.now ∷ decimal row ∷ decimal column ∷ [])) }
+    ensures { OnOk result (out.new.items ≡ out.old.items ++ spaced (name.now ∷ decimal first ∷ decimal second ∷ [])) }
 {
-    push_numbered(alloc, out, name, row)?;
-    push_field(alloc, out, u64::from(column))
+    push_numbered(alloc, out, name, first)?;
+    push_field(alloc, out, second)
 }
 
 // A name and a text.
@@ -81,33 +83,50 @@ fn push_named(out: &mut Vec<u8>, name: &str, text: &str) -> Result<(), NoMemory>
     push_text(out, text)
 }
 
-// A name, a table and a row.
+// A name and two texts.
+fn push_pair(out: &mut Vec<u8>, name: &str, first: &str, second: &str) -> Result<(), NoMemory>
+    ensures { OnOk result (out.new.items ≡ out.old.items ++ spaced (name.now ∷ shown first.now ∷ shown second.now ∷ [])) }
+{
+    push_named(out, name, first)?;
+    push_text(out, second)
+}
+
+// A name, a text and a number.
 fn push_row(
     alloc: Global,
     out: &mut Vec<u8>,
     name: &str,
-    table: &str,
-    row: u32,
+    text: &str,
+    number: u64,
 ) -> Result<(), NoMemory>
-    ensures { OnOk result (out.new.items ≡ out.old.items ++ spaced (name.now ∷ shown table.now ∷ decimal row ∷ [])) }
+    ensures { OnOk result (out.new.items ≡ out.old.items ++ spaced (name.now ∷ shown text.now ∷ decimal number ∷ [])) }
 {
-    push_named(out, name, table)?;
-    push_field(alloc, out, u64::from(row))
+    push_named(out, name, text)?;
+    push_field(alloc, out, number)
 }
 
-// A name, a table, a row and a column or a place.
+// A name, a text and two numbers.
 fn push_cell(
     alloc: Global,
     out: &mut Vec<u8>,
     name: &str,
-    table: &str,
-    row: u32,
-    column: u64,
+    text: &str,
+    first: u64,
+    second: u64,
 ) -> Result<(), NoMemory>
-    ensures { OnOk result (out.new.items ≡ out.old.items ++ spaced (name.now ∷ shown table.now ∷ decimal row ∷ decimal column ∷ [])) }
+    ensures { OnOk result (out.new.items ≡ out.old.items ++ spaced (name.now ∷ shown text.now ∷ decimal first ∷ decimal second ∷ [])) }
 {
-    push_row(alloc, out, name, table, row)?;
-    push_field(alloc, out, column)
+    push_row(alloc, out, name, text, first)?;
+    push_field(alloc, out, second)
+}
+
+// A name and a code.
+fn push_coded(alloc: Global, out: &mut Vec<u8>, name: &str, code: Guid) -> Result<(), NoMemory>
+    ensures { OnOk result (out.new.items ≡ out.old.items ++ spaced (name.now ∷ guid_text code.number ∷ [])) }
+{
+    let text = code.print(alloc)?;
+    push_word(out, name)?;
+    push_word(out, text.as_str())
 }
 
 fn push_idt(alloc: Global, out: &mut Vec<u8>, fault: &IdtFault) -> Result<(), NoMemory>
@@ -116,76 +135,154 @@ fn push_idt(alloc: Global, out: &mut Vec<u8>, fault: &IdtFault) -> Result<(), No
     match fault {
         IdtFault::TooLarge => push_word(out, "TooLarge"),
         IdtFault::TooFewLines => push_word(out, "TooFewLines"),
-        IdtFault::NotUtf8(line) => push_numbered(alloc, out, "NotUtf8", *line),
-        IdtFault::ColumnName(column) => push_numbered(alloc, out, "ColumnName", *column),
-        IdtFault::ColumnCount(line) => push_numbered(alloc, out, "ColumnCount", *line),
-        IdtFault::Definition(column) => push_numbered(alloc, out, "Definition", *column),
-        IdtFault::CodePage(page) => push_numbered(alloc, out, "CodePage", *page),
+        IdtFault::NotUtf8(line) => push_numbered(alloc, out, "NotUtf8", u64::from(*line)),
+        IdtFault::ColumnName(column) => push_numbered(alloc, out, "ColumnName", u64::from(*column)),
+        IdtFault::ColumnCount(line) => push_numbered(alloc, out, "ColumnCount", u64::from(*line)),
+        IdtFault::Definition(column) => push_numbered(alloc, out, "Definition", u64::from(*column)),
+        IdtFault::CodePage(page) => push_numbered(alloc, out, "CodePage", u64::from(*page)),
         IdtFault::KeyColumn(name) => push_named(out, "KeyColumn", name.as_str()),
-        IdtFault::Null(row, column) => push_placed(alloc, out, "Null", *row, *column),
-        IdtFault::Integer(row, column) => push_placed(alloc, out, "Integer", *row, *column),
-        IdtFault::TwoKeys(row) => push_numbered(alloc, out, "TwoKeys", *row),
+        IdtFault::Null(row, column) => push_numbers(
+            alloc,
+            out,
+            "Null",
+            u64::from(*row),
+            u64::from(*column),
+        ),
+        IdtFault::Integer(row, column) => push_numbers(
+            alloc,
+            out,
+            "Integer",
+            u64::from(*row),
+            u64::from(*column),
+        ),
+        IdtFault::TwoKeys(row) => push_numbered(alloc, out, "TwoKeys", u64::from(*row)),
     }
 }
 
-fn push_fault(alloc: Global, out: &mut Vec<u8>, fault: &Fault) -> Result<(), NoMemory>
-    ensures { OnOk result (out.new.items ≡ out.old.items ++ spaced (fault_words fault.now)) }
+/// What stands behind the name of a fault.
+#[derive(Clone, Copy)]
+enum Fields<'a> {
+    None,
+    Text(&'a str),
+    Texts(&'a str, &'a str),
+    Number(u64),
+    Row(&'a str, u64),
+    Cell(&'a str, u64, u64),
+    Nested(&'a str, &'a IdtFault),
+}
+
+/// The name of a fault, and what stands behind it.
+fn fault_fields(fault: &Fault) -> (&'static str, Fields<'_>)
+    ensures { result.0.now ∷ field_words result.1 ≡ fault_words fault.now }
 {
     match fault {
-        Fault::NotYet(table, row) => push_row(alloc, out, "NotYet", table.as_str(), *row),
-        Fault::MissingTable(table) => push_named(out, "MissingTable", table.as_str()),
-        Fault::Idt(table, fault) => {
-            push_named(out, "Idt", table.as_str())?;
-            push_idt(alloc, out, fault)
-        }
-        Fault::Columns(table) => push_named(out, "Columns", table.as_str()),
-        Fault::Unsupported(table) => push_named(out, "Unsupported", table.as_str()),
-        Fault::Value(table, row, column) => push_cell(
-            alloc,
-            out,
+        Fault::NotYet(table, row) => ("NotYet", Fields::Row(table.as_str(), u64::from(*row))),
+        Fault::MissingTable(table) => ("MissingTable", Fields::Text(table.as_str())),
+        Fault::Idt(table, nested) => ("Idt", Fields::Nested(table.as_str(), nested)),
+        Fault::Columns(table) => ("Columns", Fields::Text(table.as_str())),
+        Fault::Unsupported(table) => ("Unsupported", Fields::Text(table.as_str())),
+        Fault::Value(table, row, column) => (
             "Value",
-            table.as_str(),
-            *row,
-            u64::from(*column),
+            Fields::Cell(table.as_str(), u64::from(*row), u64::from(*column)),
         ),
-        Fault::Condition(table, row, place) => push_cell(
-            alloc,
-            out,
+        Fault::Condition(table, row, place) => (
             "Condition",
-            table.as_str(),
-            *row,
-            *place,
+            Fields::Cell(table.as_str(), u64::from(*row), *place),
         ),
-        Fault::MissingProperty(name) => push_named(out, "MissingProperty", name.as_str()),
-        Fault::Reference(table, row, column) => push_cell(
-            alloc,
-            out,
+        Fault::MissingProperty(name) => ("MissingProperty", Fields::Text(name.as_str())),
+        Fault::Reference(table, row, column) => (
             "Reference",
-            table.as_str(),
-            *row,
-            u64::from(*column),
+            Fields::Cell(table.as_str(), u64::from(*row), u64::from(*column)),
         ),
-        Fault::Cycle(table, row) => push_row(alloc, out, "Cycle", table.as_str(), *row),
-        Fault::Compressed(file) => push_named(out, "Compressed", file.as_str()),
+        Fault::Cycle(table, row) => ("Cycle", Fields::Row(table.as_str(), u64::from(*row))),
+        Fault::Compressed(file) => ("Compressed", Fields::Text(file.as_str())),
+        Fault::UnknownFeature(item) => ("UnknownFeature", Fields::Text(item.as_str())),
+        Fault::AddSource => ("AddSource", Fields::None),
+        Fault::BadProperty(name) => ("BadProperty", Fields::Text(name.as_str())),
+        Fault::BadPath(table, row) => ("BadPath", Fields::Row(table.as_str(), u64::from(*row))),
+        Fault::TooDeep(table, row) => ("TooDeep", Fields::Row(table.as_str(), u64::from(*row))),
+        Fault::BadKey(table, row) => ("BadKey", Fields::Row(table.as_str(), u64::from(*row))),
+        Fault::BadValue(table, row) => ("BadValue", Fields::Row(table.as_str(), u64::from(*row))),
+        Fault::BadEnvironment(row) => ("BadEnvironment", Fields::Number(u64::from(*row))),
+        Fault::SameTarget(former, later) => (
+            "SameTarget",
+            Fields::Texts(former.as_str(), later.as_str()),
+        ),
+        Fault::Missing(file) => ("Missing", Fields::Text(file.as_str())),
+        Fault::SizeDiffers(file, stated, found) => (
+            "SizeDiffers",
+            Fields::Cell(file.as_str(), *stated, *found),
+        ),
+        Fault::UnknownAction(action) => ("UnknownAction", Fields::Text(action.as_str())),
+        Fault::Executable(action) => ("Executable", Fields::Text(action.as_str())),
+        Fault::SequenceOrder(action) => ("SequenceOrder", Fields::Text(action.as_str())),
+        Fault::NoFinalize => ("NoFinalize", Fields::None),
+        Fault::BadName(action) => ("BadName", Fields::Text(action.as_str())),
     }
+}
+
+// The fault of a table's text behind a name and the table.
+fn push_nested(
+    alloc: Global,
+    out: &mut Vec<u8>,
+    name: &str,
+    table: &str,
+    fault: &IdtFault,
+) -> Result<(), NoMemory>
+    ensures { OnOk result (out.new.items ≡ out.old.items ++ spaced (name.now ∷ shown table.now ∷ idt_words fault.now)) }
+{
+    push_named(out, name, table)?;
+    push_idt(alloc, out, fault)
+}
+
+fn push_fields(
+    alloc: Global,
+    out: &mut Vec<u8>,
+    name: &str,
+    fields: Fields<'_>,
+) -> Result<(), NoMemory>
+    ensures { OnOk result (out.new.items ≡ out.old.items ++ spaced (name.now ∷ field_words fields.entry)) }
+{
+    match fields {
+        Fields::None => push_word(out, name),
+        Fields::Text(text) => push_named(out, name, text),
+        Fields::Texts(first, second) => push_pair(out, name, first, second),
+        Fields::Number(number) => push_numbered(alloc, out, name, number),
+        Fields::Row(table, row) => push_row(alloc, out, name, table, row),
+        Fields::Cell(table, first, second) => push_cell(alloc, out, name, table, first, second),
+        Fields::Nested(table, fault) => push_nested(alloc, out, name, table, fault),
+    }
+}
+
+// The words of a fault of the package behind the name of the cause.
+fn push_fault(alloc: Global, out: &mut Vec<u8>, fault: &Fault) -> Result<(), NoMemory>
+    ensures { OnOk result (out.new.items ≡ out.old.items ++ spaced (codes "Table" ∷ fault_words fault.now)) }
+{
+    push_word(out, "Table")?;
+    let (name, fields) = fault_fields(fault);
+    push_fields(alloc, out, name, fields)
 }
 
 fn push_cause(alloc: Global, out: &mut Vec<u8>, cause: &Cause) -> Result<(), NoMemory>
     ensures { OnOk result (out.new.items ≡ out.old.items ++ spaced (cause_words cause.now)) }
 {
     match cause {
-        Cause::BadWords(place) => {
-            push_word(out, "BadWords")?;
-            push_field(alloc, out, *place)
-        }
+        Cause::BadWords(place) => push_numbered(alloc, out, "BadWords", *place),
         Cause::VolumeFault => push_word(out, "VolumeFault"),
         Cause::BadRollback(name) => push_named(out, "BadRollback", name.as_str()),
+        Cause::RecoveryFull(name) => push_named(out, "RecoveryFull", name.as_str()),
         Cause::BadImage(name) => push_named(out, "BadImage", name.as_str()),
         Cause::SourceFault => push_word(out, "SourceFault"),
-        Cause::Table(fault) => {
-            push_word(out, "Table")?;
-            push_fault(alloc, out, fault)
-        }
+        Cause::Table(fault) => push_fault(alloc, out, fault),
+        Cause::UnknownProduct(code) => push_coded(alloc, out, "UnknownProduct", *code),
+        Cause::Launch(text) => push_named(out, "Launch", text.as_str()),
+        Cause::ErrorAction(action, text) => push_pair(
+            out,
+            "ErrorAction",
+            action.as_str(),
+            text.as_str(),
+        ),
+        Cause::Full(need, room) => push_numbers(alloc, out, "Full", *need, *room),
     }
 }
 
@@ -194,10 +291,7 @@ fn push_settled(alloc: Global, out: &mut Vec<u8>, settled: Settled) -> Result<()
 {
     match settled {
         Settled::Clean => push_word(out, "Clean"),
-        Settled::Undone(count) => {
-            push_word(out, "Undone")?;
-            push_field(alloc, out, count)
-        }
+        Settled::Undone(count) => push_numbered(alloc, out, "Undone", count),
     }
 }
 

@@ -3,8 +3,8 @@ use Rattle.mi_engine.proofs.ServeLemmas.{write_serves, unloaded_serves, package_
 use Rattle.mi_base.specs.declared.answers.Kind.{Kind}
 use Rattle.mi_model.specs.Built.{Row}
 use Rattle.mi_model.specs.After.{after}
-use Rattle.mi_model.specs.Outcome.{Outcome}
-use Rattle.mi_model.specs.Words.{Install}
+use Rattle.mi_model.specs.PlainOutcome.{Outcome}
+use Rattle.mi_model.specs.PlainWords.{Install}
 use Rattle.mi_engine.specs.Ends.{Ends}
 use Rattle.mi_engine.specs.Rows.{rows_of}
 use Rattle.mi_source.specs.Counts.{Rose}

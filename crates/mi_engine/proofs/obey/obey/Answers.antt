@@ -3,7 +3,7 @@ use Rattle.mi_source.specs.Counts.{Rose}
 use Rattle.mi_image.specs.Items.{machine_over}
 use Rattle.mi_engine.specs.declared.words.Command as read
 use Rattle.mi_engine.specs.Asked.{asked}
-use Rattle.mi_model.specs.Outcome.{of_command}
+use Rattle.mi_model.specs.PlainOutcome.{of_command}
 use Rattle.mi_engine.specs.Replies.{Serves, log_in}
 use Rattle.mi_engine.proofs.ServeLemmas.{list_serves, recover_serves}
 use Rattle.mi_engine.proofs.obey.obey.Goals as goal

@@ -1,4 +1,4 @@
-use Rattle.std.proofs.Common.{◌≡◌, true, false, Err, List, ℕ, sym, ap, ◌∙◌}
+use Rattle.std.proofs.Common.{◌≡◌, List, ℕ, ap, ◌∙◌}
 use Rattle.mi_text.specs.Fold.{folded}
 use Rattle.mi_base.specs.Limits.{fits}
 use Rattle.mi_base.specs.declared.entry.Entry.TheVariants.{Value}
@@ -6,16 +6,12 @@ use Rattle.mi_base.specs.declared.entry.RegValue.TheVariants.{Text}
 use Rattle.mi_engine.proofs.EntryLemmas.{value_fits}
 use Rattle.mi_engine.proofs.plan.value_record.Goals as goal
 
-pub unreachable-requires : goal.unreachable-requires
-unreachable-requires c =
-    let unfit : fits (Value (record { root = 2; key = c.in_ok-key.key; shown = c.in_ok-shown.shown }) (Text c.in_ok-text.text)) ≡ false = c.enc_entry.ensures.field.0 (c.in-Err-Field.is ∙ ap Err c.in-Err-Field.field-0-is) in
+pub record_of-record-requires : goal.record_of-record-requires
+record_of-record-requires c =
     let key : c.in_ok-key.key ≡ folded c.args.row.now.key = c.in_ok-key.ensures ∙ ap folded c.key.ensures.key in
     let name = c.in_ok-shown.ensures ∙ c.name.ensures in
     let value = c.in_ok-text.ensures ∙ c.value.ensures in
-    let fit : fits (Value (record { root = 2; key = c.in_ok-key.key; shown = c.in_ok-shown.shown }) (Text c.in_ok-text.text)) ≡ true =
     ap (λ (k : List ℕ). fits (Value (record { root = 2; key = k; shown = c.in_ok-shown.shown }) (Text c.in_ok-text.text))) key
     ∙ ap (λ (n : List ℕ). fits (Value (record { root = 2; key = folded c.args.row.now.key; shown = n }) (Text c.in_ok-text.text))) name
     ∙ ap (λ (v : List ℕ). fits (Value (record { root = 2; key = folded c.args.row.now.key; shown = c.args.row.now.name }) (Text v))) value
-    ∙ value_fits c.args.row.now.key c.args.row.now.name c.args.row.now.value c.key.ensures.built in
-    let clash : true ≡ false = sym fit ∙ unfit in
-    cc
+    ∙ value_fits c.args.row.now.key c.args.row.now.name c.args.row.now.value c.key.ensures.built

@@ -4,7 +4,7 @@ use Rattle.mi_base.specs.Machine.{machine_of}
 use Rattle.mi_base.specs.declared.answers.Kind.{Kind}
 use Rattle.mi_image.specs.Items.{machine_over}
 use Rattle.mi_engine.specs.Asked.{asked}
-use Rattle.mi_model.specs.Outcome.{of_command, of_machine}
+use Rattle.mi_model.specs.PlainOutcome.{of_command, of_machine}
 use Rattle.mi_engine.specs.Endings.{kind_unscanned}
 use Rattle.mi_engine.specs.Replies.{Replies, log_in}
 use Rattle.mi_engine.proofs.ServeLemmas.{unscanned_serves, scanned_outcome}

@@ -1,5 +1,5 @@
-use Rattle.mi_model.specs.Words.{texts_of, command_of}
-use Rattle.mi_model.specs.Outcome.{outcome}
+use Rattle.mi_model.specs.PlainWords.{texts_of, command_of}
+use Rattle.mi_model.specs.PlainOutcome.{outcome}
 use Rattle.mi_engine.proofs.RunLemmas.{completes, completes_alone}
 use Rattle.mi_engine.proofs.top.run.Goals as goal
 

@@ -1,6 +1,6 @@
 use Rattle.std.proofs.Common.{Err}
 use Rattle.mi_source.specs.Counts.{Rose}
-use Rattle.mi_model.specs.Words.{texts_of, command_of}
+use Rattle.mi_model.specs.PlainWords.{texts_of, command_of}
 use Rattle.mi_engine.specs.Replies.{log_in}
 use Rattle.mi_engine.proofs.RunLemmas.{words_runs, of_read_words}
 use Rattle.mi_engine.proofs.top.work.Goals as goal
