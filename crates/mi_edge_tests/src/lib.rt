@@ -2,9 +2,17 @@
 #![tactic(auto)]
 
 #[cfg(test)]
+mod device;
+#[cfg(test)]
+mod fake;
+#[cfg(test)]
 mod folder;
 #[cfg(test)]
+mod known;
+#[cfg(test)]
 mod many_names;
+#[cfg(test)]
+mod power_tests;
 #[cfg(test)]
 mod source_tests;
 #[cfg(test)]

@@ -17,6 +17,8 @@ pub enum Step {
     /// At this name.
     At(&'static str, Act),
     Sync,
+    /// Nothing is changed any more.
+    Close,
     /// This is the first name, or there is none.
     First(Option<&'static str>),
     /// A file that is no name of the volume is written beside those that are.
@@ -44,7 +46,7 @@ pub enum Act {
 }
 
 /// The bytes of a text, as far as a volume takes them at once.
-fn piece_of(text: &str) -> &[u8]
+pub fn piece_of(text: &str) -> &[u8]
     ensures { length result.now ≤ PIECE }
 {
     let bytes = text.as_bytes();
@@ -94,6 +96,10 @@ pub fn is_done(rt: &HostRuntime, folder: &str, volume: &mut Folder, step: Step) 
     match step {
         Step::At(name, act) => is_done_at(rt.alloc(), volume, name, act),
         Step::Sync => volume.sync().is_ok(),
+        Step::Close => {
+            volume.close();
+            true
+        }
         Step::First(wanted) => is_found(volume.next(rt.alloc(), None), wanted),
         Step::Foreign(file) => write_file(rt, folder, file, "no name of the volume"),
         Step::Unsynced(there) => has_file(rt, folder, "unsynced") == there,

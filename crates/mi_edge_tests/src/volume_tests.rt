@@ -56,6 +56,8 @@ const LEFT: [Process; 2] = [
         Step::At("v/1", Act::Holds("a")),
         Step::At("v/1", Act::Remove),
         Step::Sync,
+        Step::Unsynced(true),
+        Step::Close,
         Step::Unsynced(false),
         Step::First(None),
     ],

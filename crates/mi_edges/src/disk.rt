@@ -2,29 +2,35 @@
 
 ghost use Rattle.std.specs.Prelude.{◌≤◌, IfOk, vec_len};
 
-use crate::found::{Lockable, file_length, is_absent, is_folder};
-use crate::levels::{make_levels, sync_levels};
-use crate::listing::list;
-use crate::names::{LONGEST_PATH, PART_BYTES, push_path};
+use crate::found::{Found, Lockable, file_length, is_folder, look};
+use crate::levels::{Levels, do_levels};
+use crate::listing::{Folders, list};
+use crate::names::{LONGEST_NAME, LONGEST_PATH, PART_BYTES, push_path};
 use crate::reading::read_at;
-use crate::syncing::{renew_tree, sync_file, sync_folder};
+use crate::trouble::Trouble;
+use crate::writing::{
+    append_file, make_file, make_folder, mark_file, put_file, remove_path, renew_file, sync_path,
+};
 use std::alloc::Global;
 use std::collections::BTreeSet;
-use std::fs::{File, Files, OpenOptions};
-use std::io::Write;
-use std::{fs, io};
+use std::fs::{File, Files};
 
-/// A folder whose files are names of a volume, locked against other processes for as long as this value lives. Its
-/// calls take no memory but where they are passed an allocator. Before a file or a level of a long name is opened,
-/// written or taken away, one look says that it is a plain file or a plain folder.
+/// A folder whose files are names of a volume. Once it is opened, it is locked against other processes for as long as
+/// this value lives. Its calls take no memory but where they are passed an allocator. Before a file or a level of a long
+/// name is opened, written or taken away, one look says that it is a plain file or a plain folder. A look serves the
+/// calls that follow it at the same name, up to the first that changes something.
 #[derive(Drop)]
 pub struct Disk<R: Files> {
     rt: R,
     folder: String,
     // Room for the longest path, so that no call has to grow it.
     path: String,
+    // The name whose file stands at `path`, with room for the longest, and the length that the last look found; no bytes
+    // where no look serves any more.
+    looked: Vec<u8>,
+    length: u64,
     // The folder itself, open, with its lock.
-    _lock: R::File,
+    lock: Option<R::File>,
 }
 
 /// A file beside the names, which isn't one: it stands there while something that was written may not be synced.
@@ -38,105 +44,130 @@ fn is_shared(name: &[u8], last: Option<&[u8]>, bytes: usize) -> bool {
     }
 }
 
-// Makes the levels of a folder's path that aren't there, opens the folder, and takes its lock.
-fn lock_made<F: Files>(rt: &F, folder: &str) -> io::Result<F::File>
+// Opens the folder, and takes its lock.
+fn lock_folder<F: Files>(rt: &F, folder: &str) -> Result<F::File, Trouble>
 where
     F::File: Lockable,
 {
-    make_levels(rt, folder)?;
     let file = File::open(rt, folder)?;
     match file.take_lock() {
         Ok(()) => Ok(file),
-        Err(error) => Err(error),
+        Err(_) => Err(Trouble::Failed),
     }
 }
 
 impl<R: Files + Alloc + Clone + Drop> Disk<R> {
-    /// Makes the levels of the folder's path that aren't there, and syncs them; takes the folder's lock. Where an
-    /// earlier process has ended without a sync, every file is written anew and synced, and so is every folder.
-    pub fn at(rt: R, alloc: Global, folder: &str) -> io::Result<Disk<R>>
-    where
-        R::File: Lockable,
-    {
-        match lock_made(&rt, folder) {
-            Ok(lock) => Disk::of(rt, alloc, folder, lock),
-            Err(error) => Err(error),
-        }
-    }
-
-    // The folder that has this lock.
-    fn of(rt: R, alloc: Global, folder: &str, lock: R::File) -> io::Result<Disk<R>> {
+    /// A folder that isn't opened yet, with room for the longest path. It looks at nothing.
+    pub fn new(rt: R, alloc: Global, folder: &str) -> Result<Disk<R>, Trouble> {
         let mut disk = Disk {
             rt,
             folder: String::new(alloc),
             path: String::new(alloc),
-            _lock: lock,
+            looked: Vec::new(alloc),
+            length: 0,
+            lock: None,
         };
-        match disk.begin(folder) {
+        match disk.take_room(folder) {
             Ok(()) => Ok(disk),
-            Err(error) => Err(error),
+            Err(trouble) => Err(trouble),
         }
     }
 
-    // Takes room for the longest path, and writes anew what an earlier process left.
-    fn begin(&mut self, folder: &str) -> io::Result<()> {
+    fn take_room(&mut self, folder: &str) -> Result<(), Trouble> {
         self.folder.push_str(folder)?;
         self.path.push_str(folder)?;
         self.path.reserve(LONGEST_PATH + 1)?;
-        self.renew_leftovers()
+        self.looked.reserve(LONGEST_NAME)?;
+        Ok(())
     }
 
-    fn renew_leftovers(&mut self) -> io::Result<()> {
+    /// Makes the levels of the folder's path that aren't there, and syncs them; takes the folder's lock. Where an
+    /// earlier process has ended without a sync, every name's file is written anew and synced, and so is every folder.
+    pub fn open(&mut self, alloc: Global) -> Result<(), Trouble>
+    where
+        R::File: Lockable,
+    {
+        do_levels(&self.rt, self.folder.as_str(), Levels::Make)?;
+        let lock = lock_folder(&self.rt, self.folder.as_str())?;
+        self.lock = Some(lock);
+        self.renew_leftovers(alloc)
+    }
+
+    fn renew_leftovers(&mut self, alloc: Global) -> Result<(), Trouble> {
         self.set_unsynced()?;
-        if file_length(&self.rt, self.path.as_str())?.is_some() {
-            renew_tree(&self.rt, self.folder.as_str())?;
-            sync_levels(&self.rt, self.folder.as_str())?;
-            self.forget_unsynced()?;
+        if file_length(look(&self.rt, self.path.as_str())?)?.is_none() {
+            return Ok(());
+        }
+        self.renew_names(alloc)?;
+        self.sync_levels()?;
+        self.forget_unsynced()
+    }
+
+    fn renew_names(&mut self, alloc: Global) -> Result<(), Trouble> {
+        match self.list(alloc, Folders::Synced) {
+            Ok(names) => {
+                let renewed = self.renew_all(&names);
+                drop(names);
+                renewed
+            }
+            Err(trouble) => Err(trouble),
+        }
+    }
+
+    // Writes the plain files of names anew.
+    fn renew_all(&mut self, names: &BTreeSet<String>) -> Result<(), Trouble> {
+        for name in names.iter() {
+            if let Found::File(length) = self.look_at(name.as_bytes())? {
+                renew_file(&self.rt, self.path.as_str(), length)?;
+            }
         }
         Ok(())
     }
 
-    fn set_folder(&mut self) -> io::Result<()> {
+    fn set_folder(&mut self) -> Result<(), Trouble> {
+        self.looked.clear();
         self.path.clear();
         self.path.push_str(self.folder.as_str())?;
         self.path.push('/')?;
         Ok(())
     }
 
-    fn set_unsynced(&mut self) -> io::Result<()> {
+    fn set_unsynced(&mut self) -> Result<(), Trouble> {
         self.set_folder()?;
         self.path.push_str(UNSYNCED)?;
         Ok(())
     }
 
-    /// Takes down, where a later process finds it, that something may not be synced.
-    pub fn note_unsynced(&mut self) -> io::Result<()> {
-        self.set_unsynced()?;
-        if file_length(&self.rt, self.path.as_str())?.is_none() {
-            let mut how = OpenOptions::new();
-            how.write(true).create_new(true);
-            let _file = how.open(&self.rt, self.path.as_str())?;
-        }
-        Ok(())
-    }
-
-    /// Takes down that all is synced.
-    pub fn forget_unsynced(&mut self) -> io::Result<()> {
-        self.set_unsynced()?;
-        self.remove_path()?;
+    fn set_name(&mut self, name: &[u8]) -> Result<(), Trouble> {
+        self.set_folder()?;
+        push_path(&mut self.path, name)?;
         Ok(())
     }
 
     // The folder that holds the file of a name after so many bytes.
-    fn set_part(&mut self, name: &[u8], bytes: usize) -> io::Result<()> {
-        self.set_folder()?;
-        push_path(&mut self.path, name.get(..bytes).unwrap_or(name))?;
+    fn set_part(&mut self, name: &[u8], bytes: usize) -> Result<(), Trouble> {
+        self.set_name(name.get(..bytes).unwrap_or(name))?;
         self.path.push('+')?;
         Ok(())
     }
 
+    /// Takes down, where a later process finds it, that something may not be synced.
+    pub fn note_unsynced(&mut self) -> Result<(), Trouble> {
+        self.set_unsynced()?;
+        match file_length(look(&self.rt, self.path.as_str())?)? {
+            Some(_) => Ok(()),
+            None => make_file(&self.rt, self.path.as_str()),
+        }
+    }
+
+    /// Takes down that all is synced.
+    pub fn forget_unsynced(&mut self) -> Result<(), Trouble> {
+        self.set_unsynced()?;
+        remove_path(&self.rt, self.path.as_str())
+    }
+
     // Whether the folders in which a name stands are there; each is a plain folder.
-    fn has_parts(&mut self, name: &[u8]) -> io::Result<bool> {
+    fn has_parts(&mut self, name: &[u8]) -> Result<bool, Trouble> {
         for part in 1..11usize {
             let bytes = part * PART_BYTES;
             if bytes < name.len() {
@@ -149,108 +180,121 @@ impl<R: Files + Alloc + Clone + Drop> Disk<R> {
         Ok(true)
     }
 
-    /// The length of a name's file, at whose path this leaves it. What stands there and isn't a plain file is a failure.
-    pub fn size(&mut self, name: &[u8]) -> io::Result<Option<u64>> {
+    // Looks at a name's path, at which this leaves the path.
+    fn look_anew(&mut self, name: &[u8]) -> Result<Found, Trouble> {
         let has_parts = self.has_parts(name)?;
-        self.set_folder()?;
-        push_path(&mut self.path, name)?;
+        self.set_name(name)?;
         if has_parts {
-            file_length(&self.rt, self.path.as_str())
+            look(&self.rt, self.path.as_str())
         } else {
-            Ok(None)
+            Ok(Found::Nothing)
         }
+    }
+
+    /// What stands at a name's path.
+    pub fn look_at(&mut self, name: &[u8]) -> Result<Found, Trouble> {
+        if !name.is_empty() && self.looked.as_slice() == name {
+            return Ok(Found::File(self.length));
+        }
+        let found = self.look_anew(name)?;
+        if let Found::File(length) = found {
+            self.looked.extend_from_slice(name)?;
+            self.length = length;
+        }
+        Ok(found)
+    }
+
+    /// The length of a name's file. What stands at its path and isn't a plain file is a failure.
+    pub fn size(&mut self, name: &[u8]) -> Result<Option<u64>, Trouble> {
+        file_length(self.look_at(name)?)
     }
 
     /// The bytes of a name's file from `at`, at most `want` of them; none where there is no such file.
-    pub fn read(&mut self, alloc: Global, name: &[u8], at: u64, want: usize) -> io::Result<Vec<u8>>
+    pub fn read(
+        &mut self,
+        alloc: Global,
+        name: &[u8],
+        at: u64,
+        want: usize,
+    ) -> Result<Vec<u8>, Trouble>
         ensures { IfOk result (λ bytes. vec_len bytes ≤ want) }
     {
-        match self.size(name) {
-            Ok(Some(_)) => read_at(&self.rt, alloc, self.path.as_str(), at, want),
-            Ok(None) => Ok(Vec::new(alloc)),
-            Err(error) => Err(error),
-        }
+        let length = self.size(name)?.unwrap_or(0);
+        read_at(&self.rt, alloc, self.path.as_str(), length, at, want)
     }
 
-    fn make_parts(&mut self, name: &[u8]) -> io::Result<()> {
+    fn make_parts(&mut self, name: &[u8]) -> Result<(), Trouble> {
         for part in 1..11usize {
             let bytes = part * PART_BYTES;
             if bytes < name.len() {
                 self.set_part(name, bytes)?;
                 if !is_folder(&self.rt, self.path.as_str())? {
-                    fs::create_dir(&self.rt, self.path.as_str())?;
+                    make_folder(&self.rt, self.path.as_str())?;
                 }
             }
         }
         Ok(())
     }
 
-    // Opens a name's file to write it, and makes it where it isn't there.
-    fn open(&mut self, name: &[u8], how: &OpenOptions) -> io::Result<R::File> {
-        if self.size(name)?.is_none() {
+    // The length of a name's file that is to be changed, at whose path this leaves the path. Where it isn't there, its
+    // levels are made.
+    fn begin(&mut self, name: &[u8]) -> Result<Option<u64>, Trouble> {
+        let before = self.size(name)?;
+        self.looked.clear();
+        if before.is_none() {
             self.make_parts(name)?;
-            self.set_folder()?;
-            push_path(&mut self.path, name)?;
+            self.set_name(name)?;
         }
-        how.open(&self.rt, self.path.as_str())
+        Ok(before)
     }
 
-    /// Gives a name's file exactly these bytes.
-    pub fn put(&mut self, name: &[u8], bytes: &[u8]) -> io::Result<()> {
-        let mut how = OpenOptions::new();
-        how.write(true).create(true).truncate(true);
-        self.open(name, &how)?.write_all(bytes)
+    /// Gives a name's file exactly these bytes, in place.
+    pub fn put(&mut self, name: &[u8], bytes: &[u8]) -> Result<(), Trouble> {
+        let before = self.begin(name)?;
+        put_file(&self.rt, self.path.as_str(), before, bytes)
     }
 
     /// Adds bytes at the end of a name's file, and makes it where it isn't there.
-    pub fn append(&mut self, name: &[u8], bytes: &[u8]) -> io::Result<()> {
-        let mut how = OpenOptions::new();
-        how.append(true).create(true);
-        self.open(name, &how)?.write_all(bytes)
+    pub fn append(&mut self, name: &[u8], bytes: &[u8]) -> Result<(), Trouble> {
+        let before = self.begin(name)?;
+        append_file(&self.rt, self.path.as_str(), before, bytes)
     }
 
     /// Writes the first byte of a name's file.
-    pub fn mark(&mut self, name: &[u8], byte: u8) -> io::Result<()> {
-        if self.size(name)?.is_none() {
-            return Err(io::Error::from(io::ErrorKind::NotFound));
+    pub fn mark(&mut self, name: &[u8], byte: u8) -> Result<(), Trouble> {
+        match self.size(name)? {
+            Some(_) => mark_file(&self.rt, self.path.as_str(), byte),
+            None => Err(Trouble::Absent),
         }
-        let mut how = OpenOptions::new();
-        how.write(true);
-        how.open(&self.rt, self.path.as_str())?.write_all(&[byte])
     }
 
     /// Takes a name's file away, where it is there.
-    pub fn remove(&mut self, name: &[u8]) -> io::Result<()> {
-        if self.size(name)?.is_some() {
-            self.remove_path()?;
-        }
-        Ok(())
-    }
-
-    fn remove_path(&self) -> io::Result<()> {
-        match fs::remove_file(&self.rt, self.path.as_str()) {
-            Ok(()) => Ok(()),
-            Err(error) if is_absent(&error) => Ok(()),
-            Err(error) => Err(error),
+    pub fn remove(&mut self, name: &[u8]) -> Result<(), Trouble> {
+        match self.size(name)? {
+            Some(_) => {
+                self.looked.clear();
+                remove_path(&self.rt, self.path.as_str())
+            }
+            None => Ok(()),
         }
     }
 
     /// Syncs a name's file, if it is there.
-    pub fn sync_file(&mut self, name: &[u8]) -> io::Result<()> {
-        if self.size(name)?.is_some() {
-            sync_file(&self.rt, self.path.as_str())?;
+    pub fn sync_file(&mut self, name: &[u8]) -> Result<(), Trouble> {
+        match self.size(name)? {
+            Some(_) => sync_path(&self.rt, self.path.as_str()),
+            None => Ok(()),
         }
-        Ok(())
     }
 
     /// Syncs the folders in which a long name stands, without those in which the last one stands too.
-    pub fn sync_parts(&mut self, name: &[u8], last: Option<&[u8]>) -> io::Result<()> {
+    pub fn sync_parts(&mut self, name: &[u8], last: Option<&[u8]>) -> Result<(), Trouble> {
         for part in 1..11usize {
             let bytes = part * PART_BYTES;
             if bytes < name.len() && !is_shared(name, last, bytes) {
                 self.set_part(name, bytes)?;
                 if is_folder(&self.rt, self.path.as_str())? {
-                    sync_folder(&self.rt, self.path.as_str())?;
+                    sync_path(&self.rt, self.path.as_str())?;
                 }
             }
         }
@@ -258,17 +302,17 @@ impl<R: Files + Alloc + Clone + Drop> Disk<R> {
     }
 
     /// Syncs the folder itself.
-    pub fn sync_folder(&mut self) -> io::Result<()> {
-        sync_folder(&self.rt, self.folder.as_str())
+    pub fn sync_folder(&mut self) -> Result<(), Trouble> {
+        sync_path(&self.rt, self.folder.as_str())
     }
 
-    /// Syncs the entries of the folders above, by which this one is found.
-    pub fn sync_levels(&mut self) -> io::Result<()> {
-        sync_levels(&self.rt, self.folder.as_str())
+    /// Syncs the entries by which the folder is found.
+    pub fn sync_levels(&mut self) -> Result<(), Trouble> {
+        do_levels(&self.rt, self.folder.as_str(), Levels::Sync)
     }
 
-    /// The names of all files whose path is that of a name.
-    pub fn list(&self, alloc: Global) -> io::Result<BTreeSet<String>> {
-        list(&self.rt, alloc, self.folder.as_str())
+    /// The names whose path in the folder is that of a file, whatever stands there.
+    pub fn list(&self, alloc: Global, folders: Folders) -> Result<BTreeSet<String>, Trouble> {
+        list(&self.rt, alloc, self.folder.as_str(), folders)
     }
 }

@@ -4,14 +4,14 @@ ghost use Rattle.std.specs.Prelude.{◌≡◌, ◌≤◌, IfOk, vec_len};
 ghost use Rattle.std.specs.FinMap.{empty};
 ghost use Rattle.mi_edges.specs.Count.{Counts};
 
-use crate::found::is_absent;
+use crate::found::{Found, look_through};
 use crate::reading::read_at;
+use crate::trouble::Trouble;
+use crate::walk::{Visit, visit_all};
 use mi_source::{Failed, Source, SrcFault};
 use mi_text::{Bytes, Text};
 use std::alloc::Global;
-use std::fs::{DirEntry, Files};
-use std::io::ErrorKind;
-use std::{fs, io};
+use std::fs::Files;
 
 /// Files as a source (this project's own); a path is one from the current folder. It tells no content.
 #[derive(Drop)]
@@ -33,11 +33,11 @@ impl<R: Files + Alloc + Clone + Drop> FolderSource<R> {
         Failed
     }
 
-    fn read_failed(&mut self, error: &io::Error) -> SrcFault
+    fn read_failed(&mut self, trouble: Trouble) -> SrcFault
         ensures failed { result ≡ SrcFault.Failed → Counts self.old.faults self.new.faults }
         ensures later { self.old.faults ≤ self.new.faults }
     {
-        if matches!(error.kind(), ErrorKind::OutOfMemory) {
+        if trouble == Trouble::NoMemory {
             return SrcFault::NoMemory;
         }
         self.faults = self.faults.saturating_add(1);
@@ -45,86 +45,55 @@ impl<R: Files + Alloc + Clone + Drop> FolderSource<R> {
     }
 }
 
-fn add_name<R: Files + Alloc>(
-    rt: &R,
+// The names of files that are found in a folder.
+#[derive(Drop)]
+struct Names {
     alloc: Global,
-    names: &mut Vec<Text>,
-    entry: &DirEntry<R, R::A>,
-) -> io::Result<()> {
-    if is_file(rt, entry.path().as_str())? {
-        names.push(Text::from_string(String::from_str(alloc, entry.file_name())?))?;
-    }
-    Ok(())
+    names: Vec<Text>,
 }
 
-fn add_found<R: Files + Alloc + Drop>(
-    rt: &R,
-    alloc: Global,
-    names: &mut Vec<Text>,
-    found: io::Result<DirEntry<R, R::A>>,
-) -> io::Result<()> {
-    match found {
-        Ok(entry) => add_name(rt, alloc, names, &entry),
-        // No path of a source isn't text.
-        Err(error) if matches!(error.kind(), ErrorKind::InvalidFilename) => Ok(()),
-        Err(error) => Err(error),
+impl Visit for Names {
+    fn visit<F: Files>(&mut self, rt: &F, path: &str, name: &str) -> Result<(), Trouble> {
+        if let Found::File(_) = look_through(rt, path)? {
+            let text = Text::from_string(String::from_str(self.alloc, name)?);
+            self.names.push(text)?;
+        }
+        Ok(())
     }
 }
 
-// Adds the names of the files directly in the folder, in byte order.
 fn add_names<R: Files + Alloc + Clone + Drop>(
     rt: &R,
-    alloc: Global,
-    names: &mut Vec<Text>,
+    found: &mut Names,
     folder: &str,
-) -> io::Result<()> {
-    if !is_there(rt, folder)? {
-        return Ok(());
+) -> Result<(), Trouble> {
+    if look_through(rt, folder)? == Found::Folder {
+        visit_all(rt, found, folder)?;
+        found.names.sort()?;
     }
-    for found in fs::read_dir(rt, folder)? {
-        add_found(rt, alloc, names, found)?;
-    }
-    names.sort()?;
     Ok(())
 }
 
-// The names of the files directly in the folder, in byte order.
+// The names of the files directly in the folder, in byte order. A link to nowhere is none.
 fn names_in<R: Files + Alloc + Clone + Drop>(
     rt: &R,
     alloc: Global,
     folder: &str,
-) -> io::Result<Vec<Text>> {
-    let mut names = Vec::new(alloc);
-    match add_names(rt, alloc, &mut names, folder) {
-        Ok(()) => Ok(names),
-        Err(error) => Err(error),
+) -> Result<Vec<Text>, Trouble> {
+    let mut found = Names {
+        alloc,
+        names: Vec::new(alloc),
+    };
+    match add_names(rt, &mut found, folder) {
+        Ok(()) => Ok(found.names),
+        Err(trouble) => Err(trouble),
     }
 }
 
-// Whether a folder stands at a path, or a link leads to one.
-fn is_there<R: Files>(rt: &R, path: &str) -> io::Result<bool> {
-    match fs::metadata(rt, path) {
-        Ok(found) => Ok(found.is_dir()),
-        Err(error) if is_absent(&error) => Ok(false),
-        Err(error) => Err(error),
-    }
-}
-
-// Whether a plain file stands at a path, or a link leads to one. A link to nowhere is none.
-fn is_file<R: Files>(rt: &R, path: &str) -> io::Result<bool> {
-    match fs::metadata(rt, path) {
-        Ok(found) => Ok(found.is_file()),
-        Err(error) if is_absent(&error) => Ok(false),
-        Err(error) => Err(error),
-    }
-}
-
-fn size_of<R: Files>(rt: &R, path: &str) -> io::Result<Option<u64>> {
-    match fs::metadata(rt, path) {
-        Ok(found) if found.is_file() => Ok(Some(found.len())),
-        Ok(_) => Ok(None),
-        Err(error) if is_absent(&error) => Ok(None),
-        Err(error) => Err(error),
+fn size_of<R: Files>(rt: &R, path: &str) -> Result<Option<u64>, Trouble> {
+    match look_through(rt, path)? {
+        Found::File(length) => Ok(Some(length)),
+        Found::Nothing | Found::Folder | Found::Other => Ok(None),
     }
 }
 
@@ -135,14 +104,11 @@ fn bytes_of<R: Files>(
     path: &str,
     at: u64,
     want: usize,
-) -> io::Result<Vec<u8>>
+) -> Result<Vec<u8>, Trouble>
     ensures { IfOk result (λ bytes. vec_len bytes ≤ want) }
 {
-    match size_of(rt, path) {
-        Ok(Some(_)) => read_at(rt, alloc, path, at, want),
-        Ok(None) => Ok(Vec::new(alloc)),
-        Err(error) => Err(error),
-    }
+    let length = size_of(rt, path)?.unwrap_or(0);
+    read_at(rt, alloc, path, length, at, want)
 }
 
 impl<R: Files + Alloc + Clone + Drop> Source for FolderSource<R> {
@@ -155,7 +121,7 @@ impl<R: Files + Alloc + Clone + Drop> Source for FolderSource<R> {
     fn names(&mut self, alloc: Global, folder: &str) -> Result<Vec<Text>, SrcFault> {
         match names_in(&self.rt, alloc, folder) {
             Ok(names) => Ok(names),
-            Err(error) => Err(self.read_failed(&error)),
+            Err(trouble) => Err(self.read_failed(trouble)),
         }
     }
 
@@ -169,7 +135,7 @@ impl<R: Files + Alloc + Clone + Drop> Source for FolderSource<R> {
     fn read(&mut self, alloc: Global, path: &str, at: u64, want: usize) -> Result<Bytes, SrcFault> {
         match bytes_of(&self.rt, alloc, path, at, want) {
             Ok(bytes) => Ok(Bytes::from_vec(bytes)),
-            Err(error) => Err(self.read_failed(&error)),
+            Err(trouble) => Err(self.read_failed(trouble)),
         }
     }
 }

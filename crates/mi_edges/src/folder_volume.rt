@@ -1,20 +1,20 @@
 //! A folder as a volume.
 
-ghost use Rattle.std.specs.Prelude.{◌≡◌, ◌-◌, ◌^◌, ◌<◌, ◌≤◌, IfOk, IfSome, IsTrue, OnErr};
+ghost use Rattle.std.specs.Prelude.{◌≡◌, ◌-◌, ◌^◌, ◌<◌, ◌≤◌, IfOk, IfSome, IsTrue, OnErr, IsErrOf, vec_len};
 ghost use Rattle.std.specs.Option.{option_copied};
 ghost use Rattle.mi_volume.specs.Maps.{IsAbove};
 ghost use Rattle.mi_edges.specs.Count.{Counts};
 
 use crate::disk::Disk;
-use crate::found::Lockable;
-use mi_text::{Bytes, Name, NameError, NoMemory};
+use crate::found::{Found, Lockable};
+use crate::listing::Folders;
+use crate::trouble::Trouble;
+use mi_text::{Bytes, Name, NameError};
 use mi_volume::{Failed, PutFault, VolFault, Volume};
 use std::alloc::Global;
 use std::cmp::Ordering;
 use std::collections::BTreeSet;
 use std::fs::Files;
-use std::io;
-use std::io::ErrorKind;
 use std::ops::Bound;
 use thiserror::Error;
 
@@ -32,27 +32,29 @@ pub enum EdgeFault {
 ///
 /// A sync reaches each file that was written since the last good one, and each folder in which a file was made
 /// or taken away. Opening it writes every file anew and syncs it where an earlier process has ended without a sync.
-/// The folder is locked against other processes for as long as this value lives.
+/// The folder is locked against other processes from then on, for as long as this value lives.
 #[derive(Drop)]
 pub struct FolderVolume<R: Files> {
     disk: Disk<R>,
+    alloc: Global,
+    // Whether the folder was opened, or why it can't be.
+    opened: bool,
+    refusal: Option<EdgeFault>,
     // The names that are held, once they were listed.
     held: Option<BTreeSet<String>>,
     // The names that were written since the last good sync.
     written: BTreeSet<String>,
     // The listed names that were taken away since then, with room for all that are held.
     removed: Vec<String>,
-    // Whether something has changed since then, and a later process would find that.
-    unsynced: bool,
+    // Whether something has changed since then.
+    changed: bool,
+    // Whether a later process would find that something may not be synced.
+    noted: bool,
     // Whether the entry that names the folder was synced by this process.
     placed: bool,
     // Whether the system has failed at a sync. It may have dropped what it was given, so no later sync is good.
     lost: bool,
     faults: u64,
-}
-
-fn wants_memory(error: &io::Error) -> bool {
-    matches!(error.kind(), ErrorKind::OutOfMemory)
 }
 
 // Whether a name stands above another one, or above none.
@@ -65,19 +67,21 @@ fn is_above(after: Option<&Name>, name: &Name) -> bool
     }
 }
 
-// The least name above `after`.
+// The least of these names above `after`.
 fn next_above(
     alloc: Global,
-    held: &BTreeSet<String>,
+    names: &BTreeSet<String>,
     after: Option<&Name>,
-) -> Result<Option<Name>, NoMemory>
+) -> Result<Option<Name>, Trouble>
     ensures { IfOk result (λ name. IfSome name (IsAbove (option_copied after.entry))) }
 {
     let found = match after {
-        None => held.first(),
+        None => names.first(),
         Some(after) => {
             let from = String::from_str(alloc, after.as_str())?;
-            held.range((Bound::Excluded(from), Bound::Unbounded)).next()
+            names
+                .range((Bound::Excluded(from), Bound::Unbounded))
+                .next()
         }
     };
     let Some(found) = found else {
@@ -86,31 +90,106 @@ fn next_above(
     match Name::of(alloc, found.as_str()) {
         Ok(name) if is_above(after, &name) => Ok(Some(name)),
         Ok(_) | Err(NameError::Length) => Ok(None),
-        Err(NameError::NoMemory) => Err(NoMemory),
+        Err(NameError::NoMemory) => Err(Trouble::NoMemory),
     }
 }
 
-impl<R: Files + Alloc + Clone + Drop> FolderVolume<R> {
+// Adds a name, where it isn't there.
+fn insert_name(alloc: Global, names: &mut BTreeSet<String>, name: &Name) -> Result<(), Trouble> {
+    if names.contains(name.as_str()) {
+        return Ok(());
+    }
+    let text = String::from_str(alloc, name.as_str())?;
+    names.insert(text)?;
+    Ok(())
+}
+
+impl<R: Files + Alloc + Clone + Drop> FolderVolume<R>
+where
+    R::File: Lockable,
+{
     /// The folder as a volume; each level of its path is made and synced where it isn't there. Takes the folder's lock,
     /// and the room for its longest path. `Folder` comes for the empty path, where the system refuses one of these
     /// steps, and where another process has the lock. Nothing is written where the folder is there and synced.
-    pub fn at(rt: R, alloc: Global, folder: &str) -> Result<FolderVolume<R>, EdgeFault>
-    where
-        R::File: Lockable,
-    {
-        match Disk::at(rt, alloc, folder) {
+    pub fn at(rt: R, alloc: Global, folder: &str) -> Result<FolderVolume<R>, EdgeFault> {
+        let mut volume = FolderVolume::deferred(rt, alloc, folder)?;
+        match volume.opened() {
+            Ok(()) => Ok(volume),
+            Err(fault) => Err(fault),
+        }
+    }
+
+    /// The folder as a volume that is made, locked and opened, as by `at`, at its first call, so that words which are
+    /// refused make no folder. It looks at nothing. Takes the room for its longest path. Where the folder can't be had,
+    /// every call fails, and `refusal` says why.
+    pub fn deferred(rt: R, alloc: Global, folder: &str) -> Result<FolderVolume<R>, EdgeFault> {
+        match Disk::new(rt, alloc, folder) {
             Ok(disk) => Ok(FolderVolume {
                 disk,
+                alloc,
+                opened: false,
+                refusal: None,
                 held: None,
                 written: BTreeSet::new(alloc),
                 removed: Vec::new(alloc),
-                unsynced: false,
+                changed: false,
+                noted: false,
                 placed: false,
                 lost: false,
                 faults: 0,
             }),
-            Err(error) if wants_memory(&error) => Err(EdgeFault::NoMemory),
-            Err(_) => Err(EdgeFault::Folder),
+            Err(_) => Err(EdgeFault::NoMemory),
+        }
+    }
+
+    /// Why the folder couldn't be opened, where a call has tried to and failed.
+    pub fn refusal(&self) -> Option<EdgeFault> {
+        self.refusal
+    }
+
+    /// Takes down that all is synced, where it is, so that a later process writes nothing anew. It is called behind the
+    /// last change.
+    pub fn close(&mut self) {
+        if self.noted && !self.changed && !self.lost {
+            let forgotten = self.disk.forget_unsynced();
+            self.noted = forgotten.is_err();
+            let _ = self.answer(forgotten);
+        }
+    }
+
+    // Opens the folder where that wasn't tried yet.
+    fn opened(&mut self) -> Result<(), EdgeFault>
+        ensures { self.new.faults ≡ self.old.faults }
+    {
+        if self.opened {
+            return Ok(());
+        }
+        if let Some(fault) = self.refusal {
+            return Err(fault);
+        }
+        match self.disk.open(self.alloc) {
+            Ok(()) => {
+                self.opened = true;
+                Ok(())
+            }
+            Err(trouble) => {
+                let fault = match trouble {
+                    Trouble::NoMemory => EdgeFault::NoMemory,
+                    Trouble::Absent | Trouble::NoText | Trouble::Failed => EdgeFault::Folder,
+                };
+                self.refusal = Some(fault);
+                Err(fault)
+            }
+        }
+    }
+
+    // Opens the folder where that wasn't tried yet.
+    fn open(&mut self) -> Result<(), Trouble>
+        ensures { self.new.faults ≡ self.old.faults }
+    {
+        match self.opened() {
+            Ok(()) => Ok(()),
+            Err(_) => Err(Trouble::Failed),
         }
     }
 
@@ -122,7 +201,7 @@ impl<R: Files + Alloc + Clone + Drop> FolderVolume<R> {
     }
 
     // The answer of the system, whose failures are counted.
-    fn answer<T>(&mut self, answer: io::Result<T>) -> Result<T, Failed>
+    fn answer<T>(&mut self, answer: Result<T, Trouble>) -> Result<T, Failed>
         ensures failed { OnErr result (Counts self.old.faults self.new.faults) }
         ensures later { self.old.faults ≤ self.new.faults }
     {
@@ -135,11 +214,11 @@ impl<R: Files + Alloc + Clone + Drop> FolderVolume<R> {
         }
     }
 
-    fn read_failed(&mut self, error: &io::Error) -> VolFault
+    fn read_failed(&mut self, trouble: Trouble) -> VolFault
         ensures failed { result ≡ VolFault.Failed → Counts self.old.faults self.new.faults }
         ensures later { self.old.faults ≤ self.new.faults }
     {
-        if wants_memory(error) {
+        if trouble == Trouble::NoMemory {
             return VolFault::NoMemory;
         }
         self.count();
@@ -147,38 +226,109 @@ impl<R: Files + Alloc + Clone + Drop> FolderVolume<R> {
     }
 
     // Lists the names that are held, once, with room for those that are taken away.
-    fn list_held(&mut self, alloc: Global) -> io::Result<()>
+    fn list_held(&mut self, alloc: Global) -> Result<(), Trouble>
         ensures { self.new.faults ≡ self.old.faults }
     {
-        if self.held.is_none() {
-            let held = self.disk.list(alloc)?;
-            self.removed.reserve(held.len())?;
-            self.held = Some(held);
+        if self.held.is_some() {
+            return Ok(());
         }
+        let held = self.disk.list(alloc, Folders::Listed)?;
+        let room = self.removed.reserve(held.len());
+        self.held = Some(held);
+        room?;
         Ok(())
     }
 
-    // Takes down, before the first change since a good sync, that something may not be synced.
-    fn begin_change(&mut self) -> io::Result<()>
+    fn listed_above(&self, alloc: Global, after: Option<&Name>) -> Result<Option<Name>, Trouble>
+        ensures { IfOk result (λ name. IfSome name (IsAbove (option_copied after.entry))) }
+    {
+        match &self.held {
+            None => Ok(None),
+            Some(held) => next_above(alloc, held, after),
+        }
+    }
+
+    // Takes a name off the list, and answers it as it stood there.
+    fn take_off(&mut self, name: &Name) -> Option<String>
         ensures { self.new.faults ≡ self.old.faults }
     {
-        if !self.unsynced {
-            self.disk.note_unsynced()?;
-            self.unsynced = true;
+        match &mut self.held {
+            None => None,
+            Some(held) => held.take(name.as_str()),
         }
+    }
+
+    // Whether a plain file stands at a listed name. Where none does, the name is taken off the list.
+    fn is_file(&mut self, name: &Name) -> Result<bool, Trouble>
+        ensures { self.new.faults ≡ self.old.faults }
+    {
+        if let Found::File(_) = self.disk.look_at(name.as_bytes())? {
+            return Ok(true);
+        }
+        let _ = self.take_off(name);
+        Ok(false)
+    }
+
+    // The least held name above `after`.
+    fn next_held(&mut self, alloc: Global, after: Option<&Name>) -> Result<Option<Name>, Trouble>
+        ensures above { IfOk result (λ name. IfSome name (IsAbove (option_copied after.entry))) }
+        ensures stays { self.new.faults ≡ self.old.faults }
+    {
+        self.open()?;
+        self.list_held(alloc)?;
+        for _ in 0..u64::MAX {
+            let Some(name) = self.listed_above(alloc, after)? else {
+                break;
+            };
+            if self.is_file(&name)? {
+                return Ok(Some(name));
+            }
+        }
+        Ok(None)
+    }
+
+    fn size_of(&mut self, name: &Name) -> Result<Option<u64>, Trouble>
+        ensures { self.new.faults ≡ self.old.faults }
+    {
+        self.open()?;
+        self.disk.size(name.as_bytes())
+    }
+
+    fn bytes_of(
+        &mut self,
+        alloc: Global,
+        name: &Name,
+        at: u64,
+        want: usize,
+    ) -> Result<Vec<u8>, Trouble>
+        ensures short { IfOk result (λ bytes. vec_len bytes ≤ want) }
+        ensures stays { self.new.faults ≡ self.old.faults }
+    {
+        self.open()?;
+        self.disk.read(alloc, name.as_bytes(), at, want)
+    }
+
+    // Takes down, before a change, that something may not be synced.
+    fn begin_change(&mut self) -> Result<(), Trouble>
+        ensures { self.new.faults ≡ self.old.faults }
+    {
+        self.open()?;
+        if !self.noted {
+            self.disk.note_unsynced()?;
+        }
+        self.noted = true;
+        self.changed = true;
         Ok(())
     }
 
     // Takes down that a name is written, before it is. Where memory is wanting, the list of names is as it was.
-    fn note_written(&mut self, alloc: Global, name: &Name) -> Result<(), NoMemory>
+    fn note_written(&mut self, alloc: Global, name: &Name) -> Result<(), Trouble>
         ensures { self.new.faults ≡ self.old.faults }
     {
-        let written = String::from_str(alloc, name.as_str())?;
-        let listed = String::from_str(alloc, name.as_str())?;
-        self.written.insert(written)?;
+        insert_name(alloc, &mut self.written, name)?;
         if let Some(held) = &mut self.held {
             self.removed.reserve(held.len().saturating_add(1))?;
-            held.insert(listed)?;
+            insert_name(alloc, held, name)?;
         }
         Ok(())
     }
@@ -187,10 +337,7 @@ impl<R: Files + Alloc + Clone + Drop> FolderVolume<R> {
     fn note_removed(&mut self, name: &Name) -> bool
         ensures { self.new.faults ≡ self.old.faults }
     {
-        let Some(held) = &mut self.held else {
-            return false;
-        };
-        let Some(text) = held.take(name.as_str()) else {
+        let Some(text) = self.take_off(name) else {
             return false;
         };
         self.removed.len() < self.removed.capacity() && self.removed.push(text).is_ok()
@@ -200,12 +347,10 @@ impl<R: Files + Alloc + Clone + Drop> FolderVolume<R> {
     fn forget_absent(&mut self, name: &Name)
         ensures { self.old.faults ≤ self.new.faults }
     {
-        match self.disk.size(name.as_bytes()) {
+        match self.size_of(name) {
             Ok(Some(_)) => {}
             Ok(None) => {
-                if let Some(held) = &mut self.held {
-                    let _ = held.remove(name.as_str());
-                }
+                let _ = self.take_off(name);
             }
             Err(_) => {
                 self.count();
@@ -214,24 +359,30 @@ impl<R: Files + Alloc + Clone + Drop> FolderVolume<R> {
         }
     }
 
-    // The failure of a write, which may have changed the name.
-    fn write_failed(&mut self, name: &Name) -> PutFault
-        ensures fault { result ≡ PutFault.Failed }
-        ensures counts { Counts self.old.faults self.new.faults }
+    // The answer of a write, whose failure may have changed the name.
+    fn written(&mut self, name: &Name, answer: Result<(), Trouble>) -> Result<(), PutFault>
+        ensures failed { IsErrOf result PutFault.Failed → Counts self.old.faults self.new.faults }
+        ensures later { self.old.faults ≤ self.new.faults }
+        ensures never { IsErrOf result PutFault.Full → ⊥ }
     {
-        self.forget_absent(name);
-        self.count();
-        PutFault::Failed
+        match answer {
+            Ok(()) => Ok(()),
+            Err(_) => {
+                self.forget_absent(name);
+                self.count();
+                Err(PutFault::Failed)
+            }
+        }
     }
 
-    fn put_file(&mut self, name: &Name, bytes: &[u8]) -> io::Result<()>
+    fn put_file(&mut self, name: &Name, bytes: &[u8]) -> Result<(), Trouble>
         ensures { self.new.faults ≡ self.old.faults }
     {
         self.begin_change()?;
         self.disk.put(name.as_bytes(), bytes)
     }
 
-    fn append_file(&mut self, name: &Name, bytes: &[u8]) -> io::Result<()>
+    fn append_file(&mut self, name: &Name, bytes: &[u8]) -> Result<(), Trouble>
         ensures { self.new.faults ≡ self.old.faults }
     {
         self.begin_change()?;
@@ -239,7 +390,7 @@ impl<R: Files + Alloc + Clone + Drop> FolderVolume<R> {
     }
 
     // Marks a name's file. Where no sync would reach it, it is synced at once.
-    fn mark_file(&mut self, name: &Name, byte: u8) -> io::Result<()>
+    fn mark_file(&mut self, name: &Name, byte: u8) -> Result<(), Trouble>
         ensures { self.new.faults ≡ self.old.faults }
     {
         self.begin_change()?;
@@ -253,10 +404,10 @@ impl<R: Files + Alloc + Clone + Drop> FolderVolume<R> {
     }
 
     // Takes a name's file away. Where no sync would reach its folders, they are synced at once.
-    fn remove_file(&mut self, name: &Name) -> io::Result<()>
+    fn remove_file(&mut self, name: &Name) -> Result<(), Trouble>
         ensures { self.new.faults ≡ self.old.faults }
     {
-        if self.disk.size(name.as_bytes())?.is_none() {
+        if self.size_of(name)?.is_none() {
             return Ok(());
         }
         self.begin_change()?;
@@ -270,7 +421,7 @@ impl<R: Files + Alloc + Clone + Drop> FolderVolume<R> {
     }
 
     // Syncs the folders of the names that were taken away.
-    fn sync_removed(&mut self) -> io::Result<()>
+    fn sync_removed(&mut self) -> Result<(), Trouble>
         ensures { self.new.faults ≡ self.old.faults }
     {
         self.removed.sort_unstable();
@@ -283,7 +434,7 @@ impl<R: Files + Alloc + Clone + Drop> FolderVolume<R> {
     }
 
     // Syncs the files that were written, and their folders.
-    fn sync_written(&mut self) -> io::Result<()>
+    fn sync_written(&mut self) -> Result<(), Trouble>
         ensures { self.new.faults ≡ self.old.faults }
     {
         let mut last = None;
@@ -296,7 +447,7 @@ impl<R: Files + Alloc + Clone + Drop> FolderVolume<R> {
     }
 
     // Syncs what was written, and each folder in which a file was made or taken away.
-    fn sync_changes(&mut self) -> io::Result<()>
+    fn sync_changes(&mut self) -> Result<(), Trouble>
         ensures { self.new.faults ≡ self.old.faults }
     {
         self.sync_removed()?;
@@ -304,35 +455,36 @@ impl<R: Files + Alloc + Clone + Drop> FolderVolume<R> {
         self.disk.sync_folder()?;
         if !self.placed {
             self.disk.sync_levels()?;
-            self.placed = true;
         }
+        self.placed = true;
         Ok(())
     }
 
     // Syncs all changes since the last good sync. Where the system has failed at that once, no other is good.
-    fn sync_all(&mut self) -> Result<(), Failed>
-        ensures failed { OnErr result (Counts self.old.faults self.new.faults) }
-        ensures later { self.old.faults ≤ self.new.faults }
+    fn sync_all(&mut self) -> Result<(), Trouble>
+        ensures { self.new.faults ≡ self.old.faults }
     {
+        self.open()?;
         if self.lost {
-            self.count();
-            return Err(Failed);
+            return Err(Trouble::Failed);
         }
-        if !self.unsynced {
+        if !self.changed {
             return Ok(());
         }
         let synced = self.sync_changes();
         self.lost = synced.is_err();
-        self.answer(synced)?;
+        synced?;
         self.written.clear();
         self.removed.clear();
-        let forgotten = self.disk.forget_unsynced();
-        self.unsynced = forgotten.is_err();
-        self.answer(forgotten)
+        self.changed = false;
+        Ok(())
     }
 }
 
-impl<R: Files + Alloc + Clone + Drop> Volume for FolderVolume<R> {
+impl<R: Files + Alloc + Clone + Drop> Volume for FolderVolume<R>
+where
+    R::File: Lockable,
+{
     ghost use Rattle.mi_edges.specs.Untold.{untold};
 
     ghost told = { ⊥ };
@@ -342,20 +494,14 @@ impl<R: Files + Alloc + Clone + Drop> Volume for FolderVolume<R> {
     ghost counts_now = { λ told v t d le image. absurd told };
 
     fn next(&mut self, alloc: Global, after: Option<&Name>) -> Result<Option<Name>, VolFault> {
-        if let Err(error) = self.list_held(alloc) {
-            return Err(self.read_failed(&error));
-        }
-        let Some(held) = &self.held else {
-            return Ok(None);
-        };
-        match next_above(alloc, held, after) {
+        match self.next_held(alloc, after) {
             Ok(name) => Ok(name),
-            Err(NoMemory) => Err(VolFault::NoMemory),
+            Err(trouble) => Err(self.read_failed(trouble)),
         }
     }
 
     fn size(&mut self, name: &Name) -> Result<Option<u64>, Failed> {
-        let size = self.disk.size(name.as_bytes());
+        let size = self.size_of(name);
         self.answer(size)
     }
 
@@ -366,9 +512,9 @@ impl<R: Files + Alloc + Clone + Drop> Volume for FolderVolume<R> {
         at: u64,
         want: usize,
     ) -> Result<Bytes, VolFault> {
-        match self.disk.read(alloc, name.as_bytes(), at, want) {
+        match self.bytes_of(alloc, name, at, want) {
             Ok(bytes) => Ok(Bytes::from_vec(bytes)),
-            Err(error) => Err(self.read_failed(&error)),
+            Err(trouble) => Err(self.read_failed(trouble)),
         }
     }
 
@@ -376,20 +522,16 @@ impl<R: Files + Alloc + Clone + Drop> Volume for FolderVolume<R> {
         if self.note_written(alloc, name).is_err() {
             return Err(PutFault::NoMemory);
         }
-        match self.put_file(name, bytes) {
-            Ok(()) => Ok(()),
-            Err(_) => Err(self.write_failed(name)),
-        }
+        let put = self.put_file(name, bytes);
+        self.written(name, put)
     }
 
     fn append(&mut self, alloc: Global, name: &Name, bytes: &[u8]) -> Result<(), PutFault> {
         if self.note_written(alloc, name).is_err() {
             return Err(PutFault::NoMemory);
         }
-        match self.append_file(name, bytes) {
-            Ok(()) => Ok(()),
-            Err(_) => Err(self.write_failed(name)),
-        }
+        let appended = self.append_file(name, bytes);
+        self.written(name, appended)
     }
 
     fn mark(&mut self, name: &Name, byte: u8) -> Result<(), Failed> {
@@ -403,7 +545,8 @@ impl<R: Files + Alloc + Clone + Drop> Volume for FolderVolume<R> {
     }
 
     fn sync(&mut self) -> Result<(), Failed> {
-        self.sync_all()
+        let synced = self.sync_all();
+        self.answer(synced)
     }
 
     fn free(&mut self) -> Result<Option<u64>, Failed> {

@@ -1,7 +1,7 @@
 //! What stands at a path, and what of it a volume or a source takes.
 
-use std::fs::{File, Files};
-use std::io::ErrorKind;
+use crate::trouble::Trouble;
+use std::fs::{File, Files, Metadata};
 use std::{fs, io};
 
 /// What stands at a path. A link is never followed.
@@ -17,42 +17,53 @@ pub enum Found {
     Other,
 }
 
-/// Whether the system says that there is no such file.
-pub fn is_absent(error: &io::Error) -> bool {
-    matches!(error.kind(), ErrorKind::NotFound | ErrorKind::NotADirectory)
-}
-
-/// What stands at a path.
-pub fn look<F: Files>(rt: &F, path: &str) -> io::Result<Found> {
-    match fs::symlink_metadata(rt, path) {
-        Ok(found) if found.is_file() => Ok(Found::File(found.len())),
-        Ok(found) if found.is_dir() => Ok(Found::Folder),
-        Ok(_) => Ok(Found::Other),
-        Err(error) if is_absent(&error) => Ok(Found::Nothing),
-        Err(error) => Err(error),
+fn found_of(metadata: &Metadata) -> Found {
+    if metadata.is_file() {
+        Found::File(metadata.len())
+    } else if metadata.is_dir() {
+        Found::Folder
+    } else {
+        Found::Other
     }
 }
 
-/// The failure where something stands that isn't a volume's: it is never opened, written or taken away.
-pub fn not_ours() -> io::Error {
-    io::Error::from(ErrorKind::InvalidInput)
+// What stands at a path by an answer of the system.
+fn told(answer: io::Result<Metadata>) -> Result<Found, Trouble> {
+    match answer {
+        Ok(metadata) => Ok(found_of(&metadata)),
+        Err(error) => match Trouble::from(error) {
+            Trouble::Absent => Ok(Found::Nothing),
+            trouble => Err(trouble),
+        },
+    }
 }
 
-/// The length of the plain file at a path, and None where nothing stands there; anything else is a failure.
-pub fn file_length<F: Files>(rt: &F, path: &str) -> io::Result<Option<u64>> {
-    match look(rt, path)? {
+/// What stands at a path.
+pub fn look<F: Files>(rt: &F, path: &str) -> Result<Found, Trouble> {
+    told(fs::symlink_metadata(rt, path))
+}
+
+/// What stands at a path, or where the link that stands there leads.
+pub fn look_through<F: Files>(rt: &F, path: &str) -> Result<Found, Trouble> {
+    told(fs::metadata(rt, path))
+}
+
+/// The length of the plain file that was found, and None where nothing was; anything else isn't a volume's, and is never
+/// opened, written or taken away.
+pub fn file_length(found: Found) -> Result<Option<u64>, Trouble> {
+    match found {
         Found::Nothing => Ok(None),
         Found::File(length) => Ok(Some(length)),
-        Found::Folder | Found::Other => Err(not_ours()),
+        Found::Folder | Found::Other => Err(Trouble::Failed),
     }
 }
 
 /// Whether a plain folder stands at a path; anything else there is a failure.
-pub fn is_folder<F: Files>(rt: &F, path: &str) -> io::Result<bool> {
+pub fn is_folder<F: Files>(rt: &F, path: &str) -> Result<bool, Trouble> {
     match look(rt, path)? {
         Found::Nothing => Ok(false),
         Found::Folder => Ok(true),
-        Found::File(_) | Found::Other => Err(not_ours()),
+        Found::File(_) | Found::Other => Err(Trouble::Failed),
     }
 }
 

@@ -1,10 +1,9 @@
 //! The levels of a folder's path.
 
-use crate::found::{is_absent, not_ours};
-use crate::syncing::sync_folder;
+use crate::found::{Found, look_through};
+use crate::trouble::Trouble;
+use crate::writing::{make_folder, sync_path};
 use std::fs::Files;
-use std::io::ErrorKind;
-use std::{fs, io};
 
 // The folder in which this one stands.
 fn parent_of(folder: &str) -> &str {
@@ -15,37 +14,45 @@ fn parent_of(folder: &str) -> &str {
     }
 }
 
-// Makes a folder where it isn't there, and syncs the entry that names it. What stands there and is no folder, nor a link
-// to one, is a failure.
-fn make_level<F: Files>(rt: &F, folder: &str) -> io::Result<()> {
-    match fs::metadata(rt, folder) {
-        Ok(found) if found.is_dir() => Ok(()),
-        Ok(_) => Err(not_ours()),
-        Err(error) if is_absent(&error) => {
-            fs::create_dir(rt, folder)?;
-            sync_folder(rt, parent_of(folder))
+/// What is done with each level of a folder's path, the highest first.
+#[derive(Clone, Copy, Debug, PartialEq, Eq)]
+pub enum Levels {
+    /// It is made where it isn't there, and then the entry that names it is synced. What stands there and is no folder,
+    /// nor a link to one, is a failure.
+    Make,
+    /// The entry that names it is synced.
+    Sync,
+}
+
+fn make_level<F: Files>(rt: &F, folder: &str) -> Result<(), Trouble> {
+    match look_through(rt, folder)? {
+        Found::Folder => Ok(()),
+        Found::Nothing => {
+            make_folder(rt, folder)?;
+            sync_path(rt, parent_of(folder))
         }
-        Err(error) => Err(error),
+        Found::File(_) | Found::Other => Err(Trouble::Failed),
     }
 }
 
-/// Makes each level of a folder's path that isn't there, and syncs the entry that names it. There is no folder of the
-/// empty path.
-pub fn make_levels<F: Files>(rt: &F, folder: &str) -> io::Result<()> {
+fn do_level<F: Files>(rt: &F, folder: &str, what: Levels) -> Result<(), Trouble> {
+    match what {
+        Levels::Make => make_level(rt, folder),
+        Levels::Sync => sync_path(rt, parent_of(folder)),
+    }
+}
+
+/// Does this with each level of a folder's path. There is no folder of the empty path.
+pub fn do_levels<F: Files>(rt: &F, folder: &str, what: Levels) -> Result<(), Trouble> {
     if folder.is_empty() {
-        return Err(io::Error::from(ErrorKind::InvalidInput));
+        return Err(Trouble::Failed);
     }
     for (end, _) in folder.match_indices('/') {
         if end > 0 {
             if let Some(level) = folder.get(..end) {
-                make_level(rt, level)?;
+                do_level(rt, level, what)?;
             }
         }
     }
-    make_level(rt, folder)
-}
-
-/// Syncs the entry that names a folder.
-pub fn sync_levels<F: Files>(rt: &F, folder: &str) -> io::Result<()> {
-    sync_folder(rt, parent_of(folder))
+    do_level(rt, folder, what)
 }

@@ -3,7 +3,6 @@
 //! clauses of the traits on counts, on names and on lengths.
 #![tactic(auto)]
 
-mod deferred_volume;
 mod disk;
 mod folder_source;
 mod folder_volume;
@@ -13,9 +12,10 @@ mod listing;
 mod names;
 mod reading;
 mod std_sink;
-mod syncing;
+mod trouble;
+mod walk;
+mod writing;
 
-pub use deferred_volume::DeferredVolume;
 pub use folder_source::FolderSource;
 pub use folder_volume::{EdgeFault, FolderVolume};
 pub use found::Lockable;

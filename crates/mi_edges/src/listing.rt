@@ -2,11 +2,21 @@
 
 use crate::found::{Found, look};
 use crate::names::{LONGEST_NAME, PART_BYTES, push_bytes};
+use crate::trouble::Trouble;
+use crate::walk::{Visit, visit_all};
+use crate::writing::sync_path;
 use std::alloc::Global;
 use std::collections::BTreeSet;
-use std::fs::{DirEntry, Files};
-use std::io::ErrorKind;
-use std::{fs, io};
+use std::fs::Files;
+
+/// What is done with each folder that is listed.
+#[derive(Clone, Copy, Debug, PartialEq, Eq)]
+pub enum Folders {
+    /// It is listed alone.
+    Listed,
+    /// It is synced, too.
+    Synced,
+}
 
 // A folder of a long name, with the bytes that its path spells.
 #[derive(Drop)]
@@ -15,15 +25,17 @@ struct Part {
     bytes: Vec<u8>,
 }
 
-// The names that are listed, and the folders that are still to be.
+// The names that are listed, the folders that are still to be, and the bytes that the path of the present one spells.
 #[derive(Drop)]
 struct Lists {
+    alloc: Global,
     names: BTreeSet<String>,
     parts: Vec<Part>,
+    front: Vec<u8>,
 }
 
 // The bytes of the part with those of a file or folder in it; None where its name spells none.
-fn spelled(alloc: Global, front: &[u8], digits: &str) -> io::Result<Option<Vec<u8>>> {
+fn spelled(alloc: Global, front: &[u8], digits: &str) -> Result<Option<Vec<u8>>, Trouble> {
     let mut bytes = Vec::from_slice(alloc, front)?;
     let fits = digits.len() <= 2 * PART_BYTES;
     if fits && push_bytes(&mut bytes, digits)? && bytes.len() <= LONGEST_NAME {
@@ -33,125 +45,109 @@ fn spelled(alloc: Global, front: &[u8], digits: &str) -> io::Result<Option<Vec<u
     }
 }
 
-fn add_file(
+fn push_part(
     alloc: Global,
-    names: &mut BTreeSet<String>,
-    front: &[u8],
-    digits: &str,
-) -> io::Result<()> {
-    if let Some(bytes) = spelled(alloc, front, digits)? {
-        // A path whose bytes aren't UTF-8 is no name of the volume.
-        if let Ok(name) = String::from_utf8(bytes) {
-            names.insert(name)?;
+    parts: &mut Vec<Part>,
+    path: &str,
+    bytes: Vec<u8>,
+) -> Result<(), Trouble> {
+    let path = String::from_str(alloc, path)?;
+    parts.push(Part { path, bytes })?;
+    Ok(())
+}
+
+impl Lists {
+    // Takes down the name that a file's path spells, whatever stands there.
+    fn add_name(&mut self, digits: &str) -> Result<(), Trouble> {
+        if let Some(bytes) = spelled(self.alloc, self.front.as_slice(), digits)? {
+            // A path whose bytes aren't UTF-8 is no name of the volume.
+            if let Ok(name) = String::from_utf8(bytes) {
+                self.names.insert(name)?;
+            }
+        }
+        Ok(())
+    }
+
+    // Takes down a folder of long names.
+    fn add_folder(&mut self, path: &str, digits: &str) -> Result<(), Trouble> {
+        if let Some(bytes) = spelled(self.alloc, self.front.as_slice(), digits)? {
+            push_part(self.alloc, &mut self.parts, path, bytes)?;
+        }
+        Ok(())
+    }
+}
+
+impl Visit for Lists {
+    fn visit<F: Files>(&mut self, rt: &F, path: &str, name: &str) -> Result<(), Trouble> {
+        match name.strip_suffix("+") {
+            None => self.add_name(name),
+            Some(digits) if digits.len() == 2 * PART_BYTES && look(rt, path)? == Found::Folder => {
+                self.add_folder(path, digits)
+            }
+            Some(_) => Ok(()),
         }
     }
-    Ok(())
 }
 
-fn add_folder(alloc: Global, parts: &mut Vec<Part>, part: &Part, entry: &str) -> io::Result<()> {
-    let Some(digits) = entry.strip_suffix("+") else {
-        return Ok(());
-    };
-    if digits.len() != 2 * PART_BYTES {
-        return Ok(());
-    }
-    if let Some(bytes) = spelled(alloc, part.bytes.as_slice(), digits)? {
-        let mut path = String::from_str(alloc, part.path.as_str())?;
-        path.push('/')?;
-        path.push_str(entry)?;
-        parts.push(Part { path, bytes })?;
-    }
-    Ok(())
-}
-
-fn add_entry<R: Files + Alloc>(
+fn list_folder<R: Files + Alloc + Clone + Drop>(
     rt: &R,
-    alloc: Global,
     lists: &mut Lists,
-    part: &Part,
-    entry: &DirEntry<R, R::A>,
-) -> io::Result<()> {
-    match look(rt, entry.path().as_str())? {
-        Found::File(_) => add_file(
-            alloc,
-            &mut lists.names,
-            part.bytes.as_slice(),
-            entry.file_name(),
-        ),
-        Found::Folder => add_folder(alloc, &mut lists.parts, part, entry.file_name()),
-        Found::Nothing | Found::Other => Ok(()),
+    path: &str,
+    folders: Folders,
+) -> Result<(), Trouble> {
+    visit_all(rt, lists, path)?;
+    match folders {
+        Folders::Listed => Ok(()),
+        Folders::Synced => sync_path(rt, path),
     }
-}
-
-fn add_found<R: Files + Alloc + Drop>(
-    rt: &R,
-    alloc: Global,
-    lists: &mut Lists,
-    part: &Part,
-    found: io::Result<DirEntry<R, R::A>>,
-) -> io::Result<()> {
-    match found {
-        Ok(entry) => add_entry(rt, alloc, lists, part, &entry),
-        // A file of another program, whose path isn't text.
-        Err(error) if matches!(error.kind(), ErrorKind::InvalidFilename) => Ok(()),
-        Err(error) => Err(error),
-    }
-}
-
-fn list_part<R: Files + Alloc + Clone + Drop>(
-    rt: &R,
-    alloc: Global,
-    lists: &mut Lists,
-    part: &Part,
-) -> io::Result<()> {
-    for found in fs::read_dir(rt, part.path.as_str())? {
-        add_found(rt, alloc, lists, part, found)?;
-    }
-    Ok(())
 }
 
 // Lists folders until none is left.
 fn list_all<R: Files + Alloc + Clone + Drop>(
     rt: &R,
-    alloc: Global,
     lists: &mut Lists,
-) -> io::Result<()> {
+    folders: Folders,
+) -> Result<(), Trouble> {
     for _ in 0..u64::MAX {
         let Some(part) = lists.parts.pop() else {
             break;
         };
-        let listed = list_part(rt, alloc, lists, &part);
-        drop(part);
+        let Part { path, bytes } = part;
+        lists.front = bytes;
+        let listed = list_folder(rt, lists, path.as_str(), folders);
+        drop(path);
         listed?;
     }
     Ok(())
 }
 
-fn push_top(alloc: Global, parts: &mut Vec<Part>, folder: &str) -> io::Result<()> {
-    let path = String::from_str(alloc, folder)?;
-    let bytes = Vec::new(alloc);
-    parts.push(Part { path, bytes })?;
-    Ok(())
-}
-
-/// The names of all files in the folder whose path is that of a name. Others are passed over.
+/// The names whose path in the folder is that of a file, whatever stands there, but for levels that aren't plain folders.
 pub fn list<R: Files + Alloc + Clone + Drop>(
     rt: &R,
     alloc: Global,
     folder: &str,
-) -> io::Result<BTreeSet<String>> {
+    folders: Folders,
+) -> Result<BTreeSet<String>, Trouble> {
     let mut lists = Lists {
+        alloc,
         names: BTreeSet::new(alloc),
         parts: Vec::new(alloc),
+        front: Vec::new(alloc),
     };
-    let listed = match push_top(alloc, &mut lists.parts, folder) {
-        Ok(()) => list_all(rt, alloc, &mut lists),
-        Err(error) => Err(error),
+    let listed = match push_part(alloc, &mut lists.parts, folder, Vec::new(alloc)) {
+        Ok(()) => list_all(rt, &mut lists, folders),
+        Err(trouble) => Err(trouble),
     };
-    let Lists { names, parts } = lists;
+    let Lists {
+        alloc: _,
+        names,
+        parts,
+        front,
+    } = lists;
     drop(parts);
+    drop(front);
     match listed {
         Ok(()) => Ok(names),
-        Err(error) => Err(error),
+        Err(trouble) => Err(trouble),
     }
 }

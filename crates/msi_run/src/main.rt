@@ -1,7 +1,7 @@
 //! The program: carries out its words on the machine that the folder `machine` holds.
 #![tactic(auto)]
 
-use mi_edges::{DeferredVolume, EdgeFault, FolderSource, StdSink};
+use mi_edges::{EdgeFault, FolderSource, FolderVolume, StdSink};
 use mi_engine::{Answer, answer_code, run};
 use std::io::ErrorKind;
 use std::process::ExitCode;
@@ -65,7 +65,7 @@ fn main(rt: HostRuntime) -> ExitCode {
         Ok(words) => words,
         Err(error) => return ExitCode::from(words_status(&error)),
     };
-    let Ok(mut volume) = DeferredVolume::new(rt, alloc, MACHINE) else {
+    let Ok(mut volume) = FolderVolume::deferred(rt, alloc, MACHINE) else {
         return ExitCode::from(NO_MEMORY);
     };
     let mut source = FolderSource::new(rt);
@@ -79,5 +79,6 @@ fn main(rt: HostRuntime) -> ExitCode {
         &mut sink,
         now,
     );
+    volume.close();
     ExitCode::from(status(volume.refusal(), &answer))
 }

@@ -1,0 +1,294 @@
+//! What was synced outlives each stop, each cut of the power and each failure of the system.
+
+use crate::device::{Choice, Device, Failure, Trip};
+use crate::fake::Fake;
+use crate::known::{FakeVolume, Held, Known, Wrong};
+use crate::step::Act;
+use mi_edges::FolderVolume;
+use mi_text::Name;
+use mi_volume::Volume;
+use std::alloc::Global;
+use std::test::Fail;
+
+/// The folder, in a folder that isn't there either.
+const FOLDER: &str = "a/m";
+
+/// What a process does at the name of a number, or a sync, or a listing.
+#[derive(Clone, Copy)]
+enum Deed {
+    At(usize, Act),
+    Sync,
+    List,
+}
+
+/// What a process does, at names of so many bytes.
+struct History {
+    lengths: &'static [usize],
+    deeds: &'static [Deed],
+    trips: &'static [Trip],
+}
+
+/// Names of one part and of two: each kind of change, of names that are listed and that aren't, and few bytes over many.
+const SHORT: History = History {
+    lengths: &[6, 200],
+    deeds: &[
+        Deed::At(0, Act::Put("many bytes")),
+        Deed::At(1, Act::Put("a")),
+        Deed::Sync,
+        Deed::At(0, Act::Put("few")),
+        Deed::At(1, Act::Mark(b'b')),
+        Deed::Sync,
+        Deed::At(1, Act::Mark(b'c')),
+        Deed::At(0, Act::Append("er")),
+        Deed::At(1, Act::Remove),
+        Deed::Sync,
+        Deed::List,
+        Deed::At(1, Act::Append("anew")),
+        Deed::At(0, Act::Put("")),
+        Deed::Sync,
+        Deed::At(1, Act::Remove),
+        Deed::At(0, Act::Append("behind")),
+        Deed::Sync,
+        Deed::At(0, Act::Put("x")),
+    ],
+    trips: &[
+        Trip::Stop,
+        Trip::Fail(Failure::Broken),
+        Trip::Fail(Failure::Full),
+        Trip::Fail(Failure::Interrupted),
+    ],
+};
+
+/// A name of eleven parts.
+const LONG: History = History {
+    lengths: &[1_005],
+    deeds: &[
+        Deed::At(0, Act::Put("long")),
+        Deed::Sync,
+        Deed::At(0, Act::Put("")),
+        Deed::Sync,
+    ],
+    trips: &[Trip::Stop],
+};
+
+/// What the disk may have after the power was cut.
+const CHOICES: [Choice; 7] = [
+    Choice::Old,
+    Choice::New,
+    Choice::Torn,
+    Choice::Zeroed,
+    Choice::Gone,
+    Choice::Mixed(1),
+    Choice::Mixed(2),
+];
+
+/// What it may have where nothing should want a sync.
+const CUTS: [Choice; 2] = [Choice::Old, Choice::Mixed(3)];
+
+fn names_of(alloc: Global, history: &History) -> Result<Vec<Known>, Wrong> {
+    let mut names = Vec::new(alloc);
+    for length in history.lengths {
+        let letters = "n".repeat(alloc, *length)?;
+        match Name::of(alloc, letters.as_str()) {
+            Ok(name) => names.push(Known::absent(name))?,
+            Err(_) => return Err(Wrong::NoMemory),
+        }
+    }
+    Ok(names)
+}
+
+fn count_listed(alloc: Global, volume: &mut FakeVolume) -> Result<usize, Wrong> {
+    let mut last: Option<Name> = None;
+    for count in 0..usize::MAX {
+        match volume.next(alloc, last.as_ref()) {
+            Ok(Some(name)) => last = Some(name),
+            Ok(None) => return Ok(count),
+            Err(_) => return Err(Wrong::Unread),
+        }
+    }
+    Err(Wrong::Listed)
+}
+
+fn sync(alloc: Global, volume: &mut FakeVolume, names: &mut Vec<Known>) -> Result<(), Wrong> {
+    if volume.sync().is_ok() {
+        for name in names.iter_mut() {
+            name.synced(alloc, volume)?;
+        }
+    }
+    Ok(())
+}
+
+fn carry_out(
+    alloc: Global,
+    volume: &mut FakeVolume,
+    names: &mut Vec<Known>,
+    deed: Deed,
+) -> Result<(), Wrong> {
+    match deed {
+        Deed::At(number, act) => match names.get_mut(number) {
+            Some(name) => name.change(alloc, volume, act),
+            None => Ok(()),
+        },
+        Deed::Sync => sync(alloc, volume, names),
+        Deed::List => match count_listed(alloc, volume) {
+            Ok(_) | Err(Wrong::Unread) => Ok(()),
+            Err(wrong) => Err(wrong),
+        },
+    }
+}
+
+/// A process that makes changes, up to its stop: how often the system has failed by its count.
+fn change_all(
+    alloc: Global,
+    fake: &Fake,
+    history: &History,
+    names: &mut Vec<Known>,
+) -> Result<u64, Wrong> {
+    let Ok(mut volume) = FolderVolume::at(fake.clone()?, alloc, FOLDER) else {
+        return Ok(1);
+    };
+    for deed in history.deeds {
+        if fake.is_stopped() {
+            break;
+        }
+        carry_out(alloc, &mut volume, names, *deed)?;
+    }
+    volume.close();
+    Ok(volume.faults())
+}
+
+/// The disk behind a process that makes changes. Each failure of the system is counted.
+fn changed(
+    alloc: Global,
+    device: Device,
+    history: &History,
+    names: &mut Vec<Known>,
+) -> Result<Device, Wrong> {
+    let fake = Fake::new(alloc, device)?;
+    let faults = change_all(alloc, &fake, history, names)?;
+    let device = fake.device()?;
+    if device.has_failed() && faults == 0 {
+        return Err(Wrong::Uncounted);
+    }
+    Ok(device)
+}
+
+/// A process that reads alone: what the names hold. What was synced is as it was, and the names that are listed are those
+/// that are held.
+fn read_all(alloc: Global, fake: Fake, names: &Vec<Known>) -> Result<Vec<Held>, Wrong> {
+    let Ok(mut volume) = FolderVolume::at(fake, alloc, FOLDER) else {
+        return Err(Wrong::Unread);
+    };
+    let listed = count_listed(alloc, &mut volume)?;
+    let mut all = Vec::new(alloc);
+    for name in names.iter() {
+        all.push(name.read(alloc, &mut volume)?)?;
+    }
+    if all.iter().filter(|held| held.is_some()).count() == listed {
+        Ok(all)
+    } else {
+        Err(Wrong::Listed)
+    }
+}
+
+/// Reads, and then cuts the power: what was read stays.
+fn stays_read(alloc: Global, device: Device, names: &Vec<Known>) -> Result<(), Wrong> {
+    let fake = Fake::new(alloc, device)?;
+    let read = read_all(alloc, fake.clone()?, names)?;
+    let device = fake.device()?;
+    for choice in CUTS {
+        let again = read_all(alloc, Fake::new(alloc, device.cut(choice)?)?, names)?;
+        if again != read {
+            return Err(Wrong::Changed);
+        }
+    }
+    Ok(())
+}
+
+/// The disk behind a process that opens the volume and does nothing more.
+fn opened(alloc: Global, device: Device) -> Result<Device, Wrong> {
+    let fake = Fake::new(alloc, device)?;
+    drop(FolderVolume::at(fake.clone()?, alloc, FOLDER));
+    Ok(fake.device()?)
+}
+
+/// Reads where the power was cut.
+fn outlives_a_cut(alloc: Global, device: &Device, names: &Vec<Known>) -> Result<(), Wrong> {
+    for choice in CUTS {
+        read_all(alloc, Fake::new(alloc, device.cut(choice)?)?, names)?;
+    }
+    Ok(())
+}
+
+/// What was synced outlives a cut of the power at each call of the opening of the volume.
+fn outlives_cuts(alloc: Global, device: &Device, names: &Vec<Known>) -> Result<(), Wrong> {
+    let calls = opened(alloc, device.again(None)?)?.calls();
+    for call in 0..calls {
+        let left = opened(alloc, device.again(Some((call, Trip::Stop)))?)?;
+        outlives_a_cut(alloc, &left, names)?;
+    }
+    Ok(())
+}
+
+/// What is found on the disk behind a process: where the process alone has ended, and where the power was cut.
+fn outlives(
+    alloc: Global,
+    device: &Device,
+    names: &Vec<Known>,
+    choices: &[Choice],
+) -> Result<(), Wrong> {
+    stays_read(alloc, device.again(None)?, names)?;
+    for choice in choices {
+        stays_read(alloc, device.cut(*choice)?, names)?;
+    }
+    Ok(())
+}
+
+/// A process whose call of this number goes wrong, and what is found on its disk. How many calls it made.
+fn trial(alloc: Global, history: &History, trip: Option<(usize, Trip)>) -> Result<usize, Wrong> {
+    let mut names = names_of(alloc, history)?;
+    let device = changed(alloc, Device::new(alloc)?.again(trip)?, history, &mut names)?;
+    match trip {
+        Some((_, Trip::Fail(_))) => outlives(alloc, &device, &names, &CUTS)?,
+        Some((_, Trip::Stop)) | None => {
+            outlives(alloc, &device, &names, &CHOICES)?;
+            outlives_cuts(alloc, &device, &names)?;
+        }
+    }
+    Ok(device.calls())
+}
+
+/// A folder that was opened is there after the power was cut.
+fn folder_stays(alloc: Global) -> Result<bool, Wrong> {
+    let fake = Fake::new(alloc, Device::new(alloc)?)?;
+    if FolderVolume::at(fake.clone()?, alloc, FOLDER).is_err() {
+        return Ok(false);
+    }
+    let mut left = fake.device()?.cut(Choice::Old)?;
+    Ok(left.look(FOLDER).is_ok())
+}
+
+/// The first call at which a history isn't right, and how it goes wrong there; none of its calls and none where all is.
+fn first_wrong(alloc: Global, history: &History) -> Result<(), (usize, Option<Trip>, Wrong)> {
+    let calls = match trial(alloc, history, None) {
+        Ok(calls) => calls,
+        Err(wrong) => return Err((0, None, wrong)),
+    };
+    for call in 0..calls {
+        for trip in history.trips {
+            if let Err(wrong) = trial(alloc, history, Some((call, *trip))) {
+                return Err((call, Some(*trip), wrong));
+            }
+        }
+    }
+    Ok(())
+}
+
+#[test]
+fn what_was_synced_outlives_each_stop_and_each_failure(rt: HostRuntime) -> Result<(), Fail> {
+    let alloc = rt.alloc();
+    assert_eq!(rt; folder_stays(alloc), Ok(true));
+    assert_eq!(rt; first_wrong(alloc, &SHORT), Ok(()));
+    assert_eq!(rt; first_wrong(alloc, &LONG), Ok(()));
+    Ok(())
+}

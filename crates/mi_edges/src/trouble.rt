@@ -1,0 +1,41 @@
+//! Why a call of the system has failed, as plain data.
+
+use std::alloc::{AllocError, AllocFailed};
+use std::io;
+use std::io::ErrorKind;
+
+/// Why a call of the system has failed.
+#[derive(Clone, Copy, Debug, PartialEq, Eq)]
+pub enum Trouble {
+    /// There is no such file or folder.
+    Absent,
+    /// The system or this process has no memory for it.
+    NoMemory,
+    /// What is listed has a path that isn't text.
+    NoText,
+    /// Any other failure.
+    Failed,
+}
+
+impl From<io::Error> for Trouble {
+    fn from(error: io::Error) -> Trouble {
+        match error.kind() {
+            ErrorKind::NotFound | ErrorKind::NotADirectory => Trouble::Absent,
+            ErrorKind::OutOfMemory => Trouble::NoMemory,
+            ErrorKind::InvalidFilename => Trouble::NoText,
+            _ => Trouble::Failed,
+        }
+    }
+}
+
+impl From<AllocError> for Trouble {
+    fn from(_error: AllocError) -> Trouble {
+        Trouble::NoMemory
+    }
+}
+
+impl<T: Drop> From<AllocFailed<T>> for Trouble {
+    fn from(_failed: AllocFailed<T>) -> Trouble {
+        Trouble::NoMemory
+    }
+}

@@ -1,0 +1,123 @@
+//! Writing, making, syncing and taking away files and folders of the system.
+
+use crate::trouble::Trouble;
+use std::fs;
+use std::fs::{File, Files, OpenFile, OpenOptions};
+use std::io::{Read, Seek, SeekFrom, Write};
+
+/// Gives a file exactly these bytes, in place: it is never longer than before or than they are. A file that isn't there
+/// yet is made, and nothing else may stand there.
+pub fn put_file<F: Files>(
+    rt: &F,
+    path: &str,
+    before: Option<u64>,
+    bytes: &[u8],
+) -> Result<(), Trouble> {
+    let mut how = OpenOptions::new();
+    how.write(true).create_new(before.is_none());
+    let mut file = how.open(rt, path)?;
+    file.write_all(bytes)?;
+    let length = bytes.len() as u64;
+    if before.is_some_and(|before| before > length) {
+        file.set_len(length)?;
+    }
+    Ok(())
+}
+
+/// Adds bytes at the end of a file, which is made where it isn't there yet.
+pub fn append_file<F: Files>(
+    rt: &F,
+    path: &str,
+    before: Option<u64>,
+    bytes: &[u8],
+) -> Result<(), Trouble> {
+    let mut how = OpenOptions::new();
+    how.append(true).create_new(before.is_none());
+    how.open(rt, path)?.write_all(bytes)?;
+    Ok(())
+}
+
+/// Writes the first byte of a file that is there.
+pub fn mark_file<F: Files>(rt: &F, path: &str, byte: u8) -> Result<(), Trouble> {
+    let mut how = OpenOptions::new();
+    how.write(true);
+    how.open(rt, path)?.write_all(&[byte])?;
+    Ok(())
+}
+
+/// Makes an empty file where nothing stands.
+pub fn make_file<F: Files>(rt: &F, path: &str) -> Result<(), Trouble> {
+    append_file(rt, path, None, &[])
+}
+
+/// Makes a folder where nothing stands.
+pub fn make_folder<F: Files>(rt: &F, path: &str) -> Result<(), Trouble> {
+    fs::create_dir(rt, path)?;
+    Ok(())
+}
+
+/// Takes a file away, if it is there.
+pub fn remove_path<F: Files>(rt: &F, path: &str) -> Result<(), Trouble> {
+    match fs::remove_file(rt, path) {
+        Ok(()) => Ok(()),
+        Err(error) => unless_absent(Trouble::from(error)),
+    }
+}
+
+fn unless_absent(trouble: Trouble) -> Result<(), Trouble> {
+    match trouble {
+        Trouble::Absent => Ok(()),
+        trouble => Err(trouble),
+    }
+}
+
+/// Opens a file or a folder and syncs it, if it is there.
+pub fn sync_path<F: Files>(rt: &F, path: &str) -> Result<(), Trouble> {
+    match File::open(rt, path) {
+        Ok(file) => sync_open(&file),
+        Err(error) => unless_absent(Trouble::from(error)),
+    }
+}
+
+fn sync_open<F: OpenFile>(file: &F) -> Result<(), Trouble> {
+    file.sync_all()?;
+    Ok(())
+}
+
+/// The bytes of a file that are written anew at once.
+const RENEWED: usize = 4_096;
+
+// Writes a piece of a file anew with the bytes that it reads as, and says how many these are.
+fn renew_piece<F: Read + Write + Seek>(
+    file: &mut F,
+    at: u64,
+    piece: &mut [u8],
+) -> Result<usize, Trouble> {
+    file.seek(SeekFrom::Start(at))?;
+    let count = file.read(piece)?;
+    file.seek(SeekFrom::Start(at))?;
+    file.write_all(&piece[..count])?;
+    Ok(count)
+}
+
+fn renew_open<F: Read + Write + Seek + OpenFile>(file: &mut F, length: u64) -> Result<(), Trouble> {
+    let mut piece = [0u8; RENEWED];
+    let mut at = 0u64;
+    for _ in 0..length {
+        let count = renew_piece(file, at, &mut piece)?;
+        if count == 0 {
+            break;
+        }
+        at = at.saturating_add(count as u64);
+    }
+    sync_open(file)
+}
+
+/// Writes a file of this length anew with the bytes that it reads as, and syncs it. After a sync that failed the system
+/// may have dropped what reads still give, and would answer the next sync as good.
+pub fn renew_file<F: Files>(rt: &F, path: &str, length: u64) -> Result<(), Trouble> {
+    let mut how = OpenOptions::new();
+    how.read(true).write(true);
+    let mut file = how.open(rt, path)?;
+    renew_open(&mut file, length)
+}
