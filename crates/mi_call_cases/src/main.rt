@@ -3,6 +3,7 @@
 
 mod answer;
 mod arguments;
+mod causes;
 mod conditions;
 mod directories;
 mod given;

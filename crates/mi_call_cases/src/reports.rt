@@ -1,77 +1,12 @@
 //! Calls of the log.
 
 use crate::arguments::Arguments;
+use crate::causes::cause;
 use crate::ill::Ill;
-use mi_base::{Cause, Fault, IdtFault, Kind, Name, NameError, Pause, Place, Settled, Texts};
+use mi_base::{Kind, Pause, Place, Settled, Texts};
 use mi_report::{Outcome, report};
 use mi_text::Text;
 use std::alloc::Global;
-
-fn text(alloc: Global, args: &Arguments<'_>, place: usize) -> Result<Text, Ill> {
-    Ok(Text::copy_of(alloc, args.text(place)?)?)
-}
-
-fn small(args: &Arguments<'_>, place: usize) -> Result<u32, Ill> {
-    Ok(args.text(place)?.parse::<u32>()?)
-}
-
-fn name(alloc: Global, args: &Arguments<'_>, place: usize) -> Result<Name, Ill> {
-    match Name::of(alloc, args.text(place)?) {
-        Ok(name) => Ok(name),
-        Err(NameError::NoMemory) => Err(Ill::NoMemory),
-        Err(NameError::Length) => Err(Ill::BadLine),
-    }
-}
-
-/// The fault of a table's text.
-fn idt_fault(alloc: Global, args: &Arguments<'_>) -> Result<IdtFault, Ill> {
-    match args.text(0)? {
-        "TooLarge" => Ok(IdtFault::TooLarge),
-        "TooFewLines" => Ok(IdtFault::TooFewLines),
-        "NotUtf8" => Ok(IdtFault::NotUtf8(small(args, 1)?)),
-        "ColumnName" => Ok(IdtFault::ColumnName(small(args, 1)?)),
-        "ColumnCount" => Ok(IdtFault::ColumnCount(small(args, 1)?)),
-        "Definition" => Ok(IdtFault::Definition(small(args, 1)?)),
-        "CodePage" => Ok(IdtFault::CodePage(small(args, 1)?)),
-        "KeyColumn" => Ok(IdtFault::KeyColumn(text(alloc, args, 1)?)),
-        "Null" => Ok(IdtFault::Null(small(args, 1)?, small(args, 2)?)),
-        "Integer" => Ok(IdtFault::Integer(small(args, 1)?, small(args, 2)?)),
-        "TwoKeys" => Ok(IdtFault::TwoKeys(small(args, 1)?)),
-        _ => Err(Ill::BadLine),
-    }
-}
-
-/// The fault of the table that the second argument names.
-fn table_fault(alloc: Global, table: Text, args: &Arguments<'_>) -> Result<Fault, Ill> {
-    match args.text(0)? {
-        "MissingTable" => Ok(Fault::MissingTable(table)),
-        "Columns" => Ok(Fault::Columns(table)),
-        "Unsupported" => Ok(Fault::Unsupported(table)),
-        "MissingProperty" => Ok(Fault::MissingProperty(table)),
-        "Compressed" => Ok(Fault::Compressed(table)),
-        "Idt" => Ok(Fault::Idt(table, idt_fault(alloc, &args.behind(2))?)),
-        "Value" => Ok(Fault::Value(table, small(args, 2)?, small(args, 3)?)),
-        "Condition" => Ok(Fault::Condition(table, small(args, 2)?, args.number(3)?)),
-        "Reference" => Ok(Fault::Reference(table, small(args, 2)?, small(args, 3)?)),
-        "Cycle" => Ok(Fault::Cycle(table, small(args, 2)?)),
-        _ => Err(Ill::BadLine),
-    }
-}
-
-fn cause(alloc: Global, args: &Arguments<'_>) -> Result<Cause, Ill> {
-    match args.text(0)? {
-        "BadWords" => Ok(Cause::BadWords(args.number(1)?)),
-        "VolumeFault" => Ok(Cause::VolumeFault),
-        "BadRollback" => Ok(Cause::BadRollback(name(alloc, args, 1)?)),
-        "BadImage" => Ok(Cause::BadImage(name(alloc, args, 1)?)),
-        "SourceFault" => Ok(Cause::SourceFault),
-        "Table" => {
-            let table = text(alloc, args, 2)?;
-            Ok(Cause::Table(table_fault(alloc, table, &args.behind(1))?))
-        }
-        _ => Err(Ill::BadLine),
-    }
-}
 
 fn place(text: &str) -> Result<Place, Ill> {
     match text {
@@ -137,7 +72,7 @@ fn outcome(alloc: Global, args: &Arguments<'_>) -> Result<Outcome, Ill> {
 }
 
 fn say_report(alloc: Global, args: &Arguments<'_>, out: &mut Vec<u8>) -> Result<(), Ill> {
-    let reached = small(args, 2)?;
+    let reached = args.text(2)?.parse::<u32>()?;
     let outcome = outcome(alloc, args)?;
     say_outcome(alloc, &outcome, reached, out)
 }

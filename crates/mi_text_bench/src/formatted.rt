@@ -1,9 +1,11 @@
 //! Formatted texts of any size.
 
+use crate::lookups::lookups;
+use crate::times::say;
 use crate::words::FormattedCall;
 use mi_format::{expand, expand_within};
 use mi_text::PlainEnv;
-use std::alloc::{AllocError, Global};
+use std::alloc::Global;
 use std::io;
 use std::rt::Clock;
 use std::time::Instant;
@@ -19,31 +21,6 @@ const LARGE_VALUE: usize = 1_000_000;
 
 /// The limit of a registry key.
 const LIMIT: usize = 500;
-
-fn pair(alloc: Global, name: &str, value: &str) -> Result<(String, String), AllocError> {
-    let name = String::from_str(alloc, name)?;
-    let value = String::from_str(alloc, value)?;
-    Ok((name, value))
-}
-
-// The name A with this value, and N, which is the name A; B is unset.
-fn names(alloc: Global, value: &str) -> Result<Vec<(String, String)>, AllocError> {
-    let mut names = Vec::new(alloc);
-    names.push(pair(alloc, "A", value)?)?;
-    names.push(pair(alloc, "N", "A")?)?;
-    Ok(names)
-}
-
-fn surroundings(alloc: Global, value: &str) -> Result<PlainEnv, AllocError> {
-    let properties = names(alloc, value)?;
-    Ok(PlainEnv {
-        properties,
-        variables: Vec::new(alloc),
-        files: Vec::new(alloc),
-        folders: Vec::new(alloc),
-        states: Vec::new(alloc),
-    })
-}
 
 // The bytes of the value; none where the text is refused.
 fn value_length(alloc: Global, call: FormattedCall, text: &str, env: &PlainEnv) -> usize {
@@ -64,7 +41,6 @@ fn value_length(alloc: Global, call: FormattedCall, text: &str, env: &PlainEnv) 
     }
 }
 
-// Writes how many bytes the text and its value have, and to the errors the time, which differs from run to run.
 fn time_text<R: Print + Eprint + Clock>(
     rt: &R,
     alloc: Global,
@@ -74,9 +50,7 @@ fn time_text<R: Print + Eprint + Clock>(
 ) -> io::Result<()> {
     let start = Instant::now(rt)?;
     let value = value_length(alloc, call, text, env);
-    let microseconds = start.elapsed(rt)?.as_micros();
-    println!(rt; "{} bytes {value} value", text.len())?;
-    eprintln!(rt; "{microseconds} microseconds")
+    say(rt, start.elapsed(rt)?, text.len(), value, "value")
 }
 
 fn time_pieces<R: Print + Eprint + Clock>(
@@ -86,8 +60,8 @@ fn time_pieces<R: Print + Eprint + Clock>(
     text: &str,
     value: &str,
 ) -> io::Result<()> {
-    match surroundings(alloc, value) {
-        Ok(env) => time_text(rt, alloc, call, text, &env),
+    match &lookups(alloc, value) {
+        Ok(env) => time_text(rt, alloc, call, text, env),
         Err(_) => Err(io::ErrorKind::OutOfMemory.into()),
     }
 }

@@ -1,11 +1,17 @@
-//! Times the calls that read formatted text and texts of the Registry table, on inputs that it makes itself, for the script
-//! `bench/texts`.
+//! Times the calls that read formatted text, texts of the Registry table, conditions and Directory tables, on inputs that
+//! it makes itself, for the script `bench/texts`.
 #![tactic(auto)]
 
+mod conditions;
+mod directories;
 mod formatted;
+mod lookups;
 mod registry;
+mod times;
 mod words;
 
+use conditions::time_condition;
+use directories::time_directories;
 use formatted::time_formatted;
 use registry::time_registry;
 use std::rt::Env;
@@ -14,7 +20,9 @@ use words::{Request, request_of};
 
 /// What is written where the words are no request.
 const USAGE: &str =
-    "usage: mi_text_bench (make_text|expand|expand_within|expand_past|make_list|read_value|read_same) NUMBER";
+    "usage: mi_text_bench CALL NUMBER, where CALL is make_text, expand, expand_within, expand_past, \
+make_list, read_value, read_same, make_condition, expand_condition, read_condition, condition_value, or make, resolve, \
+source or set and behind it _chain or _wide";
 
 // The words behind the program's name.
 fn words_of<R: Env + AllocGlobal>(rt: &R) -> io::Result<Vec<String>> {
@@ -26,6 +34,10 @@ fn main(rt: HostRuntime) -> io::Result<()> {
     match request_of(&words) {
         Some(Request::Formatted { call, pieces }) => time_formatted(&rt, rt.alloc(), call, pieces),
         Some(Request::Registry { call, items }) => time_registry(&rt, rt.alloc(), call, items),
+        Some(Request::Condition { call, pieces }) => time_condition(&rt, rt.alloc(), call, pieces),
+        Some(Request::Directory { call, shape, rows }) => {
+            time_directories(&rt, rt.alloc(), call, shape, rows)
+        }
         None => println!(rt; "{USAGE}"),
     }
 }

@@ -1,5 +1,6 @@
 //! Texts of the Registry table that are lists, of any size.
 
+use crate::times::say;
 use crate::words::RegistryCall;
 use mi_base::{NoMemory, RegValue, Text, Texts};
 use mi_regval::{Change, read_value};
@@ -46,8 +47,6 @@ fn items_read(alloc: Global, call: RegistryCall, text: &str, old: &RegValue) -> 
     }
 }
 
-// Writes how many bytes the text and how many items the new list has, and to the errors the time, which differs from run to
-// run.
 fn time_text<R: Print + Eprint + Clock>(
     rt: &R,
     alloc: Global,
@@ -57,9 +56,7 @@ fn time_text<R: Print + Eprint + Clock>(
 ) -> io::Result<()> {
     let start = Instant::now(rt)?;
     let items = items_read(alloc, call, text, old);
-    let microseconds = start.elapsed(rt)?.as_micros();
-    println!(rt; "{} bytes {items} items", text.len())?;
-    eprintln!(rt; "{microseconds} microseconds")
+    say(rt, start.elapsed(rt)?, text.len(), items, "items")
 }
 
 fn time_list<R: Print + Eprint + Clock>(
