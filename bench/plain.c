@@ -1,0 +1,117 @@
+/* The plain loops that bench/machine_folder compares the program with.
+   plain read FOLDER         lists the folder and reads each file in it, in the order of their names, and the same below it
+   plain write FOLDER FROM   gives the files named on standard input, a path a line, below FOLDER the bytes that they have
+                             below FROM, in place; syncs each, and FOLDER; prints the seconds behind reading FROM */
+#define _GNU_SOURCE
+#include <dirent.h>
+#include <fcntl.h>
+#include <stdio.h>
+#include <stdlib.h>
+#include <string.h>
+#include <sys/stat.h>
+#include <time.h>
+#include <unistd.h>
+
+enum { LONGEST_PATH = 4096, PIECE = 65536 };
+
+static char piece[PIECE];
+
+static void must(int good, const char *what) {
+    if (!good) {
+        perror(what);
+        exit(2);
+    }
+}
+
+static void read_file(const char *path) {
+    int file = open(path, O_RDONLY);
+    must(file >= 0, path);
+    while (read(file, piece, PIECE) > 0) {
+    }
+    close(file);
+}
+
+static void read_folder(const char *folder) {
+    struct dirent **entries;
+    char path[LONGEST_PATH];
+    int count = scandir(folder, &entries, NULL, alphasort);
+    must(count >= 0, folder);
+    for (int i = 0; i < count; i++) {
+        const char *name = entries[i]->d_name;
+        snprintf(path, sizeof path, "%s/%s", folder, name);
+        if (entries[i]->d_type == DT_REG)
+            read_file(path);
+        else if (entries[i]->d_type == DT_DIR && strcmp(name, ".") && strcmp(name, ".."))
+            read_folder(path);
+        free(entries[i]);
+    }
+    free(entries);
+}
+
+struct change {
+    char *path;
+    char *bytes;
+    size_t count;
+};
+
+static struct change *changes;
+static size_t change_count;
+
+static void load(const char *folder, const char *from) {
+    char line[LONGEST_PATH], path[2 * LONGEST_PATH];
+    while (fgets(line, sizeof line, stdin)) {
+        line[strcspn(line, "\n")] = 0;
+        changes = realloc(changes, (change_count + 1) * sizeof *changes);
+        struct change *change = &changes[change_count++];
+        snprintf(path, sizeof path, "%s/%s", from, line);
+        int file = open(path, O_RDONLY);
+        must(file >= 0, path);
+        change->count = read(file, piece, PIECE);
+        change->bytes = malloc(change->count + 1);
+        memcpy(change->bytes, piece, change->count);
+        close(file);
+        snprintf(path, sizeof path, "%s/%s", folder, line);
+        change->path = strdup(path);
+    }
+}
+
+static void write_file(const struct change *change) {
+    struct stat found;
+    int file = open(change->path, O_WRONLY | O_CREAT, 0666);
+    must(file >= 0, change->path);
+    must(fstat(file, &found) == 0, change->path);
+    must(write(file, change->bytes, change->count) == (ssize_t)change->count, change->path);
+    if (found.st_size > (off_t)change->count)
+        must(ftruncate(file, change->count) == 0, change->path);
+    close(file);
+}
+
+static void sync_path(const char *path) {
+    int file = open(path, O_RDONLY);
+    must(file >= 0 && fsync(file) == 0, path);
+    close(file);
+}
+
+static double now(void) {
+    struct timespec time;
+    clock_gettime(CLOCK_MONOTONIC, &time);
+    return time.tv_sec + time.tv_nsec / 1e9;
+}
+
+int main(int count, char **words) {
+    if (count == 3 && !strcmp(words[1], "read")) {
+        read_folder(words[2]);
+    } else if (count == 4 && !strcmp(words[1], "write")) {
+        load(words[2], words[3]);
+        double start = now();
+        for (size_t i = 0; i < change_count; i++)
+            write_file(&changes[i]);
+        for (size_t i = 0; i < change_count; i++)
+            sync_path(changes[i].path);
+        sync_path(words[2]);
+        printf("%.6f\n", now() - start);
+    } else {
+        return 2;
+    }
+    return 0;
+}
