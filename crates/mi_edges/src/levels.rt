@@ -2,7 +2,7 @@
 
 use crate::found::{Found, look_through};
 use crate::trouble::Trouble;
-use crate::writing::{make_folder, sync_path};
+use crate::writing::{make_folder, sync_above, sync_path};
 use std::fs::Files;
 
 // The folder in which this one stands.
@@ -20,7 +20,7 @@ pub enum Levels {
     /// It is made where it isn't there, and then the entry that names it is synced. What stands there and is no folder,
     /// nor a link to one, is a failure.
     Make,
-    /// The entry that names it is synced.
+    /// The entry that names it is synced, where this process can: a level above that it may not open is passed over.
     Sync,
 }
 
@@ -38,7 +38,7 @@ fn make_level<F: Files>(rt: &F, folder: &str) -> Result<(), Trouble> {
 fn do_level<F: Files>(rt: &F, folder: &str, what: Levels) -> Result<(), Trouble> {
     match what {
         Levels::Make => make_level(rt, folder),
-        Levels::Sync => sync_path(rt, parent_of(folder)),
+        Levels::Sync => sync_above(rt, parent_of(folder)),
     }
 }
 

@@ -1,9 +1,9 @@
 //! Writing, making, syncing and taking away files and folders of the system.
 
 use crate::trouble::Trouble;
-use std::fs;
 use std::fs::{File, Files, OpenFile, OpenOptions};
-use std::io::{Read, Seek, SeekFrom, Write};
+use std::io::{ErrorKind, Read, Seek, SeekFrom, Write};
+use std::{fs, io};
 
 /// Gives a file exactly these bytes, in place: it is never longer than before or than they are. A file that isn't there
 /// yet is made, and nothing else may stand there.
@@ -82,6 +82,34 @@ pub fn sync_path<F: Files>(rt: &F, path: &str) -> Result<(), Trouble> {
 fn sync_open<F: OpenFile>(file: &F) -> Result<(), Trouble> {
     file.sync_all()?;
     Ok(())
+}
+
+// Whether a folder that this process didn't make can't be synced by it: this user may not open it, or its file system
+// is read-only or knows no sync of a folder.
+fn is_beyond(kind: ErrorKind) -> bool {
+    matches!(
+        kind,
+        ErrorKind::PermissionDenied
+            | ErrorKind::ReadOnlyFilesystem
+            | ErrorKind::InvalidInput
+            | ErrorKind::Unsupported
+    )
+}
+
+fn unless_beyond(answer: io::Result<()>) -> Result<(), Trouble> {
+    match answer {
+        Err(error) if !is_beyond(error.kind()) => unless_absent(Trouble::from(error)),
+        _ => Ok(()),
+    }
+}
+
+/// Syncs a folder that was there before this process, if that is in its power: a folder that this user may not open
+/// is passed over, and so is one whose file system is read-only or knows no sync of a folder.
+pub fn sync_above<F: Files>(rt: &F, path: &str) -> Result<(), Trouble> {
+    match File::open(rt, path) {
+        Ok(file) => unless_beyond(file.sync_all()),
+        Err(error) => unless_beyond(Err(error)),
+    }
 }
 
 /// The bytes of a file that are written anew at once.
