@@ -1,20 +1,25 @@
 //! The image of a machine.
 
-ghost use Rattle.std.specs.Prelude.{◌≡◌, List, ℕ, IfOk, OnOk, OnErr, map, filter, nat_eq};
+ghost use Rattle.std.specs.Prelude.{◌≡◌, List, ℕ, Some, false, IfSome, IfNone, IfOk, OnOk, OnErr, map, filter, nat_eq};
 ghost use Rattle.std.specs.Option.{option_copied};
 ghost use Rattle.std.specs.List.{list_any, starts_with};
 ghost use Rattle.std.specs.FinMap as tree;
+ghost use Rattle.std.specs.Ordering.{is_le};
+ghost use Rattle.mi_text.specs.Maps.{Map, name_cmp};
 ghost use Rattle.mi_base.specs.System.{is_system_property};
-ghost use Rattle.mi_image.specs.Items.{MayStand, AreRight};
+ghost use Rattle.mi_image.specs.Items.{machine_over, MayStand, AreRight};
+ghost use Rattle.mi_image.specs.declared.item.Item as item_value;
+ghost use Rattle.mi_image.specs.Firsts.{IsFirstOf};
 ghost use Rattle.mi_image.specs.Lookups.{IsComposed};
 
 use crate::buffer::NameBuffer;
 use crate::item::Item;
-use crate::under::items_under;
+use crate::under::{items_under, names_under};
 use mi_base::{Name, NoMemory};
 use std::alloc::Global;
 use std::collections::BTreeMap;
 use std::marker::Model;
+use std::ops::Bound;
 
 /// What a machine is, without the bytes of its files: of each file its head and where its bytes are, and
 /// every other entry whole (this project's own). It is kept by the names of the volume, in byte order.
@@ -73,6 +78,25 @@ impl Image {
         ensures right { AreRight self.now }
     {
         items_under(alloc, &self.items, front)
+    }
+
+    /// The names that begin with some bytes, in byte order, lent (this project's own). One search and what is listed.
+    pub fn names(&self, alloc: Global, front: &[u8]) -> Result<Vec<&[u8]>, NoMemory>
+        ensures { (held files : Map (List ℕ)) → IfOk result (λ names. map (λ n. n.now) names.items ≡ filter (λ q. starts_with nat_eq q front.now) (tree.keys (machine_over held files self.now))) }
+    {
+        names_under(alloc, &self.items, front)
+    }
+
+    /// What stands at the first name that isn't below these bytes. No memory.
+    pub(crate) fn first_from(&self, from: &Vec<u8>) -> Option<(&Vec<u8>, &Item)>
+        ensures none { IfNone result ((q : List ℕ) (i : item_value.Item) → tree.get self.now q ≡ Some i → is_le (name_cmp from.now.items q) ≡ false) }
+        ensures first { IfSome result (λ e. IsFirstOf self.now from.now.items e.0.now.items e.1.now) }
+        ensures right { AreRight self.now }
+    {
+        let items = &self.items;
+        items
+            .range((Bound::Included(from), Bound::Unbounded))
+            .next()
     }
 
     /// Sets what stands at a name.

@@ -169,7 +169,7 @@ impl Overlay {
     }
 
     /// Takes away what stands at a name, if anything does. Where memory is refused nothing is changed.
-    pub fn take(&mut self, alloc: Global, name: &Name) -> Result<(), NoMemory>
+    pub(crate) fn remove(&mut self, alloc: Global, name: &Name) -> Result<(), NoMemory>
         ensures ok { OnOk result (present_items self.new ≡ tree.remove (present_items self.old) name.now) }
         ensures err { OnErr result (present_items self.new ≡ present_items self.old) }
         ensures former { former_items self.new ≡ former_items self.old }

@@ -60,11 +60,10 @@ fn head_item(alloc: Global, name: &Name, front: &[u8], size: u64) -> Result<Item
     ensures right { IfOk result (MayStand name.now) }
     ensures no_fault { ¬ IsErrOf result ImageError.Fault }
 {
-    let held = name.copy(alloc)?;
     match dec_file_head(alloc, name.as_str(), front, size) {
-        Ok(head) => Ok(Item::Head(head, Content::Held(held))),
+        Ok(head) => Ok(Item::Head(head, Content::Own)),
         Err(RecError::NoMemory) => Err(ImageError::NoMemory),
-        Err(RecError::Fault(_)) => Err(ImageError::BadImage(held)),
+        Err(RecError::Fault(_)) => Err(ImageError::BadImage(name.copy(alloc)?)),
     }
 }
 
