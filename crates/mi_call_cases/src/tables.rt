@@ -74,7 +74,7 @@ fn say_field(
     requires column_in_range { column < length table.now.columns.items }
 {
     match table.field(alloc, row, column)? {
-        Some(text) => push_field(out, text.as_bytes())?,
+        Some(text) => push_field(out, text.as_str().as_bytes())?,
         None => push_field(out, b"")?,
     }
     Ok(())

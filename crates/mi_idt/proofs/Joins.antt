@@ -71,10 +71,10 @@ pub out_of_cells : (cs : List Column) (fs : List (Bor (List ℕ))) (i : ℕ) →
 out_of_cells cs fs i (inl h) = no_column_at (map column_value cs) (map (λ b. b.now) fs) i (omega (arith, length-map cs column_value))
 out_of_cells cs fs i (inr h) = no_field_at (map column_value cs) (map (λ b. b.now) fs) i (omega (arith, length-map fs (λ (b : Bor (List ℕ)). b.now)))
 
-pub raw_cell_at : (cs : List Column) (fs : List (Bor (List ℕ))) (i : ℕ) (c : Column) (f : Bor (List ℕ)) → i < length cs → i < length fs → get_or (cells_of (map column_value cs) (map (λ b. b.now) fs)) i Nothing ≡ cell_of (column_value (get_or cs i c)) (get_or fs i f).now
-raw_cell_at cs fs i c f h k =
+pub raw_cell_at : (cs : List Column) (fs : List (Bor (List ℕ))) (i : ℕ) (c : Column) (f : Bor (List ℕ)) (bytes : List ℕ) → i < length cs → i < length fs → bytes ≡ (get_or fs i f).now → get_or (cells_of (map column_value cs) (map (λ b. b.now) fs)) i Nothing ≡ cell_of (column_value (get_or cs i c)) bytes
+raw_cell_at cs fs i c f bytes h k is =
     cells_at (map column_value cs) (map (λ b. b.now) fs) i (column_value c) f.now (omega (arith, length-map cs column_value)) (omega (arith, length-map fs (λ (b : Bor (List ℕ)). b.now)))
-    ∙ (λ n. cell_of (get_or-map column_value cs i c (column_value c) h n) (get_or-map (λ (b : Bor (List ℕ)). b.now) fs i f f.now k n))
+    ∙ (λ n. cell_of (get_or-map column_value cs i c (column_value c) h n) ((get_or-map (λ (b : Bor (List ℕ)). b.now) fs i f f.now k ∙ sym is) n))
 
 -- ---- the written key of a row
 

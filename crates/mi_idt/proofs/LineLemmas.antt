@@ -1,5 +1,6 @@
 -- Lines, their fields and UTF-8.
-use Rattle.std.proofs.Common.{◌≡◌, ◌+◌, ℕ, true, false, List, [], ◌∷◌, ◌++◌, length, eqb, map, refl, sym, ap, ◌∙◌, arith, inl, inr, Result, Ok, Err, MatchResult, is_ok, Bor, ◌≤◌, ◌-◌, take, get_or, append-nil, Some, None}
+use Rattle.std.proofs.Common.{◌≡◌, ◌+◌, ℕ, true, false, List, [], ◌∷◌, ◌++◌, length, eqb, map, refl, sym, ap, ◌∙◌, arith, inl, inr, Bor, ◌≤◌, ◌-◌, take, get_or, append-nil, Bool, Option, Some, None, is_some}
+use Rattle.std.specs.Bool.{then_some}
 use Rattle.std.specs.Str.Lines.{lines, lines_of_parts, strip_carriage_return}
 use Rattle.std.specs.List.{count_by, slice_split}
 use Rattle.std.specs.Str.{IsUtf8, is_utf8}
@@ -10,18 +11,24 @@ use Rattle.std.proofs.lemmas.Str.{IsUtf8-from_is_utf8, is_utf8-from_IsUtf8}
 use Rattle.mi_text.specs.declared.answers.IdtFault.TheVariants.{NotUtf8}
 use Rattle.mi_idt.specs.Fault.{text_fault}
 use Rattle.mi_idt.specs.Fields.{fields_of}
+use Rattle.mi_idt.specs.Rows.{is_in_page, is_line}
 use Rattle.mi_idt.proofs.Basics.{shown}
 
 pub length_fields : (line : List ℕ) → length (fields_of line) ≡ count_by (λ b. eqb b 9) line + 1
 length_fields line = length-slice_split (λ b. eqb b 9) line
 
-pub no_utf8 : (bs : List ℕ) → ¬ (IsUtf8 bs) → is_utf8 bs ≡ false
+no_utf8 : (bs : List ℕ) → ¬ (IsUtf8 bs) → is_utf8 bs ≡ false
 no_utf8 bs none = elim (cases_Bool (is_utf8 bs)) [ inl valid ↦ absurd (none (IsUtf8-from_is_utf8 bs valid)) | inr other ↦ other ]
 
--- the answer of the library's test
-pub utf8_answer : {E : Type 0} (Q : E → Type 0) (r : Result (Bor (List ℕ)) E) (bs : List ℕ) → MatchResult r (λ s. (s.now ≡ bs) × IsUtf8 bs) (λ e. ¬ (IsUtf8 bs) × Q e) → is_ok r ≡ is_utf8 bs
-utf8_answer Q (Ok s) bs h = sym (is_utf8-from_IsUtf8 bs h.1)
-utf8_answer Q (Err e) bs h = sym (no_utf8 bs h.0)
+pub utf8_line : (page : Option ℕ) (line : List ℕ) → IsUtf8 line → is_in_page page line ≡ is_line page line
+utf8_line page line valid = rw (is_utf8-from_IsUtf8 line valid) refl
+
+pub no_line : (page : Option ℕ) (line : List ℕ) → ¬ (IsUtf8 line) → false ≡ is_line page line
+no_line page line none = rw (no_utf8 line none) refl
+
+pub some_if : {A : Type 0} (b : Bool) (x : A) → is_some (then_some b x) ≡ b
+some_if true x = refl
+some_if false x = refl
 
 -- the parts of a list that ends so
 pub lines_of_parts-push : (parts : List (List ℕ)) (last : List ℕ) → lines_of_parts (parts ++ last ∷ []) ≡ map strip_carriage_return parts ++ lines_of_parts (last ∷ [])

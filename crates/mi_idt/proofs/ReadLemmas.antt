@@ -1,5 +1,5 @@
 -- What the top of the reader needs.
-use Rattle.std.proofs.Common.{◌≡◌, ℕ, ◌+◌, ◌-◌, ◌<◌, ◌≤◌, eqb, ltb, Bool, true, false, cond, List, [], ◌∷◌, length, map, take, drop, get_or, Option, Some, None, option_map, Result, Ok, Err, IfOk, refl, sym, ap, subst, ◌∙◌, arith, inl, inr, Bor}
+use Rattle.std.proofs.Common.{◌≡◌, ℕ, ◌+◌, ◌-◌, ◌<◌, ◌≤◌, eqb, ltb, Bool, true, false, cond, List, [], ◌∷◌, length, map, take, drop, get_or, Option, Some, None, option_map, Result, Ok, Err, refl, sym, ap, subst, ◌∙◌, arith, inl, inr, Bor}
 use Rattle.std.specs.List.{AllZip, slice_split, count_by}
 use Rattle.std.specs.Str.Lines.{lines, lines_of_parts}
 use Rattle.std.proofs.lemmas.Bool.{cases_Bool, ltb-false, lt-ltb, le-ltb}
@@ -12,7 +12,7 @@ use Rattle.mi_idt.specs.declared.table.Row.{Row}
 use Rattle.mi_idt.specs.declared.table.Table.{Table}
 use Rattle.mi_idt.specs.declared.table.IdtError.{IdtError}
 use Rattle.mi_idt.specs.declared.table.IdtError.TheVariants as error
-use Rattle.mi_idt.specs.Cells.{ColumnValue, TableValue}
+use Rattle.mi_idt.specs.Cells.{ColumnValue}
 use Rattle.mi_idt.specs.Columns.{◌or_else◌}
 use Rattle.mi_idt.specs.Fault.{is_too_large, texts_fault, parts_fault, table_fault, lines_fault, idt_fault}
 use Rattle.mi_idt.specs.Fields.{fields_of}
@@ -29,7 +29,7 @@ use Rattle.mi_idt.proofs.Basics.{shown}
 use Rattle.mi_idt.proofs.Faults.{or-past}
 use Rattle.mi_idt.proofs.FieldLaws.{cells_in, rows_are}
 use Rattle.mi_idt.proofs.KeyLaws.{AreKeys, repeats_are}
-use Rattle.mi_idt.proofs.TableLaws.{bytes_spell, one_table}
+use Rattle.mi_idt.proofs.TableLaws.{bytes_spell}
 
 -- ---- repeated keys
 
@@ -154,7 +154,3 @@ reads_table (Ok t) bytes ls small are h =
     spelled_by bytes t (same ∙ ap lines_fault (sym are) ∙ h.0) (h.1 ∙ ap raw_of_lines are ∙ sym (raw_by_lines bytes))
 reads_table (Err error.NoMemory) bytes ls small are h = tt
 reads_table (Err (error.Fault f)) bytes ls small are h = by_lines bytes (le-ltb _ _ small) ∙ ap lines_fault (sym are) ∙ h
-
-pub reads_only : (r : Result Table IdtError) (bytes : List ℕ) → ReadsTable r bytes → IfOk r (λ t. (other : TableValue) → Spells bytes other → other ≡ meaning t)
-reads_only (Ok t) bytes h = λ other s. one_table bytes other (meaning t) s h.spells
-reads_only (Err e) bytes h = tt

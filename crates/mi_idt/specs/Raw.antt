@@ -1,8 +1,9 @@
 -- A table as it stands in its lines, its fields still escaped, and its value.
-use Rattle.std.specs.Prelude.{ℕ, List, [], ◌∷◌, map, Option, None}
+use Rattle.std.specs.Prelude.{ℕ, List, [], ◌∷◌, map, Option, Some, None}
+use Rattle.std.specs.List.{slice_index_or}
 use Rattle.std.specs.Str.Lines.{lines}
 use Rattle.mi_idt.specs.Cells.{ColumnValue, TableValue}
-use Rattle.mi_idt.specs.Fields.{fields_of}
+use Rattle.mi_idt.specs.Fields.{fields_of, unescaped}
 use Rattle.mi_idt.specs.Columns.{columns_of}
 use Rattle.mi_idt.specs.Head.{page_of, after_page, name_in, keys_in, places_of}
 use Rattle.mi_idt.specs.Rows.{cells_of}
@@ -31,3 +32,14 @@ raw_of bytes = raw_of_lines (lines bytes)
 -- the value of a table as it stands
 abbrev pub value_of : RawTable → TableValue
 value_of t = record { name = t.name; page = t.page; columns = t.columns; keys = t.keys; rows = map (cells_of t.columns) t.rows }
+
+-- ---- fields
+
+-- the field of a row and a column, from 0, as it stands
+abbrev pub field_at : RawTable → ℕ → ℕ → List ℕ
+field_at t row column = slice_index_or (slice_index_or t.rows row []) column []
+
+-- the text that a field stands for: its bytes unescaped, and none where it is empty
+abbrev pub text_of : List ℕ → Option (List ℕ)
+text_of [] = None
+text_of (b ∷ bs) = Some (map unescaped (b ∷ bs))

@@ -1,16 +1,19 @@
 //! Escapes in fields, and the written form of a field.
 
-ghost use Rattle.std.specs.Prelude.{◌≡◌, ◌++◌, IfOk, OnOk, map};
-ghost use Rattle.std.specs.Str.{IsUtf8};
+ghost use Rattle.std.specs.Prelude.{◌≡◌, ◌==◌, ◌++◌, IfOk, IsOk, OnOk, map, option_map, string_bytes};
+ghost use Rattle.std.specs.Cow.{cow_str_bytes};
+ghost use Rattle.std.specs.List.{list_all};
 ghost use Rattle.mi_idt.specs.Fields.{unescaped};
 ghost use Rattle.mi_idt.specs.Means.{column_value};
+ghost use Rattle.mi_idt.specs.Raw.{text_of};
 ghost use Rattle.mi_idt.specs.Rows.{cell_of};
 ghost use Rattle.mi_idt.specs.Written.{escaped, written_cell};
 
 use crate::number::integer_within;
 use crate::table::Column;
-use mi_text::{NoMemory, Text};
+use mi_text::NoMemory;
 use std::alloc::{AllocError, Global};
+use std::borrow::CowStr;
 
 fn unescaped(byte: u8) -> u8
     ensures { result ≡ unescaped byte }
@@ -40,22 +43,41 @@ fn escaped(byte: u8) -> u8
     }
 }
 
+fn is_plain(field: &[u8]) -> bool
+    ensures { result ≡ list_all (λ b. unescaped b == b) field.now }
+{
+    field.iter().all(|byte| unescaped(*byte) == *byte)
+}
+
 fn unescaped_bytes(alloc: Global, field: &[u8]) -> Result<Vec<u8>, AllocError>
     ensures { IfOk result (λ v. v.items ≡ map unescaped field.now) }
 {
     field.iter().map(|byte| unescaped(*byte)).collect(alloc)
 }
 
-/// The text that a field stands for.
-pub fn text_of(alloc: Global, field: &[u8]) -> Result<Text, NoMemory>
-    requires { IsUtf8 field.now }
-    ensures { IfOk result (λ t. t ≡ map unescaped field.now) }
+fn unescaped_text(alloc: Global, field: &str) -> Result<String, AllocError>
+    ensures { IfOk result (λ s. string_bytes s ≡ map unescaped field.now) }
 {
-    let bytes = unescaped_bytes(alloc, field)?;
+    let bytes = unescaped_bytes(alloc, field.as_bytes())?;
     match String::from_utf8(bytes) {
-        Ok(string) => Ok(Text::from_string(string)),
+        Ok(string) => Ok(string),
         Err(_) => unreachable!(),
     }
+}
+
+/// The text that a field stands for.
+pub fn text_of<'a>(alloc: Global, field: &'a str) -> Result<Option<CowStr<'a>>, NoMemory>
+    ensures text { IfOk result (λ text. option_map cow_str_bytes text ≡ text_of field.now) }
+    ensures plain { text_of field.now ≡ Some field.now → IsOk result }
+{
+    if field.is_empty() {
+        return Ok(None);
+    }
+    if is_plain(field.as_bytes()) {
+        return Ok(Some(CowStr::Borrowed(field)));
+    }
+    let text = unescaped_text(alloc, field)?;
+    Ok(Some(CowStr::Owned(text)))
 }
 
 fn push_text(out: &mut Vec<u8>, field: &[u8]) -> Result<(), NoMemory>

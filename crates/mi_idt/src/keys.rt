@@ -20,7 +20,7 @@ fn push_cell(
     alloc: Global,
     out: &mut Vec<u8>,
     columns: &[Column<'_>],
-    fields: &[&[u8]],
+    fields: &[&str],
     place: usize,
 ) -> Result<(), NoMemory>
     ensures { OnOk result (out.new.items ≡ out.old.items ++ written_cell (slice_index_or (cells_of (map column_value columns.now) (map (λ b. b.now) fields.now)) place Nothing)) }
@@ -31,14 +31,14 @@ fn push_cell(
     if place >= fields.len() {
         return Ok(());
     }
-    push_field(alloc, out, &columns[place], fields[place])
+    push_field(alloc, out, &columns[place], fields[place].as_bytes())
 }
 
 fn key_text(
     alloc: Global,
     columns: &[Column<'_>],
     keys: &[u32],
-    fields: &[&[u8]],
+    fields: &[&str],
 ) -> Result<Bytes, NoMemory>
     ensures { IfOk result (λ text. text ≡ written_row (key_of keys.now (cells_of (map column_value columns.now) (map (λ b. b.now) fields.now)))) }
 {

@@ -5,6 +5,7 @@ mod columns;
 mod escape;
 mod head;
 mod keys;
+mod laws;
 mod line;
 mod lines;
 mod names;
@@ -14,6 +15,7 @@ mod rows;
 mod table;
 mod write;
 
+pub use laws::spells_one;
 pub use read::read_table;
 pub use table::{Column, IdtError, Row, Table};
 pub use write::write_table;

@@ -2,12 +2,10 @@
 
 ghost use Rattle.std.specs.Prelude.{◌≡◌, ◌==◌, IfOk, length, map, count_by};
 ghost use Rattle.std.specs.List.{slice_split};
-ghost use Rattle.std.specs.Str.{is_utf8};
 ghost use Rattle.std.specs.Str.Lines.{lines, strip_carriage_return};
 ghost use Rattle.mi_idt.specs.Fields.{fields_of, is_ascii};
 
 use std::alloc::{AllocError, Global};
-use std::str;
 
 /// The parts between the bytes that equal `mark`.
 pub fn parts(alloc: Global, bytes: &[u8], mark: u8) -> Result<Vec<&[u8]>, AllocError>
@@ -35,13 +33,6 @@ pub fn count_fields(line: &[u8]) -> usize
     ensures { result ≡ length (fields_of line.now) }
 {
     count(line, b'\t') + 1
-}
-
-/// Whether the bytes are UTF-8.
-pub fn is_utf8(bytes: &[u8]) -> bool
-    ensures { result ≡ is_utf8 bytes.now }
-{
-    str::from_utf8(bytes).is_ok()
 }
 
 /// Whether all bytes are below 128.

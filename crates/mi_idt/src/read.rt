@@ -1,10 +1,10 @@
 //! The reader.
 
-ghost use Rattle.std.specs.Prelude.{◌≡◌, ◌↔◌, ◌<◌, ◌≤◌, None, IfOk, ◌∷◌, length, map, vec_len};
+ghost use Rattle.std.specs.Prelude.{◌≡◌, ◌↔◌, ◌<◌, ◌≤◌, None, ◌∷◌, length, map, vec_len};
 ghost use Rattle.mi_idt.specs.Cells.{TableValue};
 ghost use Rattle.mi_idt.specs.Fault.{idt_fault, lines_fault, parts_fault, body_fault, is_too_large};
 ghost use Rattle.mi_idt.specs.Fields.{fields_of};
-ghost use Rattle.mi_idt.specs.Means.{meaning, raw, column_value};
+ghost use Rattle.mi_idt.specs.Means.{raw, column_value};
 ghost use Rattle.mi_idt.specs.Raw.{raw_of_lines};
 ghost use Rattle.mi_idt.specs.Reads.{ReadsTable};
 ghost use Rattle.mi_idt.specs.HasParts.{HasParts};
@@ -133,9 +133,8 @@ fn read_lines<'a>(alloc: Global, lines: &[&'a [u8]]) -> Result<Table<'a>, IdtErr
 /// Fields stay slices of the bytes.
 pub fn read_table<'a>(alloc: Global, bytes: &'a [u8]) -> Result<Table<'a>, IdtError>
     ensures reads { ReadsTable result bytes.now }
-    // No bytes spell two tables, and there is a fault exactly where they spell none.
+    // There is a fault exactly where the bytes spell no table; they never spell two (`spells_one`).
     ensures exact { (idt_fault bytes.now ≡ None) ↔ ((t : TableValue) × Spells bytes.now t) }
-    ensures only { IfOk result (λ t. (other : TableValue) → Spells bytes.now other → other ≡ meaning t) }
 {
     if bytes.len() > MAX_BYTES {
         return Err(IdtError::Fault(IdtFault::TooLarge));

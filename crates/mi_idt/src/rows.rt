@@ -1,16 +1,17 @@
 //! The rows, from line 4 on.
 
-ghost use Rattle.std.specs.Prelude.{◌≡◌, ◌+◌, ◌<◌, ◌^◌, length, map};
+ghost use Rattle.std.specs.Prelude.{◌≡◌, ◌+◌, ◌<◌, ◌^◌, length, map, is_some, IfSome};
 ghost use Rattle.mi_idt.specs.Fields.{fields_of};
 ghost use Rattle.mi_idt.specs.Means.{column_value, raw_row};
 ghost use Rattle.mi_idt.specs.Rows.{is_in_page, is_line, field_fault, fields_fault, line_fault, rows_fault};
 ghost use Rattle.mi_idt.specs.Steps.{ReadsPart, fault_of};
 
-use crate::lines::{all_ascii, count_fields, is_utf8, parts};
+use crate::lines::{all_ascii, count_fields, text_fields};
 use crate::number::integer_within;
 use crate::table::{Column, IdtError, Row};
 use mi_text::IdtFault;
 use std::alloc::Global;
+use std::str;
 
 fn is_in_page(page: Option<u32>, line: &[u8]) -> bool
     ensures { result ≡ is_in_page page line.now }
@@ -21,13 +22,18 @@ fn is_in_page(page: Option<u32>, line: &[u8]) -> bool
     }
 }
 
-fn is_line(page: Option<u32>, line: &[u8]) -> bool
-    ensures { result ≡ is_line page line.now }
+/// The text of a line, where its bytes are some in the code page.
+fn line_text(page: Option<u32>, line: &[u8]) -> Option<&str>
+    ensures read { IfSome result (λ text. text.now ≡ line.now) }
+    ensures is { is_some result ≡ is_line page line.now }
 {
-    is_utf8(line) && is_in_page(page, line)
+    match str::from_utf8(line) {
+        Ok(text) => is_in_page(page, line).then_some(text),
+        Err(_) => None,
+    }
 }
 
-fn check_field(column: &Column<'_>, field: &[u8], row: u32, place: u32) -> Result<(), IdtFault>
+fn check_field(column: &Column<'_>, field: &str, row: u32, place: u32) -> Result<(), IdtFault>
     ensures { fault_of result ≡ field_fault (column_value column.now) row place field.now }
 {
     if field.is_empty() {
@@ -37,13 +43,13 @@ fn check_field(column: &Column<'_>, field: &[u8], row: u32, place: u32) -> Resul
             Err(IdtFault::Null(row, place))
         };
     }
-    if column.is_int() && integer_within(field, column.limit()).is_none() {
+    if column.is_int() && integer_within(field.as_bytes(), column.limit()).is_none() {
         return Err(IdtFault::Integer(row, place));
     }
     Ok(())
 }
 
-fn check_fields(columns: &[Column<'_>], fields: &[&[u8]], row: u32) -> Result<(), IdtFault>
+fn check_fields(columns: &[Column<'_>], fields: &[&str], row: u32) -> Result<(), IdtFault>
     requires same { length columns.now ≡ length fields.now }
     requires few { length columns.now < 2 ^ 31 }
     ensures { fault_of result ≡ fields_fault row 1 (map column_value columns.now) (map (λ b. b.now) fields.now) }
@@ -65,13 +71,13 @@ fn read_row<'a>(
     requires fits { row + 3 < 2 ^ 32 }
     ensures { ReadsPart result (line_fault page (map column_value columns.now) row line.now) (λ r. raw_row r ≡ fields_of line.now) }
 {
-    if !is_line(page, line) {
+    let Some(text) = line_text(page, line) else {
         return Err(IdtError::Fault(IdtFault::NotUtf8(row + 3)));
-    }
+    };
     if count_fields(line) != columns.len() {
         return Err(IdtError::Fault(IdtFault::ColumnCount(row + 3)));
     }
-    let fields = parts(alloc, line, b'\t')?;
+    let fields = text_fields(alloc, text)?;
     match check_fields(columns, &fields, row) {
         Ok(()) => Ok(Row { fields }),
         Err(fault) => Err(IdtError::Fault(fault)),

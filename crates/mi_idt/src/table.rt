@@ -1,11 +1,13 @@
 //! Tables as slices of the bytes that spell them.
 
-ghost use Rattle.std.specs.Prelude.{◌≡◌, ◌<◌, length, IfOk};
+ghost use Rattle.std.specs.Prelude.{◌≡◌, ◌<◌, length, option_map, IfOk, IsOk};
+ghost use Rattle.std.specs.Cow.{cow_str_bytes};
 ghost use Rattle.mi_idt.specs.declared.table.IdtError.TheVariants.{NoMemory as no_memory};
 
 use crate::escape::text_of;
-use mi_text::{IdtFault, NoMemory, Text};
+use mi_text::{IdtFault, NoMemory};
 use std::alloc::{AllocError, AllocFailed, Global};
+use std::borrow::CowStr;
 
 /// A column: its name, and the letter and the width of its definition (Column Definition Format).
 /// The letter is one of `s`, `l`, `i`, `v`, in upper case where the column allows null.
@@ -16,10 +18,10 @@ pub struct Column<'a> {
     pub width: u8,
 }
 
-/// The fields of a row, slices of the bytes that are still escaped.
+/// The fields of a row, slices of the text that are still escaped.
 #[derive(Drop)]
 pub struct Row<'a> {
-    pub fields: Vec<&'a [u8]>,
+    pub fields: Vec<&'a str>,
 }
 
 /// A table; `page` is its code page, and `keys` are the places of the key columns, from 0.
@@ -94,23 +96,27 @@ impl Column<'_> {
     }
 }
 
-impl Table<'_> {
-    ghost use Rattle.mi_idt.specs.Means.{IsSpelled, Shows, meaning, cell_at};
+impl<'a> Table<'a> {
+    ghost use Rattle.mi_idt.specs.Means.{IsSpelled, Shows, meaning, raw, cell_at};
+    ghost use Rattle.mi_idt.specs.Raw.{field_at, text_of};
 
     /// The text of a field, unescaped, or nothing where it is null; rows and columns count from 0.
-    /// The text of an integer is as it stands in the bytes.
-    pub fn field(&self, alloc: Global, row: usize, column: usize) -> Result<Option<Text>, NoMemory>
+    /// Where nothing is escaped it takes no memory.
+    pub fn field(
+        &self,
+        alloc: Global,
+        row: usize,
+        column: usize,
+    ) -> Result<Option<CowStr<'a>>, NoMemory>
         requires spelled { IsSpelled self.now }
         requires row_in_range { row < length self.now.rows.items }
         requires column_in_range { column < length self.now.columns.items }
-        ensures { IfOk result (λ shown. Shows shown (cell_at (meaning self.now) row column)) }
+        ensures text { IfOk result (λ text. option_map cow_str_bytes text ≡ text_of (field_at (raw self.now) row column)) }
+        ensures plain { text_of (field_at (raw self.now) row column) ≡ Some (field_at (raw self.now) row column) → IsOk result }
+        // So it shows the cell that the table means.
+        ensures cell { IfOk result (λ text. Shows (option_map cow_str_bytes text) (cell_at (meaning self.now) row column)) }
     {
         let row = &self.rows[row];
-        let field = row.fields[column];
-        if field.is_empty() {
-            return Ok(None);
-        }
-        let text = text_of(alloc, field)?;
-        Ok(Some(text))
+        text_of(alloc, row.fields[column])
     }
 }

@@ -79,14 +79,14 @@ fn push_row(
     alloc: Global,
     out: &mut Vec<u8>,
     columns: &[Column<'_>],
-    fields: &[&[u8]],
+    fields: &[&str],
 ) -> Result<(), NoMemory>
     requires { length columns.now ≡ length fields.now }
     ensures { OnOk result (out.new.items ≡ out.old.items ++ tabbed 0 (map written_cell (cells_of (map column_value columns.now) (map (λ b. b.now) fields.now)))) }
 {
     for (i, field) in fields.iter().enumerate() {
         push_tab(out, i)?;
-        push_field(alloc, out, &columns[i], field)?;
+        push_field(alloc, out, &columns[i], field.as_bytes())?;
     }
     Ok(())
 }

@@ -63,6 +63,25 @@ fn read_value(
     }
 }
 
+/// The text of a field, or nothing where it is null. Rows and columns count from 0 here.
+fn shown_at(
+    alloc: Global,
+    table: &Table,
+    number: usize,
+    column: usize,
+) -> Result<Option<Text>, NoMemory>
+    requires spelled { IsSpelled table.now }
+    requires row_in_range { number < vec_len table.now.rows }
+    requires column_in_range { column < vec_len table.now.columns }
+    ensures { IfOk result (λ shown. Shows shown (cell_at (meaning table.now) number column)) }
+{
+    let Some(text) = table.field(alloc, number, column)? else {
+        return Ok(None);
+    };
+    let string = text.into_owned(alloc)?;
+    Ok(Some(Text::from_string(string)))
+}
+
 /// The values of a row, or the first fault among them. Rows count from 0 here.
 fn read_row(
     alloc: Global,
@@ -80,7 +99,7 @@ fn read_row(
 {
     let mut row = Vec::new(alloc);
     for (i, column) in layout.columns.iter().enumerate() {
-        let shown = table.field(alloc, number, i)?;
+        let shown = shown_at(alloc, table, number, i)?;
         match read_value(alloc, column, shown, index, seen, row.as_slice()) {
             Ok(cell) => row.push(cell)?,
             Err(error) => {
@@ -112,7 +131,7 @@ fn key_of(alloc: Global, layout: &Layout, table: &Table, number: usize) -> Resul
     if !has_text(first.kind) {
         return Ok(Text::new(alloc));
     }
-    match table.field(alloc, number, 0)? {
+    match shown_at(alloc, table, number, 0)? {
         Some(key) => Ok(key),
         None => Ok(Text::new(alloc)),
     }

@@ -11,4 +11,4 @@ pub returns-then-place-fields : goal.returns-then-place-fields
 returns-then-place-fields c = nothing_added c.args.out.now.items _ (out_of_cells c.args.columns.now c.args.fields.now c.args.place (inr c.if-place-fields.true))
 
 pub returns : goal.returns
-returns c = subst (λ (x : Cell). OnOk c.push_field.result (c.push_field.new.out.items ≡ c.args.out.now.items ++ written_cell x)) (sym (raw_cell_at c.args.columns.now c.args.fields.now c.args.place _ _ c.if-place-columns.false c.if-place-fields.false)) c.push_field.ensures
+returns c = subst (λ (x : Cell). OnOk c.push_field.result (c.push_field.new.out.items ≡ c.args.out.now.items ++ written_cell x)) (sym (raw_cell_at c.args.columns.now c.args.fields.now c.args.place _ _ c.as_bytes.result.now c.if-place-columns.false c.if-place-fields.false c.as_bytes.ensures.value)) c.push_field.ensures

@@ -1,7 +1,7 @@
 use Rattle.std.proofs.Common.{◌∙◌, ap, arith}
 use Rattle.std.proofs.lemmas.Bool.{le-ltb}
 use Rattle.mi_idt.proofs.Basics.{shown}
-use Rattle.mi_idt.proofs.ReadLemmas.{many_bytes, many_ends, reads_table, reads_only}
+use Rattle.mi_idt.proofs.ReadLemmas.{many_bytes, many_ends, reads_table}
 use Rattle.mi_idt.proofs.TableLaws.{spells_exactly}
 use Rattle.mi_idt.proofs.read.read_table.Goals as goal
 
@@ -25,6 +25,3 @@ returns-clause-reads c = reads_table c.read_lines.result c.args.bytes.now (shown
 
 pub returns-clause-exact : goal.returns-clause-exact
 returns-clause-exact c = spells_exactly c.args.bytes.now
-
-pub returns-clause-only : goal.returns-clause-only
-returns-clause-only c = reads_only c.read_lines.result c.args.bytes.now (reads_table c.read_lines.result c.args.bytes.now (shown c.deref.result.now) c.if-bytes-gt-MAX_BYTES.false (ap shown c.deref.ensures.value ∙ c.in_ok-lines.ensures) c.read_lines.ensures)

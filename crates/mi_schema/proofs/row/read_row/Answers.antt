@@ -6,8 +6,8 @@ use Rattle.mi_schema.proofs.FitLemmas.{row_fits, fit_at, columns_there, few_rows
 use Rattle.mi_schema.proofs.RowLemmas.{reads_more, fault_here, reads_all, refused_as}
 use Rattle.mi_schema.proofs.row.read_row.Goals as goal
 
-pub field-requires-clause-column_in_range : goal.field-requires-clause-column_in_range
-field-requires-clause-column_in_range c =
+pub shown_at-requires-clause-column_in_range : goal.shown_at-requires-clause-column_in_range
+shown_at-requires-clause-column_in_range c =
     let many = columns_there (map column_as c.args.layout.now.columns.now) c.args.table.now c.requires.columns in
     omega (arith, many, length-map c.args.layout.now.columns.now column_as)
 

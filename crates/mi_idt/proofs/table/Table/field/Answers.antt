@@ -1,31 +1,28 @@
-use Rattle.std.proofs.Common.{◌≡◌, ◌∙◌, sym, ap, subst, arith, List, ℕ, Bor, length, map, eqb, true, false}
-use Rattle.std.specs.Str.{IsUtf8}
-use Rattle.mi_idt.specs.Fields.{unescaped}
-use Rattle.mi_idt.proofs.Spelled.{RowAt, row_at, row_length, field_at, shows_null, shows_text}
+use Rattle.std.proofs.Common.{◌≡◌, arith, subst, List, ℕ, IfOk, IsOk, Some, option_map}
+use Rattle.std.specs.Cow.{cow_str_bytes}
+use Rattle.mi_idt.specs.Raw.{text_of, field_at}
+use Rattle.mi_idt.specs.Means.{raw, cell_at, meaning}
+use Rattle.mi_idt.proofs.Spelled.{in_row, field_is, shows_at, shows_so}
 use Rattle.mi_idt.proofs.table.Table.field.Goals as goal
 
-pub index-field-requires : goal.index-field-requires
-index-field-requires c =
-    let r : RowAt c.args.self.now c.args.row c.index-row.result.now = subst (RowAt c.args.self.now c.args.row) (sym c.index-row.ensures) (row_at c.requires.spelled.0 c.args.self.now c.requires.spelled.1 c.args.row c.index-row.result.now c.requires.row_in_range) in
-    let long = row_length c.args.self.now c.args.row c.index-row.result.now r in
-    omega (arith, long, c.requires.column_in_range)
+pub index-requires : goal.index-requires
+index-requires c =
+    let short = in_row c.requires.spelled.0 c.args.self.now c.requires.spelled.1 c.args.row c.args.column c.index-row.result.now c.index-row.ensures c.requires.row_in_range c.requires.column_in_range in
+    omega (arith, short, c.index-row.result.now.fields.ok)
 
-pub returns-then-is_empty : goal.returns-then-is_empty
-returns-then-is_empty c =
-    let r : RowAt c.args.self.now c.args.row c.index-row.result.now = subst (RowAt c.args.self.now c.args.row) (sym c.index-row.ensures) (row_at c.requires.spelled.0 c.args.self.now c.requires.spelled.1 c.args.row c.index-row.result.now c.requires.row_in_range) in
-    let f = field_at c.args.self.now c.args.row c.index-row.result.now c.args.column c.index-field.result.now r c.requires.column_in_range in
-    let none : eqb (length c.index-field.result.now.now) 0 ≡ true = sym c.is_empty.ensures ∙ c.if-is_empty.true in
-    shows_null f.1.0 _ _ (ap (λ (b : Bor (List ℕ)). eqb (length b.now) 0) (sym c.index-field.ensures) ∙ none) f.1.1
+pub returns-clause-text : goal.returns-clause-text
+returns-clause-text c =
+    let is = field_is c.requires.spelled.0 c.args.self.now c.requires.spelled.1 c.args.row c.args.column c.index-row.result.now c.index.result.now c.index-row.ensures c.index.ensures c.requires.row_in_range c.requires.column_in_range in
+    subst (λ (f : List ℕ). IfOk c.text_of.result (λ text. option_map cow_str_bytes text ≡ text_of f)) is c.text_of.ensures.text
 
-pub text_of-requires : goal.text_of-requires
-text_of-requires c =
-    let r : RowAt c.args.self.now c.args.row c.index-row.result.now = subst (RowAt c.args.self.now c.args.row) (sym c.index-row.ensures) (row_at c.requires.spelled.0 c.args.self.now c.requires.spelled.1 c.args.row c.index-row.result.now c.requires.row_in_range) in
-    let f = field_at c.args.self.now c.args.row c.index-row.result.now c.args.column c.index-field.result.now r c.requires.column_in_range in
-    subst (λ (b : Bor (List ℕ)). IsUtf8 b.now) (sym c.index-field.ensures) f.0
+pub returns-clause-plain : goal.returns-clause-plain
+returns-clause-plain c =
+    let is = field_is c.requires.spelled.0 c.args.self.now c.requires.spelled.1 c.args.row c.args.column c.index-row.result.now c.index.result.now c.index-row.ensures c.index.ensures c.requires.row_in_range c.requires.column_in_range in
+    subst (λ (f : List ℕ). text_of f ≡ Some f → IsOk c.text_of.result) is c.text_of.ensures.plain
 
-pub returns : goal.returns
-returns c =
-    let r : RowAt c.args.self.now c.args.row c.index-row.result.now = subst (RowAt c.args.self.now c.args.row) (sym c.index-row.ensures) (row_at c.requires.spelled.0 c.args.self.now c.requires.spelled.1 c.args.row c.index-row.result.now c.requires.row_in_range) in
-    let f = field_at c.args.self.now c.args.row c.index-row.result.now c.args.column c.index-field.result.now r c.requires.column_in_range in
-    let some : eqb (length c.index-field.result.now.now) 0 ≡ false = sym c.is_empty.ensures ∙ c.if-is_empty.false in
-    shows_text f.1.0 _ _ c.in_ok-text.text (ap (λ (b : Bor (List ℕ)). eqb (length b.now) 0) (sym c.index-field.ensures) ∙ some) f.1.1 (c.in_ok-text.ensures ∙ ap (λ (b : Bor (List ℕ)). map unescaped b.now) c.index-field.ensures)
+pub returns-clause-cell : goal.returns-clause-cell
+returns-clause-cell c =
+    let is = field_is c.requires.spelled.0 c.args.self.now c.requires.spelled.1 c.args.row c.args.column c.index-row.result.now c.index.result.now c.index-row.ensures c.index.ensures c.requires.row_in_range c.requires.column_in_range in
+    let text = subst (λ (f : List ℕ). IfOk c.text_of.result (λ text. option_map cow_str_bytes text ≡ text_of f)) is c.text_of.ensures.text in
+    let shows = shows_at c.requires.spelled.0 c.args.self.now c.requires.spelled.1 c.args.row c.args.column c.requires.row_in_range c.requires.column_in_range in
+    shows_so cow_str_bytes c.text_of.result (text_of (field_at (raw c.args.self.now) c.args.row c.args.column)) (cell_at (meaning c.args.self.now) c.args.row c.args.column) text shows
