@@ -62,9 +62,16 @@ fn push_str(text: Held, most: usize, more: &str) -> Result<Held, NoMemory>
 fn push(text: Held, most: usize, ch: char) -> Result<Held, NoMemory>
     ensures { IfOk result (λ t. t ≡ grown most text (encode_utf8 ch)) }
 {
-    let mut buffer = [0; 4];
-    let more = ch.encode_utf8(&mut buffer);
-    push_str(text, most, more)
+    let text = match text {
+        Held::Whole(text) => text,
+        Held::Longer(look) => return Ok(Held::Longer(look.with_char(ch))),
+    };
+    if !fits(most, text.len(), ch.len_utf8()) {
+        return Ok(Held::Longer(Look::of(text.as_str()).with_char(ch)));
+    }
+    let mut string = text.into_string();
+    string.push(ch)?;
+    Ok(Held::Whole(Text::from_string(string)))
 }
 
 // Adds another text.

@@ -1,6 +1,6 @@
 //! What is known of a text that isn't kept.
 
-ghost use Rattle.std.specs.Prelude.{◌≡◌, ◌++◌};
+ghost use Rattle.std.specs.Prelude.{◌≡◌, encode_utf8};
 ghost use Rattle.std.specs.List.{list_all};
 ghost use Rattle.mi_text.specs.PropertyNames.{begins_name, continues_name};
 ghost use Rattle.mi_format.specs.Kept.{first_byte, look_of, look_on, is_name};
@@ -63,6 +63,14 @@ impl Look {
             first: self.first.or(first_byte(more)),
             continues: self.continues && all_continue(more),
         }
+    }
+
+    /// Of a text and a character.
+    pub fn with_char(self, ch: char) -> Look
+        ensures { result ≡ look_on self (look_of (encode_utf8 ch)) }
+    {
+        let mut buffer = [0; 4];
+        self.with(ch.encode_utf8(&mut buffer))
     }
 
     /// Whether a bracket round such a text, of two bytes or more, is looked up.
