@@ -1,6 +1,6 @@
 -- The least length of a key that is held, from a length on.
 use Rattle.std.proofs.Common.{◌≡◌, ℕ, zero, suc, ◌+◌, ◌-◌, ◌<◌, ◌≤◌, Bool, true, false, cond, eqb, List, [], ◌∷◌, ◌++◌, map, drop, length, get_or, Option, Some, None, Bor, refl, sym, ap, subst, ◌∙◌, eq-eqb, arith}
-use Rattle.std.specs.Prelude.{filter, nat_eq, not, ◌&&◌, IfSome, IfNone, MatchOption}
+use Rattle.std.specs.Prelude.{filter, nat_eq, not, ◌&&◌, IfSome, IfNone}
 use Rattle.std.specs.List.{starts_with}
 use Rattle.std.specs.Ordering.{is_le, is_eq, ordering_reverse}
 use Rattle.std.specs.declared.cmp.Ordering.{Ordering}
