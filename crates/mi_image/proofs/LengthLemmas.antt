@@ -1,6 +1,6 @@
 -- The least length of a key that is held, from a length on.
 use Rattle.std.proofs.Common.{◌≡◌, ℕ, zero, suc, ◌+◌, ◌-◌, ◌<◌, ◌≤◌, Bool, true, false, cond, eqb, List, [], ◌∷◌, ◌++◌, map, drop, length, get_or, Option, Some, None, Bor, refl, sym, ap, subst, ◌∙◌, eq-eqb, arith}
-use Rattle.std.specs.Prelude.{filter, nat_eq, not, ◌&&◌, IfSome, IfNone, MatchOption}
+use Rattle.std.specs.Prelude.{filter, nat_eq, not, ◌&&◌, IfSome, IfNone}
 use Rattle.std.specs.List.{starts_with}
 use Rattle.std.specs.Ordering.{is_le, is_eq, ordering_reverse}
 use Rattle.std.specs.declared.cmp.Ordering.{Ordering}
@@ -21,12 +21,12 @@ use Rattle.mi_base.specs.declared.entry.Entry.TheVariants as entry
 use Rattle.mi_base.specs.Names.{value_name}
 use Rattle.mi_image.specs.declared.item.Item.{Item}
 use Rattle.mi_image.specs.declared.item.Item.TheVariants.{Head, Whole}
-use Rattle.mi_image.specs.Items.{Items, pair_of, items_of, item_name, MayStand, AreRight}
+use Rattle.mi_image.specs.Items.{Items, Boxed, unboxed, items_of, item_name, MayStand, AreRight}
 use Rattle.mi_image.specs.Firsts.{IsFirstOf}
 use Rattle.mi_image.specs.Fronts.{value_front, begins_within, NoneBegins}
 use Rattle.mi_image.specs.Picks.{key_length}
 use Rattle.mi_image.proofs.FrontLemmas.{lengths_up, one_length}
-use Rattle.mi_image.proofs.ItemLemmas.{Key, key_cmp, entries-items}
+use Rattle.mi_image.proofs.ItemLemmas.{Key, key_cmp, pair_of, entries-items}
 use Rattle.mi_image.proofs.ListLemmas.{true_of, found_longer, value_begins, value_short}
 use Rattle.mi_image.proofs.LookupLemmas.{letter, first_letter}
 use Rattle.mi_image.proofs.PrefixLemmas.{starts_is, starts_append}
@@ -115,41 +115,35 @@ module _ {X : Type 0} (from : Name) where
 
 -- ---- the tree's entries
 
-from_pairs : (from : Name) (es : List (Key × Item)) → map pair_of (filter (λ e. is_le (name_cmp from e.0.items) && not false) es) ≡ filter (λ e. is_le (name_cmp from e.0) && not false) (map pair_of es)
+from_pairs : (from : Name) (es : List (Key × Boxed)) → map pair_of (filter (λ e. is_le (name_cmp from e.0.items) && not false) es) ≡ filter (λ e. is_le (name_cmp from e.0) && not false) (map pair_of es)
 from_pairs from [] = refl
 from_pairs from (e ∷ es) = elim (is_le (name_cmp from e.0.items) && true) as (λ b. map pair_of (cond b (e ∷ filter (λ e. is_le (name_cmp from e.0.items) && not false) es) (filter (λ e. is_le (name_cmp from e.0.items) && not false) es)) ≡ cond b (pair_of e ∷ filter (λ e. is_le (name_cmp from e.0) && not false) (map pair_of es)) (filter (λ e. is_le (name_cmp from e.0) && not false) (map pair_of es))) [
   | true ↦ ap (λ (xs : List (Name × Item)). pair_of e ∷ xs) (from_pairs from es)
   | false ↦ from_pairs from es
 ]
 
-in_range : (m : BTreeMap Key Item) (image : Items) (from : Name) → items_of m.entries ≡ image → tree.IsOrdered key_cmp m → map pair_of (filter (λ e. is_le (name_cmp from e.0.items) && not false) m.entries) ≡ filter (λ e. is_le (name_cmp from e.0) && not false) (entries image)
+in_range : (m : BTreeMap Key Boxed) (image : Items) (from : Name) → items_of m.entries ≡ image → tree.IsOrdered key_cmp m → map pair_of (filter (λ e. is_le (name_cmp from e.0.items) && not false) m.entries) ≡ filter (λ e. is_le (name_cmp from e.0) && not false) (entries image)
 in_range m image from is ordered = from_pairs from m.entries ∙ ap (filter (λ (e : Name × Item). is_le (name_cmp from e.0) && not false)) (sym (entries-items m ordered) ∙ ap entries is)
 
-none_in_range : (m : BTreeMap Key Item) (image : Items) (from : Name) (range : List (Key × Item)) → items_of m.entries ≡ image → tree.IsOrdered key_cmp m → range ≡ filter (λ e. is_le (name_cmp from e.0.items) && not false) m.entries → range ≡ []
+pub none_in_range : (m : BTreeMap Key Boxed) (image : Items) (from : Name) (range : List (Key × Boxed)) → items_of m.entries ≡ image → tree.IsOrdered key_cmp m → range ≡ filter (λ e. is_le (name_cmp from e.0.items) && not false) m.entries → range ≡ []
     → (q : Name) (i : Item) → get image q ≡ Some i → is_le (name_cmp from q) ≡ false
 none_in_range m image from range is ordered found none q i at =
     none_from from (entries image) (sym (in_range m image from is ordered) ∙ ap (map pair_of) (sym found ∙ none)) q i (sym (get-entries image q) ∙ at)
 
-first_in_range : (m : BTreeMap Key Item) (image : Items) (from : Name) (range rest : List (Key × Item)) (k : Key) (i : Item) → items_of m.entries ≡ image → tree.IsOrdered key_cmp m → range ≡ filter (λ e. is_le (name_cmp from e.0.items) && not false) m.entries → range ≡ (k, i) ∷ rest
-    → IsFirstOf image from k.items i
+pub first_in_range : (m : BTreeMap Key Boxed) (image : Items) (from : Name) (range rest : List (Key × Boxed)) (k : Key) (i : Boxed) → items_of m.entries ≡ image → tree.IsOrdered key_cmp m → range ≡ filter (λ e. is_le (name_cmp from e.0.items) && not false) m.entries → range ≡ (k, i) ∷ rest
+    → IsFirstOf image from k.items (unboxed i)
 first_in_range m image from range rest k i is ordered found more =
-    let r = first_from from (entries image) k.items i (map pair_of rest) (true_of _ (entries_sorted image)) (sym (in_range m image from is ordered) ∙ ap (map pair_of) (sym found ∙ more)) in
+    let r = first_from from (entries image) k.items (unboxed i) (map pair_of rest) (true_of _ (entries_sorted image)) (sym (in_range m image from is ordered) ∙ ap (map pair_of) (sym found ∙ more)) in
     record {
       there = get-entries image k.items ∙ r.there;
       low = r.low;
       first = λ q j at up. r.first q j (sym (get-entries image q) ∙ at) up;
     }
 
--- as the first step over the range tells it
-pub none_told : (m : BTreeMap Key Item) (image : Items) (from : Name) (range rest : List (Key × Item)) (r : Option (Bor Key × Bor Item)) → items_of m.entries ≡ image → tree.IsOrdered key_cmp m → range ≡ filter (λ e. is_le (name_cmp from e.0.items) && not false) m.entries
-    → MatchOption r ((range ≡ []) × (rest ≡ [])) (λ x. range ≡ (x.0.now, x.1.now) ∷ rest) → IfNone r ((q : Name) (i : Item) → get image q ≡ Some i → is_le (name_cmp from q) ≡ false)
-none_told m image from range rest None is ordered found told = none_in_range m image from range is ordered found told.0
-none_told m image from range rest (Some x) is ordered found told = tt
-
-pub first_told : (m : BTreeMap Key Item) (image : Items) (from : Name) (range rest : List (Key × Item)) (r : Option (Bor Key × Bor Item)) → items_of m.entries ≡ image → tree.IsOrdered key_cmp m → range ≡ filter (λ e. is_le (name_cmp from e.0.items) && not false) m.entries
-    → MatchOption r ((range ≡ []) × (rest ≡ [])) (λ x. range ≡ (x.0.now, x.1.now) ∷ rest) → IfSome r (λ x. IsFirstOf image from x.0.now.items x.1.now)
-first_told m image from range rest None is ordered found told = tt
-first_told m image from range rest (Some x) is ordered found told = first_in_range m image from range rest x.0.now x.1.now is ordered found told
+-- what holds anyhow holds where there is none
+pub as_none : {A : Type 0} → (o : Option A) (P : Type 0) → P → IfNone o P
+as_none None P p = p
+as_none (Some x) P p = tt
 
 -- ---- the length of a key
 

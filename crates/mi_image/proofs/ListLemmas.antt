@@ -29,11 +29,11 @@ use Rattle.mi_base.specs.Names.{value_name, client_name, product_name}
 use Rattle.mi_base.specs.Machine.{as_client, as_product}
 use Rattle.mi_image.specs.declared.item.Item.{Item}
 use Rattle.mi_image.specs.declared.item.Item.TheVariants.{Head, Whole}
-use Rattle.mi_image.specs.Items.{Items, pair_of, items_of, entry_over, machine_over, MayStand, AreRight}
+use Rattle.mi_image.specs.Items.{Items, Boxed, unboxed, items_of, entry_over, machine_over, MayStand, AreRight}
 use Rattle.mi_image.specs.Lists.{picked, products_of, clients_of, clients_with, with_component, is_in_keys, value_below, values_under}
 use Rattle.mi_image.specs.Fronts.{value_front, begins_within}
 use Rattle.mi_image.specs.Picks.{product_in, client_in, client_with, value_in}
-use Rattle.mi_image.proofs.ItemLemmas.{entries-items}
+use Rattle.mi_image.proofs.ItemLemmas.{pair_of, entries-items}
 use Rattle.mi_image.proofs.LookupLemmas.{by_item}
 use Rattle.mi_image.proofs.PrefixLemmas.{starts_append, starts_is}
 use Rattle.mi_image.proofs.FrontLemmas.{one_length, begins_at_key, begins_below_key}
@@ -233,10 +233,10 @@ values_are held files items root key fold_key front key_is front_is right = list
 
 -- ---- what is found of a tree
 
-paired : (front : List ℕ) (es : List (Vec ℕ Global × Item)) → map (λ e. e.1) (filter (λ e. starts_with nat_eq e.0.items front) es) ≡ map (λ e. e.1) (filter (λ e. starts_with nat_eq e.0 front) (map pair_of es))
+paired : (front : List ℕ) (es : List (Vec ℕ Global × Boxed)) → map (λ e. unboxed e.1) (filter (λ e. starts_with nat_eq e.0.items front) es) ≡ map (λ e. e.1) (filter (λ e. starts_with nat_eq e.0 front) (map pair_of es))
 paired front [] = refl
-paired front (e ∷ es) = elim (starts_with nat_eq e.0.items front) as (λ b. map (λ e. e.1) (cond b (e ∷ filter (λ e. starts_with nat_eq e.0.items front) es) (filter (λ e. starts_with nat_eq e.0.items front) es)) ≡ map (λ e. e.1) (cond b (pair_of e ∷ filter (λ e. starts_with nat_eq e.0 front) (map pair_of es)) (filter (λ e. starts_with nat_eq e.0 front) (map pair_of es)))) [
-  | true ↦ ap (λ (is : List Item). e.1 ∷ is) (paired front es)
+paired front (e ∷ es) = elim (starts_with nat_eq e.0.items front) as (λ b. map (λ e. unboxed e.1) (cond b (e ∷ filter (λ e. starts_with nat_eq e.0.items front) es) (filter (λ e. starts_with nat_eq e.0.items front) es)) ≡ map (λ e. e.1) (cond b (pair_of e ∷ filter (λ e. starts_with nat_eq e.0 front) (map pair_of es)) (filter (λ e. starts_with nat_eq e.0 front) (map pair_of es)))) [
+  | true ↦ ap (λ (is : List Item). unboxed e.1 ∷ is) (paired front es)
   | false ↦ paired front es
 ]
 
@@ -244,13 +244,13 @@ pub ok_both : {X E : Type 0} → (r : Result X E) (P Q R : X → Type 0) → ((x
 ok_both (Ok x) P Q R h p q = h x p q
 ok_both (Err e) P Q R h p q = tt
 
-pub found_in : {E : Type 0} → (r : Result (Vec (Bor Item) Global) E) (m : BTreeMap (Vec ℕ Global) Item) (image : Items) (front : List ℕ) → items_of m.entries ≡ image
-    → IfOk r (λ found. map (λ i. i.now) found.items ≡ map (λ e. e.1) (filter (λ e. starts_with nat_eq e.0.items front) m.entries)) → IfOk r (λ _. tree.IsOrdered (λ a b. slice_cmp nat_cmp a.items b.items) m)
+pub found_in : {E : Type 0} → (r : Result (Vec (Bor Item) Global) E) (m : BTreeMap (Vec ℕ Global) Boxed) (image : Items) (front : List ℕ) → items_of m.entries ≡ image
+    → IfOk r (λ found. map (λ i. i.now) found.items ≡ map (λ e. unboxed e.1) (filter (λ e. starts_with nat_eq e.0.items front) m.entries)) → IfOk r (λ _. tree.IsOrdered (λ a b. slice_cmp nat_cmp a.items b.items) m)
     → IfOk r (λ found. map (λ i. i.now) found.items ≡ map (λ e. e.1) (filter (λ e. starts_with nat_eq e.0 front) (entries image)))
 found_in r m image front is found ordered = ok_both r _ _ _ (λ v at sorted. at ∙ paired front m.entries
     ∙ ap (λ es. map (λ (e : Name × Item). e.1) (filter (λ e. starts_with nat_eq e.0 front) es)) (sym (entries-items m sorted) ∙ ap entries is)) found ordered
 
-named : (front : List ℕ) (es : List (Vec ℕ Global × Item)) → map (λ e. e.0.items) (filter (λ e. starts_with nat_eq e.0.items front) es) ≡ filter (λ q. starts_with nat_eq q front) (map (λ e. e.0) (map pair_of es))
+named : (front : List ℕ) (es : List (Vec ℕ Global × Boxed)) → map (λ e. e.0.items) (filter (λ e. starts_with nat_eq e.0.items front) es) ≡ filter (λ q. starts_with nat_eq q front) (map (λ e. e.0) (map pair_of es))
 named front [] = refl
 named front (e ∷ es) = elim (starts_with nat_eq e.0.items front) as (λ b. map (λ e. e.0.items) (cond b (e ∷ filter (λ e. starts_with nat_eq e.0.items front) es) (filter (λ e. starts_with nat_eq e.0.items front) es)) ≡ cond b (e.0.items ∷ filter (λ q. starts_with nat_eq q front) (map (λ e. e.0) (map pair_of es))) (filter (λ q. starts_with nat_eq q front) (map (λ e. e.0) (map pair_of es)))) [
   | true ↦ ap (λ (qs : List Name). e.0.items ∷ qs) (named front es)
@@ -258,7 +258,7 @@ named front (e ∷ es) = elim (starts_with nat_eq e.0.items front) as (λ b. map
 ]
 
 -- the names that are found in a tree are those of the machine
-pub names_in : {E : Type 0} → (held files : Map (List ℕ)) (r : Result (Vec (Bor (List ℕ)) Global) E) (m : BTreeMap (Vec ℕ Global) Item) (image : Items) (front : List ℕ) → items_of m.entries ≡ image
+pub names_in : {E : Type 0} → (held files : Map (List ℕ)) (r : Result (Vec (Bor (List ℕ)) Global) E) (m : BTreeMap (Vec ℕ Global) Boxed) (image : Items) (front : List ℕ) → items_of m.entries ≡ image
     → IfOk r (λ found. map (λ n. n.now) found.items ≡ map (λ e. e.0.items) (filter (λ e. starts_with nat_eq e.0.items front) m.entries)) → IfOk r (λ _. tree.IsOrdered (λ a b. slice_cmp nat_cmp a.items b.items) m)
     → IfOk r (λ found. map (λ n. n.now) found.items ≡ filter (λ q. starts_with nat_eq q front) (fin.keys (machine_over held files image)))
 unfolding machine_over

@@ -1,6 +1,7 @@
 -- The item that a name and its record spell.
-use Rattle.std.proofs.Common.{◌≡◌, ℕ, ◌-◌, ◌≤◌, true, false, List, ◌∷◌, ◌++◌, length, take, drop, zero, suc, Option, Some, None, Result, Ok, Err, refl, sym, ap, subst, ◌∙◌, arith, inl, inr, take_at, length-append}
+use Rattle.std.proofs.Common.{◌≡◌, ℕ, ◌-◌, ◌+◌, ◌<◌, ◌≤◌, Bool, true, false, eqb, ◌||◌, ◌⊎◌, List, [], ◌∷◌, ◌++◌, length, get_or, take, drop, zero, suc, Option, Some, None, Result, Ok, Err, refl, sym, ap, subst, ◌∙◌, arith, inl, inr, take_at, length-append}
 use Rattle.std.specs.Prelude.{codes, nat_eq, option_map, replicate}
+use Rattle.std.specs.Int.{w32, to_be_bytes}
 use Rattle.std.specs.List.{starts_with}
 use Rattle.std.proofs.lemmas.Bool.{cases_Bool}
 use Rattle.std.proofs.lemmas.List.{length-replicate}
@@ -12,14 +13,18 @@ use Rattle.mi_base.specs.declared.entry.FileHead.{FileHead}
 use Rattle.mi_base.specs.declared.entry.Entry.{Entry}
 use Rattle.mi_base.specs.declared.entry.Entry.TheVariants as entry
 use Rattle.mi_base.specs.Limits.{fits}
-use Rattle.mi_base.specs.Names.{file_name}
-use Rattle.mi_base.specs.Spelling.{name_of}
+use Rattle.mi_base.specs.Fields.{string}
+use Rattle.mi_base.specs.Names.{file_name, folder_name, key_name, value_name, shortcut_name, variable_name, client_name, product_name, system_name}
+use Rattle.mi_base.specs.Spelling.{name_of, record_of}
 use Rattle.mi_base.specs.Reading.{◌>>=◌}
 use Rattle.mi_base.specs.Records.{names_file, head_at, with_bytes, file_of, entry_of, file_head_of}
 use Rattle.mi_base.specs.Machine.{ok_entry}
 use Rattle.mi_base.proofs.ByteLemmas.{bytes-append}
 use Rattle.mi_base.proofs.EntryLemmas.{spells}
+use Rattle.mi_base.proofs.FoldLemmas.{folder_short}
 use Rattle.mi_base.proofs.HeadLemmas.{head_takes}
+use Rattle.mi_base.proofs.NameLemmas.{key_short}
+use Rattle.mi_text.proofs.ByteLemmas.{both}
 use Rattle.mi_image.specs.declared.item.Content.TheVariants.{Own}
 use Rattle.mi_image.specs.declared.item.Item.{Item}
 use Rattle.mi_image.specs.declared.item.Item.TheVariants.{Head, Whole}
@@ -150,3 +155,47 @@ whole_is q bytes e other is = ap (λ r. option_map scanned_item (ok_entry r)) is
 
 pub no_record_is : (q : Name) (bytes : List ℕ) (f : RecFault) → entry_of q bytes ≡ Err f → item_read q bytes ≡ None
 no_record_is q bytes f is = ap (λ r. option_map scanned_item (ok_entry r)) is
+
+-- ---- the longest records
+
+neither : (n : ℕ) → eqb n 100 ≡ false → eqb n 107 ≡ false → (n ≡ 100) ⊎ (n ≡ 107) → ⊥
+neither n a b (inl e) = let clash : true ≡ false = ap (λ (k : ℕ). eqb k 100) (sym e) ∙ a in absurd cc
+neither n a b (inr e) = let clash : true ≡ false = ap (λ (k : ℕ). eqb k 107) (sym e) ∙ b in absurd cc
+
+string_length : (t : List ℕ) → length (string t) ≡ 4 + length t
+string_length t = length-append (to_be_bytes w32 (length t)) t
+
+-- the letter at the front of a name
+front_letter : (q : Name) (kind : ℕ) → starts_with nat_eq q (kind ∷ 47 ∷ []) ≡ true → get_or q 0 0 ≡ kind
+front_letter q kind is = ap (λ (n : Name). get_or n 0 0) (starts_is q (kind ∷ 47 ∷ []) is)
+
+short_record : (e : Entry) → fits e ≡ true → (get_or (name_of e) 0 0 ≡ 100) ⊎ (get_or (name_of e) 0 0 ≡ 107) → length (record_of e) ≤ 504
+unfolding record_of fits file_name folder_name key_name value_name shortcut_name variable_name client_name product_name system_name
+short_record (entry.Folder t) right kind = let short = folder_short t (both _ _ right).0 in omega (arith, string_length t, short)
+short_record (entry.Key r t) right kind = let short = key_short t (both _ _ right).1 in omega (arith, string_length t, short)
+short_record (entry.File f) right kind = absurd (neither 102 refl refl kind)
+short_record (entry.Value k v) right kind = absurd (neither 118 refl refl kind)
+short_record (entry.Shortcut s) right kind = absurd (neither 115 refl refl kind)
+short_record (entry.Variable v) right kind = absurd (neither 110 refl refl kind)
+short_record (entry.Client c) right kind = absurd (neither 99 refl refl kind)
+short_record (entry.Product p) right kind = absurd (neither 112 refl refl kind)
+short_record (entry.System p t) right kind = absurd (neither 121 refl refl kind)
+
+-- a longer one spells no folder and no key
+too_long : (q : Name) (bytes : List ℕ) → 504 < length bytes → (get_or q 0 0 ≡ 100) ⊎ (get_or q 0 0 ≡ 107) → item_read q bytes ≡ None
+too_long q bytes long kind = by_read (entry_of q bytes) refl
+  where
+    by_read : (r : Result Entry RecFault) → entry_of q bytes ≡ r → option_map scanned_item (ok_entry r) ≡ None
+    by_read (Ok e) is =
+        let s = spells q bytes e is in
+        let short = short_record e s.right (subst (λ (n : Name). (get_or n 0 0 ≡ 100) ⊎ (get_or n 0 0 ≡ 107)) (sym s.named) kind) in
+        let same : length (record_of e) ≡ length bytes = ap length s.spelled in
+        absurd (omega (arith, short, same, long))
+    by_read (Err f) is = refl
+
+pub no_record : (q : Name) (bytes : List ℕ) → 504 < length bytes → (starts_with nat_eq q (codes "d/") || starts_with nat_eq q (codes "k/")) ≡ true → item_read q bytes ≡ None
+no_record q bytes long kind = too_long q bytes long (by_kind (starts_with nat_eq q (codes "d/")) refl kind)
+  where
+    by_kind : (folder : Bool) → starts_with nat_eq q (codes "d/") ≡ folder → (folder || starts_with nat_eq q (codes "k/")) ≡ true → (get_or q 0 0 ≡ 100) ⊎ (get_or q 0 0 ≡ 107)
+    by_kind true is kind = inl (front_letter q 100 is)
+    by_kind false is kind = inr (front_letter q 107 kind)

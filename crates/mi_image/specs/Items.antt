@@ -2,6 +2,7 @@
 use Rattle.std.specs.Prelude.{◌≡◌, ℕ, Bool, true, false, List, [], length, map, Option, Some, None, Vec}
 use Rattle.std.specs.FinMap.{get, from_entries}
 use Rattle.std.specs.declared.alloc.Global.{Global}
+use Rattle.std.specs.declared.boxed.Box.{Box}
 use Rattle.mi_text.specs.Maps.{Name, Map, map_values}
 use Rattle.mi_base.specs.declared.entry.FileHead.{FileHead}
 use Rattle.mi_base.specs.declared.entry.Entry.{Entry}
@@ -21,12 +22,16 @@ use Rattle.mi_image.specs.declared.item.Item.TheVariants.{Head, Whole}
 abbrev pub Items : Type 0
 Items = Map Item
 
--- what the entries of the program's tree make
-abbrev pub pair_of : Vec ℕ Global × Item → Name × Item
-pair_of e = (e.0.items, e.1)
+-- an item as the program's tree keeps it
+abbrev pub Boxed : Type 0
+Boxed = Box Item Global
 
-abbrev pub items_of : List (Vec ℕ Global × Item) → Items
-items_of es = from_entries (map pair_of es)
+abbrev pub unboxed : Boxed → Item
+unboxed b = b.value
+
+-- what the entries of the tree make
+abbrev pub items_of : List (Vec ℕ Global × Boxed) → Items
+items_of es = map_values unboxed (from_entries (map (λ e. (e.0.items, e.1)) es))
 
 -- the bytes of a file; none where there is no such file
 abbrev pub bytes_of_file : Option Entry → List ℕ

@@ -1,13 +1,13 @@
 //! The image of a machine.
 
 ghost use Rattle.std.specs.Prelude.{◌≡◌, List, ℕ, Some, false, IfSome, IfNone, IfOk, OnOk, OnErr, map, filter, nat_eq};
-ghost use Rattle.std.specs.Option.{option_copied};
+ghost use Rattle.std.specs.Option.{option_copied, option_map};
 ghost use Rattle.std.specs.List.{list_any, starts_with};
 ghost use Rattle.std.specs.FinMap as tree;
 ghost use Rattle.std.specs.Ordering.{is_le};
 ghost use Rattle.mi_text.specs.Maps.{Map, name_cmp};
 ghost use Rattle.mi_base.specs.System.{is_system_property};
-ghost use Rattle.mi_image.specs.Items.{machine_over, MayStand, AreRight};
+ghost use Rattle.mi_image.specs.Items.{unboxed, machine_over, MayStand, AreRight};
 ghost use Rattle.mi_image.specs.declared.item.Item as item_value;
 ghost use Rattle.mi_image.specs.Firsts.{IsFirstOf};
 ghost use Rattle.mi_image.specs.Lookups.{IsComposed};
@@ -22,10 +22,11 @@ use std::marker::Model;
 use std::ops::Bound;
 
 /// What a machine is, without the bytes of its files: of each file its head and where its bytes are, and
-/// every other entry whole (this project's own). It is kept by the names of the volume, in byte order.
+/// every other entry whole (this project's own). It is kept by the names of the volume, in byte order; items are boxed,
+/// since nodes of the tree have room for more than they hold.
 #[derive(Drop)]
 pub struct Image {
-    items: BTreeMap<Vec<u8>, Item>,
+    items: BTreeMap<Vec<u8>, Box<Item>>,
 }
 
 impl Model for Image {
@@ -41,6 +42,26 @@ impl Model for Image {
     ghost view = { λ a. items_of a.items.entries };
 
     ghost invariant = { λ a. AreRight (items_of a.items.entries) };
+}
+
+// The item in its box.
+fn lent(item: Option<&Box<Item>>) -> Option<&Item>
+    ensures { option_copied result ≡ option_map unboxed (option_copied item.entry) }
+{
+    match item {
+        Some(item) => Some(item.as_ref()),
+        None => None,
+    }
+}
+
+// The item out of its box.
+fn taken_out(was: Option<Box<Item>>) -> Option<Item>
+    ensures { result ≡ option_map unboxed was }
+{
+    match was {
+        Some(item) => Some(Box::into_inner(item)),
+        None => None,
+    }
 }
 
 impl Image {
@@ -59,7 +80,7 @@ impl Image {
         ensures right { AreRight self.now }
     {
         let items = &self.items;
-        items.get(name?.as_slice())
+        lent(items.get(name?.as_slice()))
     }
 
     /// Whether a property of the system is held, which takes no memory: their names are the last.
@@ -94,9 +115,10 @@ impl Image {
         ensures right { AreRight self.now }
     {
         let items = &self.items;
-        items
+        let (name, item) = items
             .range((Bound::Included(from), Bound::Unbounded))
-            .next()
+            .next()?;
+        Some((name, item.as_ref()))
     }
 
     /// Sets what stands at a name.
@@ -106,7 +128,7 @@ impl Image {
         ensures err { OnErr result (self.new ≡ self.old) }
     {
         match Vec::from_slice(alloc, name.as_bytes()) {
-            Ok(key) => self.put_at(key, item),
+            Ok(key) => self.put_at(alloc, key, item),
             Err(_) => {
                 drop(item);
                 Err(NoMemory)
@@ -114,25 +136,38 @@ impl Image {
         }
     }
 
-    fn put_at(&mut self, key: Vec<u8>, item: Item) -> Result<(), NoMemory>
+    fn put_at(&mut self, alloc: Global, key: Vec<u8>, item: Item) -> Result<(), NoMemory>
         requires { MayStand key.items item }
         ensures ok { OnOk result (self.new ≡ tree.insert self.old key.items item) }
         ensures err { OnErr result (self.new ≡ self.old) }
     {
-        let former = self.exchange(key, item)?;
+        let former = self.exchange(alloc, key, item)?;
         drop(former);
         Ok(())
     }
 
     /// Sets what stands at a name, and hands out what stood there.
-    pub(crate) fn exchange(&mut self, key: Vec<u8>, item: Item) -> Result<Option<Item>, NoMemory>
+    pub(crate) fn exchange(
+        &mut self,
+        alloc: Global,
+        key: Vec<u8>,
+        item: Item,
+    ) -> Result<Option<Item>, NoMemory>
         requires { MayStand key.items item }
         ensures value { IfOk result (λ was. was ≡ tree.get self.old key.items) }
         ensures ok { OnOk result (self.new ≡ tree.insert self.old key.items item) }
         ensures err { OnErr result (self.new ≡ self.old) }
     {
-        let was = self.items.insert(key, item)?;
-        Ok(was)
+        match Box::new(alloc, item) {
+            Ok(item) => {
+                let was = self.items.insert(key, item)?;
+                Ok(taken_out(was))
+            }
+            Err(_) => {
+                drop(key);
+                Err(NoMemory)
+            }
+        }
     }
 
     /// Takes away what stands at a name, and hands it out. No memory.
@@ -140,7 +175,8 @@ impl Image {
         ensures value { result ≡ tree.get self.old name.now }
         ensures gone { self.new ≡ tree.remove self.old name.now }
     {
-        self.items.remove(name)
+        let was = self.items.remove(name);
+        taken_out(was)
     }
 
     /// What stands at a name of the volume (this project's own). No memory.
@@ -148,6 +184,6 @@ impl Image {
         ensures value { option_copied result ≡ tree.get self.now name.now }
         ensures right { AreRight self.now }
     {
-        self.items.get(name)
+        lent(self.items.get(name))
     }
 }
