@@ -4,7 +4,6 @@ mod ChangeLemmas
 mod EndLemmas
 mod EntryLemmas
 mod FallLemmas
-mod FewLemmas
 mod LoadLemmas
 mod LookLemmas
 mod PieceLemmas

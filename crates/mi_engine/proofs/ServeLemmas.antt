@@ -23,7 +23,8 @@ use Rattle.mi_engine.specs.declared.reply.Reply.{Reply}
 use Rattle.mi_model.specs.Built.{Row}
 use Rattle.mi_model.specs.After.{after}
 use Rattle.mi_model.specs.PlainWords.{Command, Install, Products, Recover}
-use Rattle.mi_schema.specs.Checks.{load_fault, content_of}
+use Rattle.mi_schema.specs.Checks.{load_fault}
+use Rattle.mi_schema.specs.RowsOf.{folder_rows}
 use Rattle.mi_model.specs.Plan.{planned_rows, made_by}
 use Rattle.mi_model.specs.PlainOutcome.{Outcome, map_after, of_loaded, of_package, of_command, of_machine}
 use Rattle.mi_model.specs.PlainOutcome as outcome
@@ -113,7 +114,7 @@ module _ (volume source : Type 0) (s : State) (files : Files) (found : Settled) 
 
 -- what a package comes to is what its rows come to
 pub package_is : (files : Files) (folder : Name) (F : Map) (m : Machine) → of_rows F (rows_of files folder) ≡ of_package files folder F m
-package_is files folder F m = by_fault (load_fault files folder) (planned_rows (content_of files folder))
+package_is files folder F m = by_fault (load_fault files folder) (planned_rows (folder_rows files folder))
   where
     by_fault : (o : Option Fault) (r : Result (List Row) Fault) → of_rows F (unless_fault o r) ≡ of_loaded o (made_by F r)
     by_fault (Some fault) r = refl

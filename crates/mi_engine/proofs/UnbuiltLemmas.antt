@@ -14,17 +14,15 @@ use Rattle.mi_text.specs.Maps.{Name, Map, name_cmp}
 use Rattle.mi_base.specs.declared.answers.Fault.{Fault}
 use Rattle.mi_base.specs.declared.answers.Fault.TheVariants.{NotYet}
 use Rattle.mi_schema.specs.declared.typed_rows.RegistryRow.{RegistryRow}
-use Rattle.mi_schema.specs.Tables as table
-use Rattle.mi_schema.specs.Tables.{Table}
 use Rattle.mi_schema.specs.declared.package.Package.{Package}
-use Rattle.mi_schema.specs.TypedRows.{registry_row, registry_key, condition_row, condition_key, create_folder_row, create_folder_key, custom_action_row, custom_action_key, duplicate_file_row, duplicate_file_key, environment_row, environment_key, file_row, file_key, launch_condition_row, launch_condition_key, remove_file_row, remove_file_key, remove_registry_row, remove_registry_key, shortcut_row, shortcut_key}
-use Rattle.mi_schema.specs.Checks.{Content, rows_at, first_fault}
-use Rattle.mi_schema.specs.Package.{IsPackage, keyed as keyed_rows}
+use Rattle.mi_schema.specs.Checks.{first_fault}
+use Rattle.mi_schema.specs.Lawful.{IsLawful}
 use Rattle.mi_schema.specs.Rows.{◌or_else◌}
+use Rattle.mi_schema.specs.RowsOf.{rows_in, behind}
+use Rattle.mi_schema.proofs.PackageLaws.{tables_small}
 use Rattle.mi_model.specs.Built.{Row, written_by}
-use Rattle.mi_schema.specs.Values as cells
 use Rattle.mi_model.specs.Collected.{collected}
-use Rattle.mi_model.specs.Plan.{any_row, first_unbuilt, stages, stage_fault, not_yet, under, keyed, rows_by_key, rows_in_order, unless_not_yet, planned_rows}
+use Rattle.mi_model.specs.Plan.{any_row, first_unbuilt, unbuilt_rows, unbuilt_fault, not_yet, under, keyed, rows_by_key, rows_in_order, unless_not_yet, planned_rows}
 use Rattle.mi_engine.specs.Calls.{map_of}
 use Rattle.mi_engine.specs.Rows.{counted_row, counted_fault}
 use Rattle.mi_engine.proofs.TreeLemmas.{collected_set}
@@ -129,36 +127,36 @@ passed_all all s written number p at = p.is_written ∙ ap rows_by_key (passed_e
 
 -- ---- the tables of which nothing is built
 
-counted_rows : (rows : List cells.Row) (n : ℕ) → n ≡ length rows → counted_row n ≡ any_row rows
+counted_rows : {R : Type 0} (rows : List R) (n : ℕ) → n ≡ length rows → counted_row n ≡ any_row rows
 counted_rows [] n is = ap counted_row is
 counted_rows (x ∷ xs) n is = let more : (n == 0) ≡ false = grind (arith, nat_tests, is) in ap (λ b. if b then None else Some 1) more
 
 -- a table by the count of its rows
-pub counted_table : {K R : Type 0} (content : Content) (t : Table) (key : cells.Row → K) (row : cells.Row → R) (es : List (K × R)) (n : ℕ) → es ≡ keyed_rows key row (rows_at content t) → n ≡ length es
-    → counted_fault (t.name, n) ≡ stage_fault content (t, any_row)
-counted_table content t key row es n is long =
-    ap (option_map (NotYet t.name)) (counted_rows (rows_at content t) n (long ∙ ap length is ∙ length-map (rows_at content t) (λ r. (key r, row r))))
+counted_table : {K R : Type 0} (name : Name) (es : List (K × R)) (n : ℕ) → n ≡ length es → counted_fault (name, n) ≡ unbuilt_fault (name, any_row (behind es))
+counted_table name es n long = ap (option_map (NotYet name)) (counted_rows (behind es) n (long ∙ sym (length-map es (λ e. e.1))))
 
-module _ (content : Content) (p : Package) (is : IsPackage p content) where
+module _ (p : Package) where
   -- the tables before Registry, by the counts of their rows
   pub tables_before : (a b c d e f g : ℕ) → a ≡ length p.condition.entries → b ≡ length p.create_folder.entries → c ≡ length p.custom_action.entries → d ≡ length p.duplicate_file.entries → e ≡ length p.environment.entries → f ≡ length p.file.entries → g ≡ length p.launch_condition.entries
-      → first_fault counted_fault ((codes "Condition", a) ∷ (codes "CreateFolder", b) ∷ (codes "CustomAction", c) ∷ (codes "DuplicateFile", d) ∷ (codes "Environment", e) ∷ (codes "File", f) ∷ (codes "LaunchCondition", g) ∷ []) ≡ first_fault (stage_fault content) (take 7 stages)
+      → first_fault counted_fault ((codes "Condition", a) ∷ (codes "CreateFolder", b) ∷ (codes "CustomAction", c) ∷ (codes "DuplicateFile", d) ∷ (codes "Environment", e) ∷ (codes "File", f) ∷ (codes "LaunchCondition", g) ∷ []) ≡ first_fault unbuilt_fault (take 7 (unbuilt_rows (rows_in p)))
+  unfolding rows_in
   tables_before a b c d e f g long_a long_b long_c long_d long_e long_f long_g = λ i.
-      counted_table content table.condition condition_key condition_row p.condition.entries a is.condition long_a i or_else
-      counted_table content table.create_folder create_folder_key create_folder_row p.create_folder.entries b is.create_folder long_b i or_else
-      counted_table content table.custom_action custom_action_key custom_action_row p.custom_action.entries c is.custom_action long_c i or_else
-      counted_table content table.duplicate_file duplicate_file_key duplicate_file_row p.duplicate_file.entries d is.duplicate_file long_d i or_else
-      counted_table content table.environment environment_key environment_row p.environment.entries e is.environment long_e i or_else
-      counted_table content table.file file_key file_row p.file.entries f is.file long_f i or_else
-      counted_table content table.launch_condition launch_condition_key launch_condition_row p.launch_condition.entries g is.launch_condition long_g i or_else None
+      counted_table (codes "Condition") p.condition.entries a long_a i or_else
+      counted_table (codes "CreateFolder") p.create_folder.entries b long_b i or_else
+      counted_table (codes "CustomAction") p.custom_action.entries c long_c i or_else
+      counted_table (codes "DuplicateFile") p.duplicate_file.entries d long_d i or_else
+      counted_table (codes "Environment") p.environment.entries e long_e i or_else
+      counted_table (codes "File") p.file.entries f long_f i or_else
+      ap (option_map (NotYet (codes "LaunchCondition"))) (counted_rows p.launch_condition.entries g long_g) i or_else None
 
   -- and those behind it
   pub tables_behind : (a b c : ℕ) → a ≡ length p.remove_file.entries → b ≡ length p.remove_registry.entries → c ≡ length p.shortcut.entries
-      → first_fault counted_fault ((codes "RemoveFile", a) ∷ (codes "RemoveRegistry", b) ∷ (codes "Shortcut", c) ∷ []) ≡ first_fault (stage_fault content) (drop 8 stages)
+      → first_fault counted_fault ((codes "RemoveFile", a) ∷ (codes "RemoveRegistry", b) ∷ (codes "Shortcut", c) ∷ []) ≡ first_fault unbuilt_fault (drop 8 (unbuilt_rows (rows_in p)))
+  unfolding rows_in
   tables_behind a b c long_a long_b long_c = λ i.
-      counted_table content table.remove_file remove_file_key remove_file_row p.remove_file.entries a is.remove_file long_a i or_else
-      counted_table content table.remove_registry remove_registry_key remove_registry_row p.remove_registry.entries b is.remove_registry long_b i or_else
-      counted_table content table.shortcut shortcut_key shortcut_row p.shortcut.entries c is.shortcut long_c i or_else None
+      counted_table (codes "RemoveFile") p.remove_file.entries a long_a i or_else
+      counted_table (codes "RemoveRegistry") p.remove_registry.entries b long_b i or_else
+      counted_table (codes "Shortcut") p.shortcut.entries c long_c i or_else None
 
 -- ---- the plan
 
@@ -169,35 +167,29 @@ fault_append f (x ∷ xs) ys = elim (f x) as (λ o. (o or_else first_fault f (xs
   | Some y ↦ refl
 ]
 
-values_keyed : {K R : Type 0} (key : cells.Row → K) (row : cells.Row → R) (rows : List cells.Row) → map (λ e. e.1) (keyed_rows key row rows) ≡ map row rows
-values_keyed key row [] = refl
-values_keyed key row (r ∷ rows) = ap (λ l. row r ∷ l) (values_keyed key row rows)
+module _ (p : Package) (found : List RegistryRow) (from : found ≡ values p.registry) where
+  values_are : found ≡ (rows_in p).registry
+  unfolding rows_in
+  values_are = from
 
-module _ (content : Content) (p : Package) (is : IsPackage p content) (found : List RegistryRow) (from : found ≡ values p.registry) where
-  abbrev rows : List RegistryRow
-  rows = map registry_row (rows_at content table.registry)
-
-  values_are : found ≡ rows
-  values_are = from ∙ ap (map (λ (e : Name × RegistryRow). e.1)) is.registry ∙ values_keyed registry_key registry_row (rows_at content table.registry)
-
-  pub few_values : length (rows_at content table.registry) < 2 ^ 32 → length found < 2 ^ 32
-  few_values few = let long = ap length values_are ∙ length-map (rows_at content table.registry) registry_row in omega (arith, long, few)
+  pub few_values : IsLawful p → length found < 2 ^ 32
+  few_values lawful = let few = (tables_small p lawful).registry in let long = ap length from ∙ length-map p.registry.entries (λ e. e.1) in omega (arith, few, long)
 
   -- the first row that isn't built
-  pub first_is : (before behind : Option Fault) (unbuilt : Option ℕ) → before ≡ first_fault (stage_fault content) (take 7 stages) → behind ≡ first_fault (stage_fault content) (drop 8 stages) → unbuilt ≡ first_unbuilt 1 found
-      → (before or_else option_map (NotYet (codes "Registry")) unbuilt or_else behind) ≡ not_yet content
+  pub first_is : (before behind : Option Fault) (unbuilt : Option ℕ) → before ≡ first_fault unbuilt_fault (take 7 (unbuilt_rows (rows_in p))) → behind ≡ first_fault unbuilt_fault (drop 8 (unbuilt_rows (rows_in p))) → unbuilt ≡ first_unbuilt 1 found
+      → (before or_else option_map (NotYet (codes "Registry")) unbuilt or_else behind) ≡ not_yet (rows_in p)
   first_is before behind unbuilt b h u =
       (λ i. b i or_else option_map (NotYet (codes "Registry")) ((u ∙ ap (first_unbuilt 1) values_are) i) or_else h i)
-      ∙ sym (fault_append (stage_fault content) (take 7 stages) (drop 7 stages))
+      ∙ sym (fault_append unbuilt_fault (take 7 (unbuilt_rows (rows_in p))) (drop 7 (unbuilt_rows (rows_in p))))
 
-  pub plan_refused : (fault : Fault) → Some fault ≡ not_yet content → planned_rows content ≡ Err fault
+  pub plan_refused : (fault : Fault) → Some fault ≡ not_yet (rows_in p) → planned_rows (rows_in p) ≡ Err fault
   unfolding planned_rows
-  plan_refused fault some = ap (λ (o : Option Fault). unless_not_yet o (rows_in_order rows)) (sym some)
+  plan_refused fault some = ap (λ (o : Option Fault). unless_not_yet o (rows_in_order (rows_in p).registry)) (sym some)
 
-  pub plan_made : (written : Map Row) (list : List Row) → None ≡ not_yet content → written ≡ rows_by_key found → list ≡ finite.values written → planned_rows content ≡ Ok list
+  pub plan_made : (written : Map Row) (list : List Row) → None ≡ not_yet (rows_in p) → written ≡ rows_by_key found → list ≡ finite.values written → planned_rows (rows_in p) ≡ Ok list
   unfolding planned_rows
   plan_made written list none is_written in_order =
-      ap (λ (o : Option Fault). unless_not_yet o (rows_in_order rows)) (sym none)
+      ap (λ (o : Option Fault). unless_not_yet o (rows_in_order (rows_in p).registry)) (sym none)
       ∙ ap Ok (sym (in_order ∙ ap finite.values (is_written ∙ ap rows_by_key values_are)))
 
 -- the second and third of three are none where the first of them is

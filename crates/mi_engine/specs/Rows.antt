@@ -6,7 +6,8 @@ use Rattle.mi_source.specs.Paths.{Files}
 use Rattle.mi_base.specs.declared.answers.Fault.{Fault}
 use Rattle.mi_base.specs.declared.answers.Fault.TheVariants.{NotYet}
 use Rattle.mi_base.specs.declared.answers.Cause.TheVariants.{Table}
-use Rattle.mi_schema.specs.Checks.{load_fault, content_of}
+use Rattle.mi_schema.specs.Checks.{load_fault}
+use Rattle.mi_schema.specs.RowsOf.{folder_rows}
 use Rattle.mi_model.specs.Built.{Row}
 use Rattle.mi_model.specs.After.{after}
 use Rattle.mi_model.specs.PlainOutcome.{Outcome, Done, Refused}
@@ -19,7 +20,7 @@ unless_fault None rows = rows
 
 -- the rows that the package of a folder writes, in order, or its first fault, or its first row that isn't built
 abbrev pub rows_of : Files → Name → Result (List Row) Fault
-rows_of files folder = unless_fault (load_fault files folder) (planned_rows (content_of files folder))
+rows_of files folder = unless_fault (load_fault files folder) (planned_rows (folder_rows files folder))
 
 -- what these rows come to over the former map
 abbrev pub of_rows : Map → Result (List Row) Fault → Outcome

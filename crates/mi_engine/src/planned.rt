@@ -5,11 +5,11 @@ ghost use Rattle.std.specs.Option.{option_map};
 ghost use Rattle.std.specs.FinMap as finite;
 ghost use Rattle.indexmap.specs.IndexMap.{values};
 ghost use Rattle.mi_base.specs.declared.answers.Fault.TheVariants.{NotYet};
-ghost use Rattle.mi_schema.specs.Tables as table;
-ghost use Rattle.mi_schema.specs.Checks.{Content, rows_at, first_fault};
-ghost use Rattle.mi_schema.specs.Package.{IsPackage};
+ghost use Rattle.mi_schema.specs.Checks.{first_fault};
+ghost use Rattle.mi_schema.specs.Lawful.{IsLawful};
 ghost use Rattle.mi_schema.specs.Rows.{◌or_else◌};
-ghost use Rattle.mi_model.specs.Plan.{first_unbuilt, rows_by_key, stages, stage_fault, planned_rows};
+ghost use Rattle.mi_schema.specs.RowsOf.{rows_in};
+ghost use Rattle.mi_model.specs.Plan.{first_unbuilt, rows_by_key, unbuilt_rows, unbuilt_fault, planned_rows};
 ghost use Rattle.mi_engine.specs.Calls.{map_of, Loads, IsSourceStop, Refuses};
 ghost use Rattle.mi_engine.specs.Rows.{counted_fault};
 
@@ -84,7 +84,7 @@ fn first_row(tables: &[(&'static str, usize)]) -> Option<(&'static str, u32)>
 
 /// The first row before Registry that isn't built.
 fn before_registry(loaded: &Package) -> Option<(&'static str, u32)>
-    ensures { (content : Content) → IsPackage loaded.now content → option_map (λ t. NotYet t.0.now t.1) result ≡ first_fault (stage_fault content) (take 7 stages) }
+    ensures { option_map (λ t. NotYet t.0.now t.1) result ≡ first_fault unbuilt_fault (take 7 (unbuilt_rows (rows_in loaded.now))) }
 {
     let tables = [
         ("Condition", loaded.condition.len()),
@@ -100,7 +100,7 @@ fn before_registry(loaded: &Package) -> Option<(&'static str, u32)>
 
 /// The first row behind Registry that isn't built.
 fn behind_registry(loaded: &Package) -> Option<(&'static str, u32)>
-    ensures { (content : Content) → IsPackage loaded.now content → option_map (λ t. NotYet t.0.now t.1) result ≡ first_fault (stage_fault content) (drop 8 stages) }
+    ensures { option_map (λ t. NotYet t.0.now t.1) result ≡ first_fault unbuilt_fault (drop 8 (unbuilt_rows (rows_in loaded.now))) }
 {
     let tables = [
         ("RemoveFile", loaded.remove_file.len()),
@@ -147,7 +147,8 @@ fn not_yet(alloc: Global, table: &str, row: u32) -> Stop
 /// What a package writes, in byte order of the keys of its rows, or the first row that isn't built, by table in byte
 /// order, then by row.
 pub fn planned(alloc: Global, loaded: Package) -> Result<Vec<PlainRow>, Stop>
-    ensures plans { (content : Content) → IsPackage loaded content → length (rows_at content table.registry) < 2 ^ 32 → Loads ⊥ (planned_rows content) result }
+    requires { IsLawful loaded }
+    ensures plans { Loads ⊥ (planned_rows (rows_in loaded)) result }
     ensures stopped { IfErr result (IsSourceStop ⊥) }
 {
     let before = before_registry(&loaded);

@@ -12,7 +12,8 @@ use Rattle.mi_base.specs.declared.answers.Cause.{Cause}
 use Rattle.mi_base.specs.declared.answers.Cause.TheVariants.{BadWords, BadRollback, BadImage, Table}
 use Rattle.mi_base.specs.declared.answers.Kind.{Kind}
 use Rattle.mi_base.specs.declared.answers.Kind.TheVariants as kind
-use Rattle.mi_schema.specs.Checks.{load_fault, content_of}
+use Rattle.mi_schema.specs.Checks.{load_fault}
+use Rattle.mi_schema.specs.RowsOf.{folder_rows}
 use Rattle.mi_model.specs.Listings.{products_text_of}
 use Rattle.mi_model.specs.PlainWords.{Command, Install, Products, Recover, command_of}
 use Rattle.mi_model.specs.Plan.{plan_of}
@@ -40,7 +41,7 @@ of_loaded None plan = of_plan plan
 
 -- the package of a folder: its first fault, or what its plan makes
 abbrev pub of_package : Files → Name → Map → Machine → Outcome
-of_package files folder F m = of_loaded (load_fault files folder) (plan_of (content_of files folder) F m)
+of_package files folder F m = of_loaded (load_fault files folder) (plan_of (folder_rows files folder) F m)
 
 abbrev pub of_command : Files → Settled → Map → Machine → Command → Outcome
 of_command files found F m (Install folder) = of_package files folder F m
