@@ -1,6 +1,6 @@
 -- Custom actions by what they do, and their rows by their keys.
 use Rattle.std.proofs.Common.{◌≡◌, ℕ, suc, ◌+◌, ◌==◌, ◌&&◌, ◌||◌, not, Bool, true, false, cond, List, [], ◌∷◌, map, Option, Some, None, refl, sym, ap, ◌∙◌, subst, add-one, eqb-true}
-use Rattle.std.specs.Prelude.{ℤ, codes, find, bit_and, unwrap_or, Result, Ok, Err, if◌then◌else◌}
+use Rattle.std.specs.Prelude.{codes, find, unwrap_or, Result, Ok, Err, if◌then◌else◌}
 use Rattle.std.specs.Prelude.{All}
 use Rattle.std.specs.List.{AllByRecursion, position, position_from}
 use Rattle.std.proofs.lemmas.List.Elements.{recursion_from_All}
@@ -14,7 +14,7 @@ use Rattle.mi_base.specs.declared.answers.Fault.{Fault}
 use Rattle.mi_base.specs.declared.answers.Fault.TheVariants as faults
 use Rattle.mi_schema.specs.declared.typed_rows.CustomActionRow.{CustomActionRow}
 use Rattle.mi_schema.specs.TableRows.{Numbered, numbered_from}
-use Rattle.mi_schema.specs.Values.{bits_of, lacks}
+use Rattle.mi_schema.specs.Values.{lacks}
 use Rattle.mi_model.specs.Texts.{Text}
 use Rattle.mi_model.specs.Sequence.{is_costed, is_finalized}
 use Rattle.mi_model.specs.Steps as model
@@ -25,7 +25,7 @@ use Rattle.mi_format.specs.declared.error.FormatFault.{FormatFault}
 use Rattle.mi_format.specs.declared.error.FormatFault.TheVariants.{TooDeep}
 use Rattle.mi_seq.specs.declared.custom.Custom.{Custom}
 use Rattle.mi_seq.specs.declared.custom.Custom.TheVariants.{Error, SetDir, SetProperty}
-use Rattle.mi_seq.specs.Customs.{kind_of, by_base, numbered, may_stand, custom_means}
+use Rattle.mi_seq.specs.Customs.{kind_of, numbered, may_stand, custom_means}
 
 -- ---- what they do
 

@@ -1,7 +1,7 @@
 -- What the engine's loop takes from each answer of a walk, in the words of its invariant `Walking`: where a row is next, the loop stands
 -- before it (`before_next` of mi_model_laws) and takes its step; here are its ends.
-use Rattle.std.proofs.Common.{◌≡◌, true, false, List, [], ◌∷◌, ◌++◌, Option, Some, None, refl, sym, ap, ◌∙◌}
-use Rattle.std.specs.Prelude.{Result, Ok, Err, is_none, ◌&&◌, if◌then◌else◌}
+use Rattle.std.proofs.Common.{◌≡◌, true, false, List, [], ◌∷◌, ◌++◌, Option, Some, None, refl, ap, ◌∙◌}
+use Rattle.std.specs.Prelude.{Ok, Err, is_none, ◌&&◌, if◌then◌else◌}
 use Rattle.mi_text.specs.Maps.{Name}
 use Rattle.mi_source.specs.Paths.{Files}
 use Rattle.mi_base.specs.declared.answers.Fault.{Fault}
@@ -16,7 +16,7 @@ use Rattle.mi_model.specs.Asked.{lookups}
 use Rattle.mi_model.specs.Sequence.{is_inside, next_row}
 use Rattle.mi_model.specs.Steps.{Step, Launch, Fails, step_of}
 use Rattle.mi_model.specs.LaunchConditions.{launch_refusal}
-use Rattle.mi_model.specs.Walk.{Walked, walk, acted, begin, taken, refused, or_refused, unless_refused, at_end}
+use Rattle.mi_model.specs.Walk.{Walked, walk, begin, taken, refused, or_refused, unless_refused}
 use Rattle.mi_model.specs.Plans.{Planned}
 use Rattle.mi_model.specs.Planning.{Walking, IsPlan}
 use Rattle.mi_model_laws.proofs.PlanningLemmas.{before_next, behind_all, refuses, finishes, unfinished}

@@ -1,21 +1,19 @@
 -- Rows by their seats: a tree of places has, in order, the rows of the sequence.
-use Rattle.std.proofs.Common.{◌≡◌, ℕ, zero, suc, ℤ, ◌+◌, ◌-◌, ◌<◌, ◌≤◌, Bool, true, false, cond, List, [], ◌∷◌, map, drop, Option, Some, None, refl, sym, ap, ◌∙◌, subst, add-one, length, arith}
+use Rattle.std.proofs.Common.{◌≡◌, ℕ, zero, suc, ℤ, ◌+◌, ◌-◌, ◌<◌, ◌≤◌, true, false, cond, List, [], ◌∷◌, map, drop, Option, Some, None, refl, sym, ap, ◌∙◌, subst, add-one, length, arith}
 use Rattle.std.specs.Prelude.{slice_get, filter, Result, Ok, Err, OnOk}
 use Rattle.std.proofs.lemmas.List.{length-map}
-use Rattle.std.specs.List.{filter_map, cons_option}
-use Rattle.std.specs.declared.cmp.Ordering.{Ordering}
+use Rattle.std.specs.List.{cons_option}
 use Rattle.std.specs.declared.cmp.Ordering.TheVariants.{Less, Equal, Greater}
-use Rattle.std.specs.Ordering.{match_ordering, int_cmp, ordering_then}
+use Rattle.std.specs.Ordering.{match_ordering}
 use Rattle.std.specs.Cmp.{IsTotalOrder, int_cmp_total}
 use Rattle.std.specs.Cmp.Lexicographic.{nat_list_cmp_total}
 use Rattle.std.proofs.lemmas.Cmp.{then_total, on_total}
-use Rattle.std.specs.FinMap.{FinMap, entries, empty, values, from_entries, entries-insert, len-entries, len-empty}
+use Rattle.std.specs.FinMap.{entries, values, entries-insert, len-entries, len-empty}
 use Rattle.std.specs.FinMap.Entries.{put, by_order}
 use Rattle.std.specs.BTreeMap.{insert_entry}
 use denote.Ref.{Bor}
-use Rattle.mi_text.specs.Maps.{name_cmp}
 use Rattle.mi_schema.specs.declared.typed_rows.InstallExecuteSequenceRow.{InstallExecuteSequenceRow}
-use Rattle.mi_model.specs.Sequence.{Seat, seat_cmp, seat_of, has_seat, by_seat, sequence}
+use Rattle.mi_model.specs.Sequence.{Seat, seat_cmp, seat_of, has_seat, by_seat}
 use Rattle.mi_seq.specs.Orders.{rows_at}
 use Rattle.mi_seq.specs.Seats.{Placed, placed_cmp, seated, as_there, AreSeated}
 

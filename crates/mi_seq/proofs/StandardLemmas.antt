@@ -1,7 +1,6 @@
 -- The table of standard actions is what the steps of the model make of their names.
 use Rattle.std.proofs.Common.{◌≡◌, Bool, true, false, cond, List, [], ◌∷◌, ◌++◌, map, Option, Some, None, refl, sym, ap, ◌∙◌, subst, ◌||◌, ◌+◌, ◌<◌, ℕ, suc, length, drop, get_or, add-one, drop-cons}
-use Rattle.std.specs.Prelude.{codes, find, option_map, Result, Ok, Err, IfSome, if◌then◌else◌}
-use Rattle.std.specs.List.{list_any}
+use Rattle.std.specs.Prelude.{codes, find, option_map, Result, Ok, IfSome, if◌then◌else◌}
 use Rattle.std.specs.Str.{bytes_eq}
 use Rattle.std.proofs.lemmas.Map.Text.{is_eq-slice_cmp}
 use Rattle.mi_text.specs.Maps.{Name, same_name, is_among}
@@ -12,7 +11,7 @@ use Rattle.mi_schema.specs.TableRows.{Rows}
 use Rattle.mi_model.specs.World.{Effect}
 use Rattle.mi_model.specs.States.{named}
 use Rattle.mi_model.specs.Phases.{phases, effect_of}
-use Rattle.mi_model.specs.Sequence.{is_costed, is_inside}
+use Rattle.mi_model.specs.Sequence.{is_inside}
 use Rattle.mi_model.specs.Steps as model
 use Rattle.mi_model.specs.Steps.{without_effect, in_order, phase_or, custom_step, custom_action, step_of}
 use Rattle.mi_seq.specs.declared.phase.Phase as phases_of

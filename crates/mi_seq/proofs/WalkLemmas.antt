@@ -1,6 +1,6 @@
 -- Steps of a walk, from those of its actions.
 use Rattle.std.proofs.Common.{◌≡◌, ℕ, Bool, true, false, List, [], ◌∷◌, ◌++◌, Option, Some, None, refl, sym, ap, ◌∙◌, subst, ◌||◌}
-use Rattle.std.specs.Prelude.{codes, slice_get, option_map, unwrap_or, Result, Ok, Err, IfOk}
+use Rattle.std.specs.Prelude.{option_map, unwrap_or, Result, Ok, Err, IfOk}
 use Rattle.std.specs.Str.{bytes_eq}
 use Rattle.std.proofs.lemmas.Map.Text.{is_eq-slice_cmp}
 use Rattle.mi_text.specs.Maps.{Name, same_name, is_among}
@@ -10,7 +10,7 @@ use Rattle.mi_base.specs.declared.answers.Fault.{Fault}
 use Rattle.mi_schema.specs.declared.package.Package.{Package}
 use Rattle.mi_schema.specs.declared.typed_rows.InstallExecuteSequenceRow.{InstallExecuteSequenceRow}
 use Rattle.mi_schema.specs.RowsOf.{rows_in}
-use Rattle.mi_model.specs.Sequence.{next_row, is_inside}
+use Rattle.mi_model.specs.Sequence.{next_row}
 use Rattle.mi_model.specs.Steps.{step_of}
 use Rattle.mi_seq.specs.declared.step.Step.{Step}
 use Rattle.mi_seq.specs.declared.step.Step.TheVariants as step

@@ -1,8 +1,7 @@
 -- Custom actions, as the program takes them. (CustomAction table; Summary List of All Custom Action Types.)
-use Rattle.std.specs.Prelude.{◌≡◌, ℕ, ℤ, ◌==◌, ◌&&◌, not, bit_and, Bool, true, List, [], codes, Option, Some, None, unwrap_or, Result, Ok, Err, if◌then◌else◌}
+use Rattle.std.specs.Prelude.{◌≡◌, ℕ, ℤ, ◌==◌, ◌&&◌, not, bit_and, Bool, true, List, codes, Option, Some, None, Result, Ok, Err, if◌then◌else◌}
 use Rattle.mi_text.specs.Maps.{Name}
 use Rattle.mi_text.specs.Lookups.{Lookups}
-use Rattle.mi_base.specs.declared.answers.Fault.{Fault}
 use Rattle.mi_base.specs.declared.answers.Fault.TheVariants as faults
 use Rattle.mi_schema.specs.declared.typed_rows.CustomActionRow.{CustomActionRow}
 use Rattle.mi_schema.specs.TableRows.{Numbered}

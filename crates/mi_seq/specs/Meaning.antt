@@ -1,5 +1,5 @@
 -- What the program's steps and phases mean. (Standard Actions Reference; Custom Action Types.)
-use Rattle.std.specs.Prelude.{[], codes, Option, Some, None}
+use Rattle.std.specs.Prelude.{[], codes}
 use Rattle.mi_text.specs.Maps.{Name}
 use Rattle.mi_seq.specs.declared.phase.Phase as phases
 use Rattle.mi_seq.specs.declared.phase.Phase.TheVariants as phase

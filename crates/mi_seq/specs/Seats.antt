@@ -3,9 +3,7 @@ use Rattle.std.specs.Prelude.{◌≡◌, ℕ, ℤ, List, map, filter, drop, Opti
 use denote.Ref.{Bor}
 use Rattle.std.specs.declared.cmp.Ordering.{Ordering}
 use Rattle.std.specs.FinMap.{entries}
-use Rattle.mi_schema.specs.declared.package.Package.{Package}
 use Rattle.mi_schema.specs.declared.typed_rows.InstallExecuteSequenceRow.{InstallExecuteSequenceRow}
-use Rattle.mi_schema.specs.RowsOf.{rows_in}
 use Rattle.mi_model.specs.Sequence.{Seat, seat_cmp, by_seat, has_seat}
 
 -- a seat of the program, and a place

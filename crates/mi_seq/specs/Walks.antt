@@ -1,5 +1,5 @@
 -- Where a walk of the program stands, and what its next step tells. (InstallExecuteSequence table.)
-use Rattle.std.specs.Prelude.{◌≡◌, ℕ, Bool, true, false, List, [], ◌∷◌, ◌++◌, Option, Some, None, slice_get, option_map, unwrap_or, Result, Ok, Err}
+use Rattle.std.specs.Prelude.{◌≡◌, ℕ, true, false, List, [], ◌∷◌, ◌++◌, Option, Some, None, slice_get, option_map, unwrap_or, Result, Ok, Err}
 use Rattle.mi_text.specs.Maps.{Name}
 use Rattle.mi_text.specs.Lookups.{Lookups}
 use Rattle.mi_base.specs.declared.answers.Fault.{Fault}

@@ -1,5 +1,5 @@
 -- What the map has at the place.
-use Rattle.std.proofs.Common.{◌≡◌, ap, sym, ◌∙◌, Option, option_map}
+use Rattle.std.proofs.Common.{ap, sym, ◌∙◌, option_map}
 use Rattle.std.proofs.lemmas.Option.{slice_get-map}
 use Rattle.mi_schema.specs.RowsOf.{rows_in}
 use Rattle.mi_seq.proofs.row.row_at.Goals as goal

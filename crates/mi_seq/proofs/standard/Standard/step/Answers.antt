@@ -1,5 +1,5 @@
 -- An action without effect is begun anywhere.
-use Rattle.std.proofs.Common.{sym, subst, List, ℕ}
+use Rattle.std.proofs.Common.{sym, subst}
 use Rattle.mi_seq.specs.declared.standard.Standard.{Standard}
 use Rattle.mi_seq.specs.Standards.{does}
 use Rattle.mi_seq.specs.Stops.{Answers}
