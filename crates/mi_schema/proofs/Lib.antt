@@ -4,6 +4,7 @@ pub mod CellLaws
 pub mod ChainLaws
 pub mod CheckLemmas
 pub mod ColumnLemmas
+pub mod ConditionFaults
 pub mod ConditionLaws
 pub mod DifferLemmas
 pub mod FitLemmas

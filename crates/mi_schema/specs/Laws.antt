@@ -1,5 +1,6 @@
 -- What holds of every lawful package, for those who read it. (Database Tables.)
-use Rattle.std.specs.Prelude.{◌≡◌, ◌≢◌, ◌⊎◌, ℕ, ℤ, zero, suc, pos, negsuc, ◌≤◌, ◌≤ℤ◌, ◌==◌, ◌/◌, ◌%◌, not, Bool, true, false, List, [], ◌∷◌, length, find, unwrap_or, codes, bit_and, Option, Some, None, is_some, IfSome, if◌then◌else◌, All, AllPairs, Contains}
+use Rattle.std.specs.Prelude.{◌≡◌, ◌≢◌, ◌⊎◌, ℕ, ℤ, zero, suc, pos, negsuc, ◌≤◌, ◌≤ℤ◌, ◌==◌, ◌/◌, ◌%◌, not, Bool, true, false, List, [], ◌∷◌, length, find, unwrap_or, codes, bit_and, Option, Some, None, is_some, IfSome, if◌then◌else◌, All, AllPairs, Contains, ◌-◌, option_map}
+use Rattle.std.specs.List.{slice_get}
 use Rattle.std.specs.Map.{keys_of}
 use Rattle.std.specs.Ordering.{int_eq}
 use Rattle.mi_text.specs.FileNames.{is_file_name, is_file_pattern, is_default_dir, short_name, long_name, target_part, source_part, is_pattern_part}
@@ -8,9 +9,12 @@ use Rattle.mi_text.specs.Maps.{Name}
 use Rattle.mi_text.specs.PropertyNames.{is_property_name}
 use Rattle.mi_text.specs.Version.{version_of}
 use Rattle.mi_text.specs.declared.guid.Guid.{Guid}
+use Rattle.mi_idt.specs.Cells as raw
+use Rattle.mi_idt.specs.Means.{cell_at}
 use Rattle.mi_idt.specs.Fields.{number_on}
-use Rattle.mi_cond.specs.Place.{IsRead}
+use Rattle.mi_cond.specs.Place.{IsRead, IsPlace}
 use Rattle.mi_cond.specs.Tree.{Tree}
+use Rattle.mi_schema.specs.declared.column.Kind.TheVariants as kind
 use Rattle.mi_schema.specs.declared.package.Package.{Package}
 use Rattle.mi_schema.specs.declared.typed_rows.ComponentRow.{ComponentRow}
 use Rattle.mi_schema.specs.declared.typed_rows.DirectoryRow.{DirectoryRow}
@@ -18,6 +22,8 @@ use Rattle.mi_schema.specs.declared.typed_rows.FileRow.{FileRow}
 use Rattle.mi_schema.specs.declared.typed_rows.PropertyRow.{PropertyRow}
 use Rattle.mi_schema.specs.declared.typed_rows.SummaryInformationRow.{SummaryInformationRow}
 use Rattle.mi_schema.specs.Checks.{companion_of}
+use Rattle.mi_schema.specs.Rows.{spelled_value}
+use Rattle.mi_schema.specs.Tables.{Table}
 use Rattle.mi_schema.specs.Texts.{is_decimal, are_languages, is_language, is_product_code, is_value_of}
 use Rattle.mi_schema.specs.Values.{bits_of, lacks, is_root_below}
 
@@ -157,6 +163,15 @@ pub record ConditionsStand (p : Package) : Type 0 where
   pub condition : EachRow p.condition.entries (λ r. IfSome r.condition IsOfText)
   pub install_execute_sequence : EachRow p.install_execute_sequence.entries (λ r. IfSome r.condition IsOfText)
   pub launch_condition : All (λ e. IsShort e.0 × IsRead e.0 e.1.condition) p.launch_condition.entries
+
+-- in this row, from 1, of the table that bytes spell, a text of a column of conditions, which by the grammar stops being a
+-- condition at this place
+pub record StopsAt (t : Table) (bytes : List ℕ) (row place : ℕ) : Type 0 where
+  pub column : ℕ
+  pub of_conditions : option_map (λ c. c.kind) (slice_get t.columns column) ≡ Some kind.Condition
+  pub text : List ℕ
+  pub stands : cell_at (spelled_value bytes) (row - 1) column ≡ raw.Text text
+  pub stops : IsPlace text place
 
 -- ---- names (Filename; WildCardFilename; Directory table, DefaultDir)
 

@@ -1,11 +1,15 @@
 //! Laws of lawful packages, which the crates above may use.
 
-ghost use Rattle.std.specs.Prelude.{◌≡◌, ◌↔◌, ℕ, List, Ok, Err};
+ghost use Rattle.std.specs.Prelude.{◌≡◌, ◌↔◌, ℕ, List, Some, Ok, Err};
+ghost use Rattle.mi_text.specs.Maps.{Name};
+ghost use Rattle.mi_base.specs.declared.answers.Fault.TheVariants as faults;
 ghost use Rattle.mi_cond.specs.Place.{IsRead, IsPlace};
 ghost use Rattle.mi_cond.specs.Tree.{Tree};
 ghost use Rattle.mi_schema.specs.Conditions.{condition_of};
 ghost use Rattle.mi_schema.specs.Lawful.{IsLawful};
-ghost use Rattle.mi_schema.specs.Laws.{KeysStand, KeysApart, ReferencesStand, ParentsEnd, PropertiesStand, ValuesStand, SourceStands, TablesSmall, TextsShort, ConditionsStand, NamesStand};
+ghost use Rattle.mi_schema.specs.Laws.{KeysStand, KeysApart, ReferencesStand, ParentsEnd, PropertiesStand, ValuesStand, SourceStands, TablesSmall, TextsShort, ConditionsStand, StopsAt, NamesStand};
+ghost use Rattle.mi_schema.specs.Rows.{table_fault};
+ghost use Rattle.mi_schema.specs.Tables.{Table};
 
 use crate::package::Package;
 
@@ -80,4 +84,9 @@ pub fn names_stand(loaded: &Package)
 pub fn conditions_read()
     ensures tree { (text : List ℕ) (tree : Tree) → (condition_of text ≡ Ok tree) ↔ IsRead text tree }
     ensures place { (text : List ℕ) (place : ℕ) → (condition_of text ≡ Err place) ↔ IsPlace text place }
+{}
+
+/// A condition is refused at the place where by the grammar its text stops being one (Conditional Statement Syntax).
+pub fn conditions_refused()
+    ensures { (t : Table) (bytes : List ℕ) (table : Name) (row place : ℕ) → table_fault t (Some bytes) ≡ Some (faults.Condition table row place) → StopsAt t bytes row place }
 {}

@@ -32,8 +32,9 @@ mod typed_rows;
 
 pub use error::LoadError;
 pub use laws::{
-    conditions_read, conditions_stand, keys_apart, keys_stand, names_stand, parents_end,
-    properties_stand, references_stand, source_stands, tables_small, texts_short, values_stand,
+    conditions_read, conditions_refused, conditions_stand, keys_apart, keys_stand, names_stand,
+    parents_end, properties_stand, references_stand, source_stands, tables_small, texts_short,
+    values_stand,
 };
 pub use package::Package;
 pub use typed_rows::{
