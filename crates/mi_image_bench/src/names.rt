@@ -1,0 +1,74 @@
+//! The files that the machine holds.
+
+use mi_base::{Bytes, Entry, FileEntry, FileHead, Languages, Name, NoMemory, PathText, Text, fold};
+use std::alloc::{AllocError, AllocFailed, Global};
+
+/// What stops the making of names, which is want of memory alone.
+#[derive(Debug, Drop)]
+pub struct NotMade;
+
+impl From<NoMemory> for NotMade {
+    fn from(_e: NoMemory) -> NotMade {
+        NotMade
+    }
+}
+
+impl From<AllocError> for NotMade {
+    fn from(_e: AllocError) -> NotMade {
+        NotMade
+    }
+}
+
+impl<T: Drop> From<AllocFailed<T>> for NotMade {
+    fn from(_e: AllocFailed<T>) -> NotMade {
+        NotMade
+    }
+}
+
+/// The path of the file of this number, in a folder of a hundred files.
+pub fn file_path(alloc: Global, number: u32) -> Result<PathText, NotMade> {
+    let part = number / 100;
+    let text = format!(in alloc; "C:\\Program Files\\Bench\\part{part:05}\\File{number:07}.txt")?;
+    match PathText::of(Text::from_string(text)) {
+        Some(path) => Ok(path),
+        None => Err(NotMade),
+    }
+}
+
+/// The entry of this number.
+pub fn entry(alloc: Global, number: u32) -> Result<Entry, NotMade> {
+    Ok(Entry::File(FileEntry {
+        shown: file_path(alloc, number)?,
+        version: None,
+        languages: Languages::new(alloc),
+        created: 100,
+        modified: 100,
+        attributes: 0,
+        bytes: Bytes::new(alloc),
+    }))
+}
+
+fn file_name(alloc: Global, shown: &PathText) -> Result<Name, NotMade> {
+    let mut text = Text::copy_of(alloc, "f/")?;
+    text.push_str(fold(alloc, shown.as_str())?.as_str())?;
+    match Name::of(alloc, text.as_str()) {
+        Ok(name) => Ok(name),
+        Err(_) => Err(NotMade),
+    }
+}
+
+/// The name and the head of the file of this number.
+pub fn head(alloc: Global, number: u32) -> Result<(Name, FileHead), NotMade> {
+    let shown = file_path(alloc, number)?;
+    let name = file_name(alloc, &shown)?;
+    let head = FileHead {
+        shown,
+        version: None,
+        languages: Languages::new(alloc),
+        created: 100,
+        modified: 100,
+        attributes: 0,
+        length: 0,
+    };
+    Ok((name, head))
+}
