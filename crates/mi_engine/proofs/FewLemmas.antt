@@ -1,6 +1,7 @@
 -- A table that is loaded has few rows.
 use Rattle.std.proofs.Common.{◌≡◌, ℕ, zero, suc, ◌+◌, ◌^◌, ◌<◌, ◌≤◌, Bool, true, false, cond, List, [], ◌∷◌, length, map, get_or, Option, Some, None, refl, sym, ap, ◌∙◌, arith}
-use Rattle.std.specs.Prelude.{nat_lt, option_map}
+use Rattle.std.specs.Prelude.{nat_lt, option_map, find}
+use Rattle.std.specs.Str.{bytes_eq}
 use Rattle.std.specs.Str.Lines.{lines}
 use Rattle.std.proofs.lemmas.Bool.Decides.{nat_tests}
 use Rattle.std.proofs.lemmas.List.{length-map}
@@ -15,10 +16,12 @@ use Rattle.mi_idt.specs.Fault.{columns_at, size_fault, table_fault as lines_tabl
 use Rattle.mi_idt.proofs.Faults.{or-none}
 use Rattle.mi_idt.specs.Raw.{raw_of_lines, raw_of}
 use Rattle.mi_idt.specs.Rows.{cells_of}
-use Rattle.mi_schema.specs.Tables.{Table, tables, registry}
+use Rattle.mi_schema.specs.Listed.{listed, tables}
+use Rattle.mi_schema.specs.RowsOf.{rows_of_content}
+use Rattle.mi_schema.specs.Tables.{Table, registry}
 use Rattle.mi_schema.specs.Values.{row_of}
 use Rattle.mi_schema.specs.Rows.{◌or_else◌, table_fault, table_rows, value_fault, spelled_value}
-use Rattle.mi_schema.specs.Checks.{place_of_table, rows_at, rows_of, bytes_of, content_of, content_fault, first_fault, missing_fault, tables_fault, load_fault}
+use Rattle.mi_schema.specs.Checks.{rows_at, content_of, package_fault, first_fault, missing_fault, tables_fault, load_fault}
 
 -- ---- the lines of a table
 
@@ -65,15 +68,13 @@ second : {X : Type 0} (f g : Option X) → (f or_else g) ≡ None → g ≡ None
 second None g e = e
 second (Some x) g e = absurd cc
 
-no_fault_at : {X : Type 0} (f : X → Option Fault) (xs : List X) → first_fault f xs ≡ None → (i : ℕ) (d : X) → i < length xs → f (get_or xs i d) ≡ None
-no_fault_at f [] none i d lt = absurd (omega arith)
-no_fault_at f (x ∷ xs) none zero d lt = first (f x) (first_fault f xs) none
-no_fault_at f (x ∷ xs) none (suc i) d lt = no_fault_at f xs (second (f x) (first_fault f xs) none) i d (omega arith)
-
-at_map : {X Y : Type 0} (f : X → Y) (xs : List X) (i : ℕ) (d : X) (e : Y) → i < length xs → get_or (map f xs) i e ≡ f (get_or xs i d)
-at_map f [] i d e lt = absurd (omega arith)
-at_map f (x ∷ xs) zero d e lt = refl
-at_map f (x ∷ xs) (suc i) d e lt = at_map f xs i d e (omega arith)
+none_found : {X : Type 0} (f : X → Option Fault) (test : X → Bool) (xs : List X) (x : X) → find test xs ≡ Some x → first_fault f xs ≡ None → f x ≡ None
+none_found f test [] x e none = cc
+none_found f test (y ∷ ys) x e none =
+    elim (test y) as (λ b. cond b (Some y) (find test ys) ≡ Some x → f x ≡ None) [
+      | true ↦ λ s. let same : y ≡ x = cc in ap f (sym same) ∙ first (f y) (first_fault f ys) none
+      | false ↦ λ s. none_found f test ys x s (second (f y) (first_fault f ys) none)
+    ] e
 
 no_idt_fault : (t : Table) (o : Option IdtFault) → option_map (Idt t.name) o ≡ None → o ≡ None
 no_idt_fault t None e = refl
@@ -86,33 +87,20 @@ few_of t (Some bytes) none =
     let long = length-map (spelled_value bytes).rows (row_of t.columns) in
     omega (arith, few, long)
 
-place : place_of_table registry ≡ 33
-unfolding tables
-place = refl
-
-there : get_or tables 33 registry ≡ registry
-unfolding tables
+there : find (λ (u : Table). bytes_eq registry.name u.name) tables ≡ Some registry
+unfolding listed
 there = refl
 
-within : 33 < length tables
-unfolding tables
-within = omega arith
-
-tables_none : (files : Files) (folder : Name) → load_fault files folder ≡ None → tables_fault files folder tables ≡ None
+tables_none : (files : Files) (folder : Name) → load_fault files folder ≡ None → tables_fault (content_of files folder) tables ≡ None
 unfolding load_fault
-tables_none files folder none = first (tables_fault files folder tables) (content_fault (content_of files folder)) (second (missing_fault files folder) (tables_fault files folder tables or_else content_fault (content_of files folder)) none)
-
-registry_rows : (files : Files) (folder : Name) → rows_at (content_of files folder) registry ≡ rows_of files folder registry
-registry_rows files folder =
-    ap (λ n. get_or (content_of files folder) n []) place
-    ∙ at_map (rows_of files folder) tables 33 registry [] within
-    ∙ ap (rows_of files folder) there
+tables_none files folder none =
+    first (tables_fault (content_of files folder) tables) (package_fault (rows_of_content (content_of files folder)))
+    (second (missing_fault (content_of files folder)) (tables_fault (content_of files folder) tables or_else package_fault (rows_of_content (content_of files folder))) none)
 
 -- a package without a fault has fewer rows of Registry than a number of 32 bits counts
 pub few_registry : (files : Files) (folder : Name) → load_fault files folder ≡ None → length (rows_at (content_of files folder) registry) < 2 ^ 32
 few_registry files folder none =
-    let no_fault = no_fault_at (λ (t : Table). table_fault t (bytes_of files folder t)) tables (tables_none files folder none) 33 registry within in
-    let fault : table_fault registry (bytes_of files folder registry) ≡ None = sym (ap (λ (t : Table). table_fault t (bytes_of files folder t)) there) ∙ no_fault in
-    let few = few_of registry (bytes_of files folder registry) fault in
-    let same = ap length (registry_rows files folder) in
-    omega (arith, few, same)
+    let content = content_of files folder in
+    let fault = none_found (λ (t : Table). table_fault t (content t.name)) (λ (u : Table). bytes_eq registry.name u.name) tables registry there (tables_none files folder none) in
+    let few = few_of registry (content registry.name) fault in
+    omega (arith, few)

@@ -16,6 +16,7 @@ use Rattle.mi_base.specs.declared.answers.Fault.TheVariants.{NotYet}
 use Rattle.mi_schema.specs.declared.typed_rows.RegistryRow.{RegistryRow}
 use Rattle.mi_schema.specs.Tables as table
 use Rattle.mi_schema.specs.Tables.{Table}
+use Rattle.mi_schema.specs.declared.known.Known.TheVariants as known
 use Rattle.mi_schema.specs.declared.package.Package.{Package}
 use Rattle.mi_schema.specs.TypedRows.{registry_row, registry_key, condition_row, condition_key, create_folder_row, create_folder_key, custom_action_row, custom_action_key, duplicate_file_row, duplicate_file_key, environment_row, environment_key, file_row, file_key, launch_condition_row, launch_condition_key, remove_file_row, remove_file_key, remove_registry_row, remove_registry_key, shortcut_row, shortcut_key}
 use Rattle.mi_schema.specs.Checks.{Content, rows_at, first_fault}
@@ -144,21 +145,21 @@ module _ (content : Content) (p : Package) (is : IsPackage p content) where
   pub tables_before : (a b c d e f g : ℕ) → a ≡ length p.condition.entries → b ≡ length p.create_folder.entries → c ≡ length p.custom_action.entries → d ≡ length p.duplicate_file.entries → e ≡ length p.environment.entries → f ≡ length p.file.entries → g ≡ length p.launch_condition.entries
       → first_fault counted_fault ((codes "Condition", a) ∷ (codes "CreateFolder", b) ∷ (codes "CustomAction", c) ∷ (codes "DuplicateFile", d) ∷ (codes "Environment", e) ∷ (codes "File", f) ∷ (codes "LaunchCondition", g) ∷ []) ≡ first_fault (stage_fault content) (take 7 stages)
   tables_before a b c d e f g long_a long_b long_c long_d long_e long_f long_g = λ i.
-      counted_table content table.condition condition_key condition_row p.condition.entries a is.condition long_a i or_else
-      counted_table content table.create_folder create_folder_key create_folder_row p.create_folder.entries b is.create_folder long_b i or_else
-      counted_table content table.custom_action custom_action_key custom_action_row p.custom_action.entries c is.custom_action long_c i or_else
-      counted_table content table.duplicate_file duplicate_file_key duplicate_file_row p.duplicate_file.entries d is.duplicate_file long_d i or_else
-      counted_table content table.environment environment_key environment_row p.environment.entries e is.environment long_e i or_else
-      counted_table content table.file file_key file_row p.file.entries f is.file long_f i or_else
-      counted_table content table.launch_condition launch_condition_key launch_condition_row p.launch_condition.entries g is.launch_condition long_g i or_else None
+      counted_table content table.condition condition_key condition_row p.condition.entries a (is.rows known.Condition) long_a i or_else
+      counted_table content table.create_folder create_folder_key create_folder_row p.create_folder.entries b (is.rows known.CreateFolder) long_b i or_else
+      counted_table content table.custom_action custom_action_key custom_action_row p.custom_action.entries c (is.rows known.CustomAction) long_c i or_else
+      counted_table content table.duplicate_file duplicate_file_key duplicate_file_row p.duplicate_file.entries d (is.rows known.DuplicateFile) long_d i or_else
+      counted_table content table.environment environment_key environment_row p.environment.entries e (is.rows known.Environment) long_e i or_else
+      counted_table content table.file file_key file_row p.file.entries f (is.rows known.File) long_f i or_else
+      counted_table content table.launch_condition launch_condition_key launch_condition_row p.launch_condition.entries g (is.rows known.LaunchCondition) long_g i or_else None
 
   -- and those behind it
   pub tables_behind : (a b c : ℕ) → a ≡ length p.remove_file.entries → b ≡ length p.remove_registry.entries → c ≡ length p.shortcut.entries
       → first_fault counted_fault ((codes "RemoveFile", a) ∷ (codes "RemoveRegistry", b) ∷ (codes "Shortcut", c) ∷ []) ≡ first_fault (stage_fault content) (drop 8 stages)
   tables_behind a b c long_a long_b long_c = λ i.
-      counted_table content table.remove_file remove_file_key remove_file_row p.remove_file.entries a is.remove_file long_a i or_else
-      counted_table content table.remove_registry remove_registry_key remove_registry_row p.remove_registry.entries b is.remove_registry long_b i or_else
-      counted_table content table.shortcut shortcut_key shortcut_row p.shortcut.entries c is.shortcut long_c i or_else None
+      counted_table content table.remove_file remove_file_key remove_file_row p.remove_file.entries a (is.rows known.RemoveFile) long_a i or_else
+      counted_table content table.remove_registry remove_registry_key remove_registry_row p.remove_registry.entries b (is.rows known.RemoveRegistry) long_b i or_else
+      counted_table content table.shortcut shortcut_key shortcut_row p.shortcut.entries c (is.rows known.Shortcut) long_c i or_else None
 
 -- ---- the plan
 
@@ -178,7 +179,7 @@ module _ (content : Content) (p : Package) (is : IsPackage p content) (found : L
   rows = map registry_row (rows_at content table.registry)
 
   values_are : found ≡ rows
-  values_are = from ∙ ap (map (λ (e : Name × RegistryRow). e.1)) is.registry ∙ values_keyed registry_key registry_row (rows_at content table.registry)
+  values_are = from ∙ ap (map (λ (e : Name × RegistryRow). e.1)) (is.rows known.Registry) ∙ values_keyed registry_key registry_row (rows_at content table.registry)
 
   pub few_values : length (rows_at content table.registry) < 2 ^ 32 → length found < 2 ^ 32
   few_values few = let long = ap length values_are ∙ length-map (rows_at content table.registry) registry_row in omega (arith, long, few)
