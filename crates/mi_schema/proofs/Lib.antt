@@ -1,5 +1,4 @@
 pub mod ApartLaws
-pub mod BuildLemmas
 pub mod CellLaws
 pub mod ChainLaws
 pub mod CheckLemmas
@@ -13,7 +12,6 @@ pub mod ListLemmas
 pub mod LoadLemmas
 pub mod NumberLaws
 pub mod PackageLaws
-pub mod PlaceLemmas
 pub mod ReferenceLaws
 pub mod RowLaws
 pub mod RowLemmas

@@ -2,4 +2,4 @@ use Rattle.mi_schema.proofs.PackageLaws.{values_stand}
 use Rattle.mi_schema.proofs.laws.values_stand.Goals as goal
 
 pub returns : goal.returns
-returns c = values_stand c.args.loaded.now c.requires.lawful
+returns c = let l = c.requires.lawful in values_stand c.args.loaded.now l.content l.right_tables l.is.rows
