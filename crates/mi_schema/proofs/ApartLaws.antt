@@ -1,24 +1,20 @@
 -- Rows whose keys differ have typed keys that differ, and the form of the source files.
-use Rattle.std.proofs.Common.{◌≡◌, ◌≢◌, ◌||◌, ◌&&◌, not, ℕ, pos, zero, suc, ◌<◌, ◌≤◌, Bool, true, false, cond, List, [], ◌∷◌, length, get_or, Option, Some, None, refl, sym, ap, ◌∙◌, arith, inl, inr}
-use Rattle.std.specs.Prelude.{find, option_map, unwrap_or}
-use Rattle.std.specs.Ordering.{int_eq}
+use Rattle.std.proofs.Common.{◌≡◌, ◌≢◌, ◌||◌, ◌&&◌, not, ℕ, zero, suc, ◌<◌, ◌≤◌, Bool, true, false, cond, List, [], ◌∷◌, length, get_or, Option, Some, None, refl, sym, ap, ◌∙◌, arith, inl, inr}
+use Rattle.std.specs.Prelude.{find, option_map}
 use Rattle.std.proofs.lemmas.Bool.{cases_Bool}
 use Rattle.std.proofs.lemmas.List.{length-map}
 use Rattle.std.proofs.lemmas.Slice.Zip.{AllZip-long}
 use Rattle.mi_base.specs.declared.answers.Fault.TheVariants.{Compressed}
-use Rattle.mi_schema.specs.declared.cell.Cell.{Cell}
-use Rattle.mi_schema.specs.declared.cell.Cell.TheVariants as cell
-use Rattle.mi_schema.specs.Checks.{is_word_count, word_count, is_compressed, file_fault}
-use Rattle.mi_schema.specs.Laws.{AreFew, HaveOwnKeys, number_of_property}
+use Rattle.mi_schema.specs.declared.typed_rows.FileRow.{FileRow}
+use Rattle.mi_schema.specs.Source.{is_compressed, file_fault}
+use Rattle.mi_schema.specs.Laws.{AreFew, HaveOwnKeys}
 use Rattle.mi_schema.specs.Lawful.{AreRowsOf}
 use Rattle.mi_schema.specs.Package.{keyed}
-use Rattle.mi_schema.specs.Suits.{all_suit, key_cells, IsNewKey, KeysDiffer}
+use Rattle.mi_schema.specs.Suits.{all_suit, key_cells, keys_tell, IsNewKey, KeysDiffer}
 use Rattle.mi_schema.specs.Tables.{Column, Table}
-use Rattle.mi_schema.specs.TypedRows.{summary_information_row, summary_information_key}
-use Rattle.mi_schema.specs.Typed.{some_number_in}
-use Rattle.mi_schema.specs.Values.{Row, row_of, text_at, number_in}
+use Rattle.mi_schema.specs.Values.{Row, row_of}
 use Rattle.mi_schema.proofs.CellLaws.{each_suit_at}
-use Rattle.mi_schema.proofs.DifferLemmas.{keys_tell, keys_differ}
+use Rattle.mi_schema.proofs.DifferLemmas.{keys_differ}
 use Rattle.mi_schema.proofs.ReferenceLaws.{keyed_long}
 use Rattle.mi_schema.proofs.SuitLemmas.{faultless, rows_suit}
 use Rattle.mi_schema.proofs.ValueLaws.{pairs_keyed}
@@ -68,46 +64,29 @@ few_keyed key row t rows are entries is =
 
 -- ---- the form of the source files
 
-pub counted : (rows : List Row) → number_of_property (find (λ e. int_eq e.1.property_id (pos 15)) (keyed summary_information_key summary_information_row rows)) ≡ word_count rows
-counted [] = refl
-counted (r ∷ rows) = elim (cases_Bool (is_word_count r)) [
-  | inl on ↦ rw on refl
-  | inr off ↦ rw off (counted rows)
-]
-
-pub attributes : (x : Option Cell) → unwrap_or (some_number_in x) (pos 0) ≡ number_in x
-attributes None = refl
-attributes (Some (cell.Text text)) = refl
-attributes (Some (cell.Integer z)) = refl
-attributes (Some (cell.Code code)) = refl
-attributes (Some (cell.Condition text tree)) = refl
-
-no_row : (o : Option Row) → option_map (λ (r : Row). Compressed (text_at r 0)) o ≡ None → o ≡ None
+no_row : (o : Option FileRow) → option_map (λ (r : FileRow). Compressed r.file) o ≡ None → o ≡ None
 no_row None e = refl
 no_row (Some r) e = cc
 
-none_passes : (test : Row → Bool) (rows : List Row) → find test rows ≡ None → (n : ℕ) → n < length rows → test (get_or rows n []) ≡ false
-none_passes test [] e n lt = absurd (omega arith)
-none_passes test (r ∷ rows) e zero lt = (first test r rows e).0
-  where
-    first : (test : Row → Bool) (r : Row) (rows : List Row) → cond (test r) (Some r) (find test rows) ≡ None → (test r ≡ false) × (find test rows ≡ None)
-    first test r rows e = elim (cases_Bool (test r)) [
-      | inl on ↦ let some : Some r ≡ None = sym (ap (λ b. cond b (Some r) (find test rows)) on) ∙ e in absurd cc
-      | inr off ↦ (off, sym (ap (λ b. cond b (Some r) (find test rows)) off) ∙ e)
-    ]
-none_passes test (r ∷ rows) e (suc n) lt = elim (cases_Bool (test r)) [
+first : (test : FileRow → Bool) (r : FileRow) (rows : List FileRow) → cond (test r) (Some r) (find test rows) ≡ None → (test r ≡ false) × (find test rows ≡ None)
+first test r rows e = elim (cases_Bool (test r)) [
   | inl on ↦ let some : Some r ≡ None = sym (ap (λ b. cond b (Some r) (find test rows)) on) ∙ e in absurd cc
-  | inr off ↦ none_passes test rows (sym (ap (λ b. cond b (Some r) (find test rows)) off) ∙ e) n (omega arith)
+  | inr off ↦ (off, sym (ap (λ b. cond b (Some r) (find test rows)) off) ∙ e)
 ]
 
-pub no_file : (source : Bool) (rows : List Row) → file_fault source rows ≡ None → (n : ℕ) → n < length rows → is_compressed source (get_or rows n []) ≡ false
-no_file source rows e n lt = none_passes (is_compressed source) rows (no_row (find (is_compressed source) rows) e) n lt
+none_passes : (test : FileRow → Bool) (rows : List FileRow) → find test rows ≡ None → (n : ℕ) (d : FileRow) → n < length rows → test (get_or rows n d) ≡ false
+none_passes test [] e n d lt = absurd (omega arith)
+none_passes test (r ∷ rows) e zero d lt = (first test r rows e).0
+none_passes test (r ∷ rows) e (suc n) d lt = none_passes test rows (first test r rows e).1 n d (omega arith)
+
+pub no_file : (source : Bool) (rows : List FileRow) → file_fault source rows ≡ None → (n : ℕ) (d : FileRow) → n < length rows → is_compressed source (get_or rows n d) ≡ false
+no_file source rows e n d lt = none_passes (is_compressed source) rows (no_row (find (is_compressed source) rows) e) n d lt
 
 pub neither : (a b : Bool) → (a || b) ≡ false → (a ≡ false) × (b ≡ false)
 neither true b e = cc
 neither false b e = (refl, e)
 
-pub without : (a b : Bool) → (a && b) ≡ false → a ≡ true → not b ≡ true
-without true true e on = cc
-without true false e on = refl
+pub without : (a b : Bool) → (a && not b) ≡ false → a ≡ true → b ≡ true
+without true true e on = refl
+without true false e on = cc
 without false b e on = cc

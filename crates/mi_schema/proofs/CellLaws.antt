@@ -1,26 +1,29 @@
 -- What each value of a table without a fault meets, by its place.
-use Rattle.std.proofs.Common.{◌≡◌, ℕ, zero, suc, ◌+◌, ◌<◌, Bool, true, false, cond, List, [], ◌∷◌, ◌++◌, length, map, take, get_or, append_assoc, Option, Some, None, Result, Ok, Err, refl, sym, ap, subst, arith, inl, inr}
-use Rattle.std.specs.Prelude.{option_map}
+use Rattle.std.proofs.Common.{◌≡◌, ℕ, zero, suc, ◌+◌, ◌<◌, Bool, true, false, cond, List, [], ◌∷◌, ◌++◌, length, map, take, get_or, append_assoc, Option, Some, None, Result, Ok, Err, refl, sym, ap, subst, ◌∙◌, arith, inl, inr}
+use Rattle.std.specs.Prelude.{option_map, find}
+use Rattle.std.specs.Str.{bytes_eq}
 use Rattle.std.proofs.lemmas.List.{append-nil}
 use Rattle.mi_text.specs.FileNames.{is_file_name, is_file_pattern}
 use Rattle.mi_text.specs.Maps.{Name}
 use Rattle.mi_base.specs.declared.answers.Fault.{Fault}
-use Rattle.mi_base.specs.declared.answers.Fault.TheVariants.{Reference}
 use Rattle.mi_idt.specs.Cells as raw
 use Rattle.mi_cond.specs.Tree.{Tree}
 use Rattle.mi_schema.specs.declared.cell.Cell.{Cell}
 use Rattle.mi_schema.specs.declared.cell.Cell.TheVariants as cell
+use Rattle.mi_schema.specs.declared.known.Known.{Known}
+use Rattle.mi_schema.specs.declared.known.Known.TheVariants as known
 use Rattle.mi_schema.specs.declared.column.Kind.{Kind}
 use Rattle.mi_schema.specs.declared.column.Kind.TheVariants as kind
-use Rattle.mi_schema.specs.Checks.{Content, place_of_table, rows_at, refers, cells_reference, rows_reference, references_fault, required_fault, cycles_fault, compressed_fault, content_fault}
+use Rattle.mi_schema.specs.Checks.{Content, rows_at, first_fault, tables_fault, references_fault, required_fault, cycles_fault, compressed_fault, package_fault}
+use Rattle.mi_schema.specs.Listed.{Listed, Loaded, layout_of, table_of, listed, tables}
+use Rattle.mi_schema.specs.TableRows.{Rows}
 use Rattle.mi_schema.specs.Conditions.{condition_of}
-use Rattle.mi_schema.specs.Lawful.{AreRowsOf, AreTables}
-use Rattle.mi_schema.specs.Rows.{◌or_else◌, keys_of, rows_in, cell_fault, cells_fault, fault_at, row_fault, rows_fault}
+use Rattle.mi_schema.specs.Lawful.{AreRowsOf}
+use Rattle.mi_schema.specs.Rows.{◌or_else◌, table_fault, keys_of, rows_in, cell_fault, cells_fault, fault_at, row_fault, rows_fault}
 use Rattle.mi_schema.specs.Suits.{suits, all_suit, each_suits}
-use Rattle.mi_schema.specs.Tables.{Column, Table, tables}
+use Rattle.mi_schema.specs.Tables.{Column, Table}
 use Rattle.mi_schema.specs.Values.{Row, value_of, row_of, kind_fault, unless, place_of_fault, tree_of, meets}
 use Rattle.mi_schema.proofs.FitLemmas.{AllFit, front, back}
-use Rattle.mi_schema.proofs.LoadLemmas.{tables_long}
 use Rattle.mi_schema.proofs.SuitLemmas.{EachFits, or_none, map_none, allowed, faultless, rows_suit}
 
 -- the value of a row and a column, from 0
@@ -52,7 +55,6 @@ of_kind kind.Code nullable (raw.Text text) e = tt
 of_kind kind.Text nullable (raw.Text text) e = tt
 of_kind kind.Formatted nullable (raw.Text text) e = tt
 of_kind kind.Integer nullable (raw.Text text) e = tt
-of_kind (kind.KeyOf target) nullable (raw.Text text) e = tt
 
 module _ (table : Name) (number : ℕ) (keys : List Name) (before : List Row) where
   cells_stand : (column : ℕ) (front : Row) (cols : List Column) (cells : List raw.Cell) → cells_fault table number keys before column front cols cells ≡ None → AllFit cols cells → (i : ℕ) (d : Column) → i < length cols
@@ -106,71 +108,48 @@ each_suit_at cs (row ∷ rows) on (suc n) lt = each_suit_at cs rows (back (all_s
 pub suits_at : (t : Table) (rows : List Row) → AreRowsOf t rows → (n i : ℕ) (d : Column) → n < length rows → i < length t.columns → (suits (get_or t.columns i d) (value_at rows n i) ≡ true) × (i < length (get_or rows n []))
 suits_at t rows are n i d there lt = suit_at t.columns (get_or rows n []) (each_suit_at t.columns rows (rows_suit t rows are) n there) i d lt
 
--- ---- the tables, each at its place
+-- ---- the tables of the list
 
-table_at : (ts : List Table) (content : Content) → AreTables ts content → (i : ℕ) (d : Table) → i < length ts → AreRowsOf (get_or ts i d) (get_or content i [])
-table_at [] content are i d lt = absurd (omega arith)
-table_at (t ∷ ts) [] are i d lt = absurd are
-table_at (t ∷ ts) (rows ∷ more) are zero d lt = are.0
-table_at (t ∷ ts) (rows ∷ more) are (suc i) d lt = table_at ts more are.1 i d (omega arith)
+-- what is found among parts without a fault has none
+pub none_found : {X : Type 0} (f : X → Option Fault) (test : X → Bool) (xs : List X) (x : X) → find test xs ≡ Some x → first_fault f xs ≡ None → f x ≡ None
+none_found f test [] x e none = cc
+none_found f test (y ∷ ys) x e none =
+    let parts = or_none (f y) (first_fault f ys) none in
+    elim (test y) as (λ b. cond b (Some y) (find test ys) ≡ Some x → f x ≡ None) [
+      | true ↦ λ s. let same : y ≡ x = cc in ap f (sym same) ∙ parts.0
+      | false ↦ λ s. none_found f test ys x s parts.1
+    ] e
 
--- a table of the list
 pub record IsKnown (t : Table) : Type 0 where
-  pub below : place_of_table t < 45
-  pub there : get_or tables (place_of_table t) t ≡ t
+  pub there : find (λ (u : Table). bytes_eq t.name u.name) tables ≡ Some t
 
-pub of_table : (content : Content) → AreTables tables content → (t : Table) → IsKnown t → AreRowsOf t (rows_at content t)
-of_table content are t known = subst (λ (u : Table). AreRowsOf u (rows_at content t)) known.there (table_at tables content are (place_of_table t) t (omega (arith, tables_long, known.below)))
+pub is_known : (k : Known) → IsKnown (layout_of k)
+unfolding listed
+is_known = elim [ known.Component ↦ record { there = refl } | other ↦ record { there = refl } ]
 
--- ---- references
+pub is_listed : (k : Known) → find (λ (l : Listed). bytes_eq (layout_of k).name (table_of l).name) listed ≡ Some (Loaded k)
+unfolding listed
+is_listed = elim [ known.Component ↦ refl | other ↦ refl ]
 
-cells_refer : (content : Content) (table : Name) (number : ℕ) (row : Row) (column : ℕ) (cs : List Column) (xs : Row) → cells_reference content table number row column cs xs ≡ None → (i : ℕ) (d : Column) → i < length cs → i < length xs → refers (get_or cs i d) content row (get_or xs i None) ≡ true
-cells_refer content table number row column [] xs none i d lt there = absurd (omega arith)
-cells_refer content table number row column (c ∷ cs) [] none i d lt there = absurd (omega arith)
-cells_refer content table number row column (c ∷ cs) (x ∷ xs) none zero d lt there =
-    let parts = or_none (cond (refers c content row x) None (Some (Reference table number column))) (cells_reference content table number row (column + 1) cs xs) none in
-    no_fault (refers c content row x) (Reference table number column) parts.0
-  where
-    no_fault : (b : Bool) (f : Fault) → cond b None (Some f) ≡ None → b ≡ true
-    no_fault true f e = refl
-    no_fault false f e = cc
-cells_refer content table number row column (c ∷ cs) (x ∷ xs) none (suc i) d lt there =
-    let parts = or_none (cond (refers c content row x) None (Some (Reference table number column))) (cells_reference content table number row (column + 1) cs xs) none in
-    cells_refer content table number row (column + 1) cs xs parts.1 i d (omega arith) (omega arith)
+-- no table has a fault
+abbrev pub AreTables : Content → Type 0
+AreTables content = tables_fault content tables ≡ None
 
-rows_refer : (content : Content) (t : Table) (number : ℕ) (rows : List Row) → rows_reference content t number rows ≡ None → (n i : ℕ) (d : Column) → n < length rows → i < length t.columns → i < length (get_or rows n []) → refers (get_or t.columns i d) content (get_or rows n []) (value_at rows n i) ≡ true
-rows_refer content t number [] none n i d there lt in_row = absurd (omega arith)
-rows_refer content t number (row ∷ rows) none zero i d there lt in_row =
-    let parts = or_none (cells_reference content t.name number row 1 t.columns row) (rows_reference content t (number + 1) rows) none in
-    cells_refer content t.name number row 1 t.columns row parts.0 i d lt in_row
-rows_refer content t number (row ∷ rows) none (suc n) i d there lt in_row =
-    let parts = or_none (cells_reference content t.name number row 1 t.columns row) (rows_reference content t (number + 1) rows) none in
-    rows_refer content t (number + 1) rows parts.1 n i d (omega arith) lt in_row
+pub of_table : (content : Content) → AreTables content → (t : Table) → IsKnown t → AreRowsOf t (rows_at content t)
+of_table content are t there = (content t.name, (none_found (λ (u : Table). table_fault u (content u.name)) (λ (u : Table). bytes_eq t.name u.name) tables t there.there are, refl))
 
-tables_refer : (content : Content) (ts : List Table) (more : Content) → references_fault content ts more ≡ None → AreTables ts more → (i : ℕ) (d : Table) → i < length ts → rows_reference content (get_or ts i d) 1 (get_or more i []) ≡ None
-tables_refer content [] more none are i d lt = absurd (omega arith)
-tables_refer content (t ∷ ts) [] none are i d lt = absurd are
-tables_refer content (t ∷ ts) (rows ∷ more) none are zero d lt = (or_none (rows_reference content t 1 rows) (references_fault content ts more) none).0
-tables_refer content (t ∷ ts) (rows ∷ more) none are (suc i) d lt = tables_refer content ts more (or_none (rows_reference content t 1 rows) (references_fault content ts more) none).1 are.1 i d (omega arith)
+-- ---- the parts of what the rows of all tables meet together
 
--- the parts of what the rows of all tables meet together
-pub record IsRight (content : Content) : Type 0 where
-  pub required : required_fault content ≡ None
-  pub refer : references_fault content tables content ≡ None
-  pub chains : cycles_fault content ≡ None
-  pub compressed : compressed_fault content ≡ None
+pub record IsRight (rows : Rows) : Type 0 where
+  pub required : required_fault rows ≡ None
+  pub refer : references_fault rows ≡ None
+  pub chains : cycles_fault rows ≡ None
+  pub compressed : compressed_fault rows ≡ None
 
-pub right_parts : (content : Content) → content_fault content ≡ None → IsRight content
-unfolding content_fault
-right_parts content none =
-    let first = or_none (required_fault content) (references_fault content tables content or_else cycles_fault content or_else compressed_fault content) none in
-    let second = or_none (references_fault content tables content) (cycles_fault content or_else compressed_fault content) first.1 in
-    let third = or_none (cycles_fault content) (compressed_fault content) second.1 in
+pub right_parts : (rows : Rows) → package_fault rows ≡ None → IsRight rows
+unfolding package_fault
+right_parts rows none =
+    let first = or_none (required_fault rows) (references_fault rows or_else cycles_fault rows or_else compressed_fault rows) none in
+    let second = or_none (references_fault rows) (cycles_fault rows or_else compressed_fault rows) first.1 in
+    let third = or_none (cycles_fault rows) (compressed_fault rows) second.1 in
     record { required = first.0; refer = second.0; chains = third.0; compressed = third.1 }
-
--- each value refers to rows that are there
-pub refers_at : (content : Content) → AreTables tables content → references_fault content tables content ≡ None → (t : Table) → IsKnown t → (n i : ℕ) (d : Column) → n < length (rows_at content t) → i < length t.columns
-    → refers (get_or t.columns i d) content (get_or (rows_at content t) n []) (value_at (rows_at content t) n i) ≡ true
-refers_at content are none t known n i d there lt =
-    let rows = subst (λ (u : Table). rows_reference content u 1 (rows_at content t) ≡ None) known.there (tables_refer content tables content none are (place_of_table t) t (omega (arith, tables_long, known.below))) in
-    rows_refer content t 1 (rows_at content t) rows n i d there lt (suits_at t (rows_at content t) (of_table content are t known) n i d there lt).1

@@ -1,6 +1,6 @@
 -- Chains of parents end at a row without one.
-use Rattle.std.proofs.Common.{◌≡◌, ◌⊎◌, ℕ, zero, suc, ◌+◌, ◌<◌, not, Bool, true, false, cond, ◌||◌, List, [], ◌∷◌, length, map, get_or, Option, Some, None, refl, sym, ap, subst, ◌∙◌, arith, inl, inr}
-use Rattle.std.specs.Prelude.{option_map, option_and_then, find, IfSome, Contains}
+use Rattle.std.proofs.Common.{◌≡◌, ◌⊎◌, ℕ, zero, suc, ◌+◌, ◌<◌, not, Bool, true, false, cond, ◌||◌, List, [], ◌∷◌, length, map, get_or, Option, Some, None, refl, sym, ap, ◌∙◌, arith, inl, inr}
+use Rattle.std.specs.Prelude.{option_map, option_and_then, find, All, IfSome, Contains}
 use Rattle.std.proofs.lemmas.Bool.{cases_Bool}
 use Rattle.std.proofs.lemmas.List.{length-map}
 use Rattle.mi_text.specs.Maps.{Name, same_name}
@@ -10,14 +10,11 @@ use Rattle.mi_base.specs.declared.answers.Fault.TheVariants.{Cycle}
 use Rattle.mi_dirs.specs.Chains.{ends_in, root_or}
 use Rattle.mi_dirs.specs.Order.{parent_in}
 use Rattle.mi_dirs.specs.Faults.{numbers_from}
-use Rattle.mi_schema.specs.declared.column.Target.{Target}
-use Rattle.mi_schema.specs.Checks.{row_with, parent_key, parents_of, ends_at, endless_row, chain_fault, target_table}
+use Rattle.mi_schema.specs.Checks.{row_with, parents_of, ends_at, endless_row, chain_fault}
 use Rattle.mi_schema.specs.Laws.{EndsWithin, ChainsEnd}
-use Rattle.mi_schema.specs.Package.{keyed}
-use Rattle.mi_schema.specs.Rows.{keys_of}
-use Rattle.mi_schema.specs.Values.{Row, text_at, is_key_in}
-use Rattle.mi_schema.proofs.CheckLemmas.{parent_in_table}
-use Rattle.mi_schema.proofs.ReferenceLaws.{each_keyed, keyed_has, keyed_long}
+use Rattle.mi_schema.specs.RowsOf.{behind}
+use Rattle.mi_schema.specs.Values.{is_key_in}
+use Rattle.mi_schema.proofs.ReferenceLaws.{behind_at, behind_long}
 
 -- ---- no row is endless
 
@@ -41,53 +38,70 @@ not_false : (b : Bool) → not b ≡ false → b ≡ true
 not_false true e = refl
 not_false false e = cc
 
-pub chain_ends : (target : Target) (rows : List Row) → chain_fault target rows ≡ None → (n : ℕ) → n < length rows → ends_at (parents_of target rows) n ≡ true
-chain_ends target rows e n lt =
-    let ps : List (Option ℕ) = parents_of target rows in
-    let none : endless_row ps ≡ None = no_number (endless_row ps) (λ row. Cycle (target_table target).name (row + 1)) e in
-    let long : length ps ≡ length rows = length-map rows (parent_in_table target rows) in
+pub chain_ends : {R : Type 0} (table : Name) (key : R → Name) (parent : R → Option Name) (rows : List R) → chain_fault table key parent rows ≡ None → (n : ℕ) → n < length rows → ends_at (parents_of key parent rows) n ≡ true
+chain_ends table key parent rows e n lt =
+    let ps : List (Option ℕ) = parents_of key parent rows in
+    let none : endless_row ps ≡ None = no_number (endless_row ps) (λ row. Cycle table (row + 1)) e in
+    let long : length ps ≡ length rows = length-map rows (λ r. option_and_then (row_with (map key rows)) (parent r)) in
     not_false (ends_at ps n) (ap (λ k. not (ends_at ps k)) (let same : n ≡ 0 + n = omega arith in same) ∙ none_found (λ row. not (ends_at ps row)) ps 0 none n (omega (arith, long, lt)))
 
 -- ---- each parent is a row
 
-parent_of_row : (f : Row → Option ℕ) (rows : List Row) (n : ℕ) → n < length rows → parent_in (map f rows) n ≡ f (get_or rows n [])
-parent_of_row f [] n lt = absurd (omega arith)
-parent_of_row f (r ∷ rows) zero lt = refl
-parent_of_row f (r ∷ rows) (suc n) lt = parent_of_row f rows n (omega arith)
+parent_of_row : {R : Type 0} (f : R → Option ℕ) (rows : List R) (n : ℕ) (d : R) → n < length rows → parent_in (map f rows) n ≡ f (get_or rows n d)
+parent_of_row f [] n d lt = absurd (omega arith)
+parent_of_row f (r ∷ rows) zero d lt = refl
+parent_of_row f (r ∷ rows) (suc n) d lt = parent_of_row f rows n d (omega arith)
 
 -- the first row of a key
-pub found_first : (rows : List Row) (q : Name) → is_key_in (keys_of rows) q ≡ true → (j : ℕ) × (row_with (keys_of rows) q ≡ Some j) × (j < length rows) × (text_at (get_or rows j []) 0 ≡ q)
-found_first [] q e = cc
-found_first (r ∷ rows) q e = elim (cases_Bool (same_name q (text_at r 0))) [
-  | inl same ↦ (0, ap (λ b. cond b (Some 0) (option_map suc (row_with (keys_of rows) q))) same, omega arith, sym (from_same q (text_at r 0) same))
+pub found_first : {R : Type 0} (key : R → Name) (rows : List R) (q : Name) → is_key_in (map key rows) q ≡ true → (j : ℕ) × (row_with (map key rows) q ≡ Some j) × (j < length rows) × ((d : R) → key (get_or rows j d) ≡ q)
+found_first key [] q e = cc
+found_first key (r ∷ rows) q e = elim (cases_Bool (same_name q (key r))) [
+  | inl same ↦ (0, ap (λ b. cond b (Some 0) (option_map suc (row_with (map key rows) q))) same, omega arith, λ d. sym (from_same q (key r) same))
   | inr other ↦
-      let rest = found_first rows q (sym (ap (λ b. b || is_key_in (keys_of rows) q) other) ∙ e) in
-      (suc rest.0, ap (λ b. cond b (Some 0) (option_map suc (row_with (keys_of rows) q))) other ∙ ap (option_map suc) rest.1, (let lt = rest.2 in omega (arith, lt)), rest.3)
+      let rest = found_first key rows q (sym (ap (λ b. b || is_key_in (map key rows) q) other) ∙ e) in
+      (suc rest.0, ap (λ b. cond b (Some 0) (option_map suc (row_with (map key rows) q))) other ∙ ap (option_map suc) rest.1, (let lt = rest.2 in omega (arith, lt)), rest.3)
 ]
 
-module _ {R : Type 0} (row : Row → R) (target : Target) (parent : R → Option Name) (same : (r : Row) → parent (row r) ≡ parent_key target r)
-    (rows : List Row) (found : (n : ℕ) → n < length rows → IfSome (parent_key target (get_or rows n [])) (λ q. is_key_in (keys_of rows) q ≡ true)) where
-  abbrev key : Row → Name
-  key r = text_at r 0
+-- a place within a list has one element, whatever stands for those without
+pub get_any : {A : Type 0} (xs : List A) (n : ℕ) (d e : A) → n < length xs → get_or xs n d ≡ get_or xs n e
+get_any [] n d e lt = absurd (omega arith)
+get_any (x ∷ xs) zero d e lt = refl
+get_any (x ∷ xs) (suc n) d e lt = get_any xs n d e (omega arith)
 
-  abbrev entries : List (Name × R)
-  entries = keyed key row rows
+module _ {R : Type 0} (key : R → Name) (parent : R → Option Name) (entries : List (Name × R)) (own : All (λ e. e.0 ≡ key e.1) entries) (d : Name × R)
+    (found : (n : ℕ) → n < length entries → IfSome (parent (get_or entries n d).1) (λ q. is_key_in (map key (behind entries)) q ≡ true)) where
+  abbrev rows : List R
+  rows = behind entries
+
+  abbrev at : ℕ → R
+  at n = (get_or entries n d).1
 
   abbrev up : ℕ → Option ℕ
-  up = parent_in (parents_of target rows)
+  up = parent_in (parents_of key parent rows)
+
+  abbrev row_of : R → Option ℕ
+  row_of r = option_and_then (row_with (map key rows)) (parent r)
+
+  -- the row at a place is among the entries
+  has : (j : ℕ) → j < length entries → (q : Name) → key (at j) ≡ q → Contains entries (q, at j)
+  has j lt q is = (j, lt, get_any entries j (q, at j) d lt ∙ ap (λ (k : Name). (k, at j)) (own j d lt ∙ is))
+
+  up_is : (n : ℕ) → n < length entries → up n ≡ row_of (at n)
+  up_is n lt = parent_of_row row_of rows n d.1 (let long = behind_long entries in omega (arith, long, lt)) ∙ ap row_of (behind_at entries n d lt)
 
   -- a row has no parent, or the first row of its parent's key is one
-  step : (n : ℕ) → n < length rows → (o : Option Name) → parent_key target (get_or rows n []) ≡ o → IfSome o (λ q. is_key_in (keys_of rows) q ≡ true)
-      → ((parent (row (get_or rows n [])) ≡ None) × (up n ≡ None)) ⊎ ((q : Name) × (j : ℕ) × (parent (row (get_or rows n [])) ≡ Some q) × (up n ≡ Some j) × (j < length rows) × (text_at (get_or rows j []) 0 ≡ q))
-  step n lt None is known = inl (same (get_or rows n []) ∙ is, parent_of_row (parent_in_table target rows) rows n lt ∙ ap (option_and_then (row_with (keys_of rows))) is)
+  step : (n : ℕ) → n < length entries → (o : Option Name) → parent (at n) ≡ o → IfSome o (λ q. is_key_in (map key rows) q ≡ true)
+      → ((parent (at n) ≡ None) × (up n ≡ None)) ⊎ ((q : Name) × (j : ℕ) × (parent (at n) ≡ Some q) × (up n ≡ Some j) × (j < length entries) × (key (at j) ≡ q))
+  step n lt None is known = inl (is, up_is n lt ∙ ap (option_and_then (row_with (map key rows))) is)
   step n lt (Some q) is known =
-      let first = found_first rows q known in
-      inr (q, first.0, same (get_or rows n []) ∙ is, parent_of_row (parent_in_table target rows) rows n lt ∙ ap (option_and_then (row_with (keys_of rows))) is ∙ first.1, first.2, first.3)
+      let first = found_first key rows q known in
+      let below : first.0 < length entries = let long = behind_long entries in let lt = first.2 in omega (arith, long, lt) in
+      inr (q, first.0, is, up_is n lt ∙ ap (option_and_then (row_with (map key rows))) is ∙ first.1, below, ap key (sym (behind_at entries first.0 d below)) ∙ first.3 d.1)
 
-  here : (n : ℕ) → n < length rows → ((parent (row (get_or rows n [])) ≡ None) × (up n ≡ None)) ⊎ ((q : Name) × (j : ℕ) × (parent (row (get_or rows n [])) ≡ Some q) × (up n ≡ Some j) × (j < length rows) × (text_at (get_or rows j []) 0 ≡ q))
-  here n lt = step n lt (parent_key target (get_or rows n [])) refl (found n lt)
+  here : (n : ℕ) → n < length entries → ((parent (at n) ≡ None) × (up n ≡ None)) ⊎ ((q : Name) × (j : ℕ) × (parent (at n) ≡ Some q) × (up n ≡ Some j) × (j < length entries) × (key (at j) ≡ q))
+  here n lt = step n lt (parent (at n)) refl (found n lt)
 
-  ends : (steps n : ℕ) → n < length rows → ends_in up (suc steps) n ≡ true → EndsWithin parent entries steps (row (get_or rows n []))
+  ends : (steps n : ℕ) → n < length entries → ends_in up (suc steps) n ≡ true → EndsWithin parent entries steps (at n)
   ends zero n lt on = elim (here n lt) [
     | inl none ↦ none.0
     | inr some ↦ let wrong : false ≡ true = sym (ap (root_or (λ k. false)) some.3) ∙ on in absurd cc
@@ -96,16 +110,13 @@ module _ {R : Type 0} (row : Row → R) (target : Target) (parent : R → Option
     | inl none ↦ inl none.0
     | inr some ↦
         let more : ends_in up (suc steps) some.1 ≡ true = sym (ap (root_or (ends_in up (suc steps))) some.3) ∙ on in
-        inr (some.0, row (get_or rows some.1 []), some.2, subst (λ (q : Name). Contains entries (q, row (get_or rows some.1 []))) some.5 (keyed_has key row rows some.1 some.4), ends steps some.1 some.4 more)
+        inr (some.0, at some.1, some.2, has some.1 some.4 some.0 some.5, ends steps some.1 some.4 more)
   ]
 
-  rows_end : ((n : ℕ) → n < length rows → ends_at (parents_of target rows) n ≡ true) → ChainsEnd parent entries
-  rows_end all =
-      let long : length (parents_of target rows) ≡ length entries = length-map rows (parent_in_table target rows) ∙ sym (keyed_long key row rows) in
-      each_keyed key row (λ e. EndsWithin parent entries (length entries) e.1) rows entries refl
-      (λ n lt. ends (length entries) n lt (ap (λ (m : ℕ). ends_in up (suc m) n) (sym long) ∙ all n lt))
-
 -- the chains of all rows end
-pub chains_end : {R : Type 0} (row : Row → R) (target : Target) (parent : R → Option Name) → ((r : Row) → parent (row r) ≡ parent_key target r) → (rows : List Row) → ((n : ℕ) → n < length rows → IfSome (parent_key target (get_or rows n [])) (λ q. is_key_in (keys_of rows) q ≡ true))
-    → chain_fault target rows ≡ None → (held : List (Name × R)) → held ≡ keyed (λ r. text_at r 0) row rows → ChainsEnd parent held
-chains_end row target parent same rows found none held is = subst (ChainsEnd parent) (sym is) (rows_end row target parent same rows found (chain_ends target rows none))
+pub chains_end : {R : Type 0} (table : Name) (key : R → Name) (parent : R → Option Name) (entries : List (Name × R)) → All (λ e. e.0 ≡ key e.1) entries
+    → ((n : ℕ) (d : Name × R) → n < length entries → IfSome (parent (get_or entries n d).1) (λ q. is_key_in (map key (behind entries)) q ≡ true)) → chain_fault table key parent (behind entries) ≡ None → ChainsEnd parent entries
+chains_end table key parent entries own found none = λ n d lt.
+    let long : length (parents_of key parent (behind entries)) ≡ length entries = length-map (behind entries) (λ r. option_and_then (row_with (map key (behind entries))) (parent r)) ∙ behind_long entries in
+    ends key parent entries own d (λ k. found k d) (length entries) n lt
+    (ap (λ (m : ℕ). ends_in (parent_in (parents_of key parent (behind entries))) (suc m) n) (sym long) ∙ chain_ends table key parent (behind entries) none n (let same = behind_long entries in omega (arith, same, lt)))

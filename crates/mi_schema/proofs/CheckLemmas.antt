@@ -1,114 +1,108 @@
--- The checks over all tables, row by row.
-use Rattle.std.proofs.Common.{◌≡◌, ℕ, zero, suc, ◌+◌, ◌*◌, ◌-◌, ◌/◌, ◌%◌, ◌<◌, ◌≤◌, Bool, true, false, not, cond, List, [], ◌∷◌, ◌++◌, length, map, take, drop, get_or, refl, sym, ap, subst, ◌∙◌, arith, Option, Some, None, Vec, add-one}
+-- The checks over the rows of a package, row by row.
+use Rattle.std.proofs.Common.{◌||◌, ◌≡◌, ℕ, zero, suc, ◌+◌, ◌*◌, ◌-◌, ◌/◌, ◌%◌, ◌<◌, Bool, true, false, not, cond, List, [], ◌∷◌, ◌++◌, length, map, drop, get_or, refl, sym, ap, ◌∙◌, arith, append_assoc, Option, Some, None, add-one, inl, inr}
 use Rattle.std.proofs.Math.Seq.{drop-cons}
-use Rattle.std.specs.Prelude.{option_map, option_and_then, slice_get, find}
+use Rattle.std.specs.Prelude.{option_map, option_and_then, slice_get, find, is_some, unwrap_or, position, nat_lt, nat_eq}
+use Rattle.std.specs.Map.{keys_of, lookup}
 use Rattle.std.specs.Option.{option_flatten}
-use Rattle.std.specs.Global.{Global}
-use Rattle.std.proofs.lemmas.List.{length-map, map-append}
+use Rattle.std.specs.List.{list_any, position_or_len}
+use Rattle.std.specs.Cmp.Lexicographic.{pointwise, bytes_decides}
+use Rattle.std.proofs.lemmas.Bool.{cases_Bool}
+use Rattle.std.proofs.lemmas.Bool.Decides.{nat_tests}
+use Rattle.std.proofs.lemmas.List.{length-map}
 use Rattle.mi_text.specs.Maps.{Name, same_name}
+use Rattle.mi_text.proofs.MapLemmas.{from_same, same_itself}
 use Rattle.mi_base.specs.declared.answers.Fault.{Fault}
-use Rattle.mi_base.specs.declared.answers.Fault.TheVariants.{Reference, Compressed}
+use Rattle.mi_base.specs.declared.answers.Fault.TheVariants.{Reference, Compressed, MissingProperty}
 use Rattle.mi_idt.specs.Fields.{number_on}
 use Rattle.mi_dirs.specs.Chains.{ends_in}
 use Rattle.mi_dirs.specs.Order.{parent_in, AreRows, IsFirstEndless}
 use Rattle.mi_dirs.specs.Places.{first_row}
 use Rattle.mi_dirs.proofs.FaultLemmas.{find_none, find_at}
-use Rattle.mi_schema.specs.declared.cell.Cell.{Cell}
-use Rattle.mi_schema.specs.declared.column.Column.{Column as Listed}
-use Rattle.mi_schema.specs.declared.column.Target.{Target}
-use Rattle.mi_schema.specs.declared.held.Rows.{Rows}
-use Rattle.mi_schema.specs.declared.content.Content.{Content as Kept}
-use Rattle.mi_schema.specs.Held.{content_as}
-use Rattle.mi_schema.specs.Checks.{Content, refers, cells_reference, rows_reference, references_fault, row_with, parent_key, parents_of, ends_at, endless_row, is_word_count, number_or_zero, word_count, is_compressed, file_fault}
-use Rattle.mi_schema.specs.Described.{column_as}
-use Rattle.mi_schema.specs.Read.{rows_as}
-use Rattle.mi_schema.specs.Rows.{◌or_else◌, keys_of}
-use Rattle.mi_schema.specs.Tables.{Column, Table}
-use Rattle.mi_schema.specs.Values.{Row, text_at}
-use Rattle.mi_schema.proofs.ListLemmas.{map_next, map_next_item, map_done_item, next_item}
+use Rattle.mi_schema.specs.declared.typed_rows.FileRow.{FileRow}
+use Rattle.mi_schema.specs.declared.typed_rows.PropertyRow.{PropertyRow}
+use Rattle.mi_schema.specs.declared.typed_rows.SummaryInformationRow.{SummaryInformationRow}
+use Rattle.mi_schema.specs.Checks.{row_with, parents_of, ends_at, endless_row, first_fault, missing_property, references_fault}
+use Rattle.mi_schema.specs.declared.known.Known.{Known}
+use Rattle.mi_schema.specs.declared.tables.Listed.{Listed as InCode}
+use Rattle.mi_schema.specs.declared.tables.Listed.TheVariants as code
+use Rattle.mi_schema.specs.Listed.{listed, listed_as}
+use Rattle.mi_schema.specs.TableRows.{Rows}
+use Rattle.mi_schema.specs.References.{first_dangling, rows_dangling, table_dangling}
+use Rattle.mi_schema.specs.Rows.{◌or_else◌}
+use Rattle.mi_schema.specs.Source.{is_word_count, number_or_zero, word_count, is_compressed, file_fault}
+use Rattle.mi_schema.specs.Values.{is_key_in}
 
-abbrev pub Items : Type 0
-Items = Vec (Option Cell) Global
+-- ---- keys
 
--- ---- the rows of a table, one by one
+-- a key is found among the entries exactly where it is one of the keys
+pub key_found : {K R : Type 0} (test : K → Bool) (entries : List (K × R)) → is_some (lookup test entries) ≡ list_any test (keys_of entries)
+key_found test [] = refl
+key_found test (e ∷ es) = elim (test e.0) as (λ b. is_some (cond b (Some e.1) (lookup test es)) ≡ (b || list_any test (keys_of es))) [ true ↦ refl | false ↦ key_found test es ]
 
-pub rows_next : (held : Rows) (items : List Items) (i : ℕ) (row : Items) → items ≡ held.rows.items → row ≡ get_or items i row → i < length items → drop i (rows_as held) ≡ row.items ∷ drop (i + 1) (rows_as held)
-rows_next held items i row same is lt =
-    subst (λ (l : List Items). drop i (map (λ (r : Items). r.items) l) ≡ row.items ∷ drop (i + 1) (map (λ (r : Items). r.items) l)) same (map_next_item (λ (r : Items). r.items) items i row is lt)
+lt_suc : (n m : ℕ) → nat_lt (suc n) (suc m) ≡ nat_lt n m
+lt_suc n m = elim (cases_Bool (nat_lt n m)) [
+  | inl on ↦ let h : nat_lt (suc n) (suc m) ≡ true = grind (arith, nat_tests, on) in h ∙ sym on
+  | inr off ↦ let h : nat_lt (suc n) (suc m) ≡ false = grind (arith, nat_tests, off) in h ∙ sym off
+]
 
-rows_done : (held : Rows) (items : List Items) (i : ℕ) (row : Items) → items ≡ held.rows.items → row ≡ get_or items i row → i < length items → take (i + 1) (rows_as held) ≡ take i (rows_as held) ++ row.items ∷ []
-rows_done held items i row same is lt =
-    subst (λ (l : List Items). take (i + 1) (map (λ (r : Items). r.items) l) ≡ take i (map (λ (r : Items). r.items) l) ++ row.items ∷ []) same (map_done_item (λ (r : Items). r.items) items i row is lt)
+one_on : (n m : ℕ) → cond {A = Option ℕ} (nat_lt (1 + n) (suc m)) (Some (1 + n)) None ≡ option_map suc (cond (nat_lt n m) (Some n) None)
+one_on n m =
+    let e : 1 + n ≡ suc n = omega arith in
+    ap (λ k. cond {A = Option ℕ} (nat_lt k (suc m)) (Some k) None) e ∙ ap (λ b. cond {A = Option ℕ} b (Some (suc n)) None) (lt_suc n m)
+    ∙ elim (nat_lt n m) as (λ b. cond {A = Option ℕ} b (Some (suc n)) None ≡ option_map suc (cond b (Some n) None)) [ true ↦ refl | false ↦ refl ]
+
+here_on : (m : ℕ) → cond {A = Option ℕ} (nat_lt 0 (suc m)) (Some 0) None ≡ Some 0
+here_on m = by (nat_lt 0 (suc m)) (grind (arith, nat_tests))
+  where
+    by : (b : Bool) → b ≡ true → cond {A = Option ℕ} b (Some 0) None ≡ Some 0
+    by true e = refl
+    by false e = cc
+
+-- and its place is that of the first row of the key
+pub place_found : {K : Type 0} (test : K → Bool) (keys : List K) → position test keys ≡ first_row test keys
+place_found test [] = refl
+place_found test (k ∷ ks) = elim (cases_Bool (test k)) [
+  | inl on ↦ rw on (here_on (length ks))
+  | inr off ↦ rw off (one_on (position_or_len test ks) (length ks) ∙ ap (option_map suc) (place_found test ks))
+]
+
+-- the two ways to compare names
+pub same_is : (q k : Name) → pointwise nat_eq q k ≡ same_name q k
+same_is q k = elim (cases_Bool (pointwise nat_eq q k)) [
+  | inl on ↦ on ∙ sym (ap (λ n. same_name q n) (sym ((bytes_decides q k).0 on)) ∙ same_itself q)
+  | inr off ↦ off ∙ sym (other (same_name q k) refl off)
+]
+  where
+    other : (b : Bool) → same_name q k ≡ b → pointwise nat_eq q k ≡ false → b ≡ false
+    other true on off = let wrong : true ≡ false = sym ((bytes_decides q k).1 (from_same q k on)) ∙ off in cc
+    other false on off = refl
+
+pub same_all : (q : Name) → pointwise nat_eq q ≡ same_name q
+same_all q = λ i k. same_is q k i
+
+-- a key is there exactly where it is one of the keys
+pub has_key : {R : Type 0} (key : Name) (entries : List (Name × R)) (keys : List Name) → keys_of entries ≡ keys → is_some (lookup (pointwise nat_eq key) entries) ≡ is_key_in keys key
+has_key key entries keys is = key_found (pointwise nat_eq key) entries ∙ ap (λ (test : Name → Bool). list_any test (keys_of entries)) (same_all key) ∙ ap (λ (ks : List Name). is_key_in ks key) is
+
+pub place_of_key : (key : Name) (keys : List Name) → position (pointwise nat_eq key) keys ≡ row_with keys key
+place_of_key key keys = ap (λ (test : Name → Bool). position test keys) (same_all key) ∙ place_found (same_name key) keys
 
 -- ---- references
 
-module _ (content : Content) (table : Name) (number : ℕ) (row : Row) (listed : List Listed) (i : ℕ) (d : Listed) (x : Option Cell) (lt : i < length listed) (there : i < length row) (is : x ≡ get_or row i x)
-    (so : cells_reference content table number row (i + 1) (drop i (map column_as listed)) (drop i row) ≡ cells_reference content table number row 1 (map column_as listed) row) where
-  abbrev more : Option Fault
-  more = cells_reference content table number row (i + 1 + 1) (drop (i + 1) (map column_as listed)) (drop (i + 1) row)
+module _ {R : Type 0} (table : Name) (f : R → Option ℕ) (all s t : List R) (number : ℕ) (r : R) (so : first_dangling table f number s ≡ first_dangling table f 1 all) (next : s ≡ r ∷ t) where
+  abbrev later : Option Fault
+  later = first_dangling table f (number + 1) t
 
-  cells_here : cells_reference content table number row 1 (map column_as listed) row ≡ cond (refers (column_as (get_or listed i d)) content row x) None (Some (Reference table number (i + 1))) or_else more
-  cells_here = sym so ∙ ap (λ (cs : List Column). cells_reference content table number row (i + 1) cs (drop i row)) (map_next column_as listed i d lt)
-      ∙ ap (λ (xs : Row). cells_reference content table number row (i + 1) (column_as (get_or listed i d) ∷ drop (i + 1) (map column_as listed)) xs) (next_item row i x is there)
+  here : first_dangling table f 1 all ≡ option_map (Reference table number) (f r) or_else later
+  here = sym so ∙ ap (first_dangling table f number) next
 
-  pub refers_on : refers (column_as (get_or listed i d)) content row x ≡ true → more ≡ cells_reference content table number row 1 (map column_as listed) row
-  refers_on on = sym (cells_here ∙ ap (λ b. cond b None (Some (Reference table number (i + 1))) or_else more) on)
+  pub dangles_on : f r ≡ None → later ≡ first_dangling table f 1 all
+  dangles_on none = sym (here ∙ ap (λ (o : Option ℕ). option_map (Reference table number) o or_else later) none)
 
-  pub refers_not : refers (column_as (get_or listed i d)) content row x ≡ false → cells_reference content table number row 1 (map column_as listed) row ≡ Some (Reference table number (i + 1))
-  refers_not off = cells_here ∙ ap (λ b. cond b None (Some (Reference table number (i + 1))) or_else more) off
-
--- a row that ends early
-pub row_ends : (content : Content) (table : Name) (number : ℕ) (row : Row) (cols : List Column) (i : ℕ) → length row ≤ i → cells_reference content table number row (i + 1) (drop i cols) (drop i row) ≡ None
-row_ends content table number row cols i le = nothing (drop i cols) (drop i row) (past row i le)
-  where
-    past : {A : Type 0} (xs : List A) (i : ℕ) → length xs ≤ i → drop i xs ≡ []
-    past [] zero le = refl
-    past [] (suc i) le = refl
-    past (x ∷ xs) zero le = absurd (omega arith)
-    past (x ∷ xs) (suc i) le = past xs i (omega arith)
-
-    nothing : (cs : List Column) (xs : Row) → xs ≡ [] → cells_reference content table number row (i + 1) cs xs ≡ None
-    nothing [] xs e = refl
-    nothing (c ∷ cs) [] e = refl
-    nothing (c ∷ cs) (x ∷ xs) e = cc
-
-module _ (content : Content) (t : Table) (rows : List Row) (i : ℕ) (row : Row) (next : drop i rows ≡ row ∷ drop (i + 1) rows) (so : rows_reference content t (i + 1) (drop i rows) ≡ rows_reference content t 1 rows) where
-  abbrev later_rows : Option Fault
-  later_rows = rows_reference content t (i + 1 + 1) (drop (i + 1) rows)
-
-  rows_here : rows_reference content t 1 rows ≡ cells_reference content t.name (i + 1) row 1 t.columns row or_else later_rows
-  rows_here = sym so ∙ ap (rows_reference content t (i + 1)) next
-
-  pub rows_refer_on : cells_reference content t.name (i + 1) row 1 t.columns row ≡ None → later_rows ≡ rows_reference content t 1 rows
-  rows_refer_on none = sym (rows_here ∙ ap (λ (o : Option Fault). o or_else later_rows) none)
-
-  pub rows_refer_not : (f : Fault) → cells_reference content t.name (i + 1) row 1 t.columns row ≡ Some f → rows_reference content t 1 rows ≡ Some f
-  rows_refer_not f some = rows_here ∙ ap (λ (o : Option Fault). o or_else later_rows) some
-
-module _ (content : Content) (ts : List Table) (i : ℕ) (t : Table) (rows : List Row) (next : drop i ts ≡ t ∷ drop (i + 1) ts) (next_rows : drop i content ≡ rows ∷ drop (i + 1) content)
-    (so : references_fault content (drop i ts) (drop i content) ≡ references_fault content ts content) where
-  abbrev later_tables : Option Fault
-  later_tables = references_fault content (drop (i + 1) ts) (drop (i + 1) content)
-
-  tables_here : references_fault content ts content ≡ rows_reference content t 1 rows or_else later_tables
-  tables_here = sym so ∙ ap (λ (us : List Table). references_fault content us (drop i content)) next ∙ ap (λ (more : Content). references_fault content (t ∷ drop (i + 1) ts) more) next_rows
-
-  pub tables_refer_on : rows_reference content t 1 rows ≡ None → later_tables ≡ references_fault content ts content
-  tables_refer_on none = sym (tables_here ∙ ap (λ (o : Option Fault). o or_else later_tables) none)
-
-  pub tables_refer_not : (f : Fault) → rows_reference content t 1 rows ≡ Some f → references_fault content ts content ≡ Some f
-  tables_refer_not f some = tables_here ∙ ap (λ (o : Option Fault). o or_else later_tables) some
+  pub dangles_not : (column : ℕ) → f r ≡ Some column → first_dangling table f 1 all ≡ Some (Reference table number column)
+  dangles_not column some = here ∙ ap (λ (o : Option ℕ). option_map (Reference table number) o or_else later) some
 
 -- ---- chains of parents
-
-abbrev pub parent_in_table : Target → List Row → Row → Option ℕ
-parent_in_table target rows row = option_and_then (row_with (keys_of rows)) (parent_key target row)
-
-pub parents_more : (held : Rows) (target : Target) (items : List Items) (i : ℕ) (row : Items) (ps next : List (Option ℕ)) (p : Option ℕ) → items ≡ held.rows.items → row ≡ get_or items i row → i < length items
-    → ps ≡ map (parent_in_table target (rows_as held)) (take i (rows_as held)) → next ≡ ps ++ p ∷ [] → p ≡ parent_in_table target (rows_as held) row.items → next ≡ map (parent_in_table target (rows_as held)) (take (i + 1) (rows_as held))
-parents_more held target items i row ps next p same is lt so at parent =
-    at ∙ ap (λ (l : List (Option ℕ)). l ++ p ∷ []) so ∙ ap (λ (o : Option ℕ). map (parent_in_table target (rows_as held)) (take i (rows_as held)) ++ o ∷ []) parent
-    ∙ sym (ap (map (parent_in_table target (rows_as held))) (rows_done held items i row same is lt) ∙ map-append (parent_in_table target (rows_as held)) (take i (rows_as held)) (row.items ∷ []))
 
 first_below : {A : Type 0} (test : A → Bool) (xs : List A) (p : ℕ) → first_row test xs ≡ Some p → p < length xs
 first_below test [] p e = cc
@@ -122,25 +116,33 @@ first_below test (x ∷ xs) p e =
     behind None f h = cc
     behind (Some q) f h = let z : suc q ≡ p = cc in let lt = h q refl in omega (arith, z, lt)
 
-flat_below : (f : Row → Option ℕ) (n : ℕ) → ((r : Row) (p : ℕ) → f r ≡ Some p → p < n) → (rows : List Row) (i p : ℕ) → option_flatten (slice_get (map f rows) i) ≡ Some p → p < n
+flat_below : {R : Type 0} (f : R → Option ℕ) (n : ℕ) → ((r : R) (p : ℕ) → f r ≡ Some p → p < n) → (rows : List R) (i p : ℕ) → option_flatten (slice_get (map f rows) i) ≡ Some p → p < n
 flat_below f n h [] i p e = cc
 flat_below f n h (r ∷ rows) zero p e = h r p e
 flat_below f n h (r ∷ rows) (suc i) p e = flat_below f n h rows i p e
 
-parent_below : (target : Target) (rows : List Row) (row : Row) (p : ℕ) → parent_in_table target rows row ≡ Some p → p < length rows
-parent_below target rows row p e = by (parent_key target row) e
-  where
-    by : (o : Option Name) → option_and_then (row_with (keys_of rows)) o ≡ Some p → p < length rows
-    by None f = cc
-    by (Some q) f = let lt = first_below (same_name q) (keys_of rows) p f in let long = length-map rows (λ (r : Row). text_at r 0) in omega (arith, lt, long)
-
 -- each parent is a row
-pub are_rows : (target : Target) (rows : List Row) (ps : List (Option ℕ)) → ps ≡ parents_of target rows → AreRows (parent_in ps) (length ps)
-are_rows target rows ps is = λ row p e.
-    let at : option_flatten (slice_get (parents_of target rows) row) ≡ Some p = ap (λ (l : List (Option ℕ)). parent_in l row) (sym is) ∙ e in
-    let lt = flat_below (parent_in_table target rows) (length rows) (parent_below target rows) rows row p at in
-    let long = ap length is ∙ length-map rows (parent_in_table target rows) in
+pub are_rows : {R : Type 0} (key : R → Name) (parent : R → Option Name) (rows : List R) (ps : List (Option ℕ)) → ps ≡ parents_of key parent rows → AreRows (parent_in ps) (length ps)
+are_rows key parent rows ps is = λ row p e.
+    let f = λ (r : _). option_and_then (row_with (map key rows)) (parent r) in
+    let at : option_flatten (slice_get (parents_of key parent rows) row) ≡ Some p = ap (λ (l : List (Option ℕ)). parent_in l row) (sym is) ∙ e in
+    let lt = flat_below f (length rows) (λ r q h. below (parent r) q h) rows row p at in
+    let long = ap length is ∙ length-map rows f in
     omega (arith, lt, long)
+  where
+    below : (o : Option Name) (p : ℕ) → option_and_then (row_with (map key rows)) o ≡ Some p → p < length rows
+    below None p e = cc
+    below (Some q) p e = let lt = first_below (same_name q) (map key rows) p e in let long = length-map rows key in omega (arith, lt, long)
+
+pub parents_none : {R : Type 0} (f : R → Option ℕ) (ps : List (Option ℕ)) (s all : List R) → ps ≡ [] → s ≡ all → ps ++ map f s ≡ map f all
+parents_none f ps s all none is = ap (λ (l : List (Option ℕ)). l ++ map f s) none ∙ ap (map f) is
+
+pub parents_long : {R : Type 0} (key : R → Name) (parent : R → Option Name) (rows : List R) (ps : List (Option ℕ)) → ps ≡ parents_of key parent rows → length ps ≡ length rows
+parents_long key parent rows ps is = ap length is ∙ length-map rows (λ r. option_and_then (row_with (map key rows)) (parent r))
+
+pub parents_more : {R : Type 0} (f : R → Option ℕ) (ps next : List (Option ℕ)) (all s t : List R) (r : R) (p : Option ℕ) → ps ++ map f s ≡ map f all → s ≡ r ∷ t → next ≡ ps ++ p ∷ [] → p ≡ f r → next ++ map f t ≡ map f all
+parents_more f ps next all s t r p so is at parent =
+    ap (λ (l : List (Option ℕ)). l ++ map f t) at ∙ append_assoc ps (p ∷ []) (map f t) ∙ ap (λ (o : Option ℕ). ps ++ o ∷ map f t) parent ∙ sym (ap (λ (l : List _). ps ++ map f l) is) ∙ so
 
 pub none_endless : (ps : List (Option ℕ)) → ((row : ℕ) → row < length ps → ends_in (parent_in ps) (suc (length ps)) row ≡ true) → endless_row ps ≡ None
 none_endless ps ends = find_none (λ row. not (ends_at ps row)) ps 0 (λ k lt. ap (λ row. not (ends_at ps row)) (let e : 0 + k ≡ k = omega arith in e) ∙ ap not (ends k lt))
@@ -153,28 +155,25 @@ first_endless ps row h =
 
 -- ---- the form of the source files
 
-module _ (source : Bool) (rows : List Row) (i : ℕ) (row : Row) (next : drop i rows ≡ row ∷ drop (i + 1) rows) (so : file_fault source (drop i rows) ≡ file_fault source rows) where
-  file_found : Option Row → Option Fault
-  file_found o = option_map (λ r. Compressed (text_at r 0)) o
-
-  file_here : file_fault source rows ≡ option_map (λ r. Compressed (text_at r 0)) (cond (is_compressed source row) (Some row) (find (is_compressed source) (drop (i + 1) rows)))
+module _ (source : Bool) (all s t : List FileRow) (r : FileRow) (so : file_fault source s ≡ file_fault source all) (next : s ≡ r ∷ t) where
+  file_here : file_fault source all ≡ option_map (λ (f : FileRow). Compressed f.file) (cond (is_compressed source r) (Some r) (find (is_compressed source) t))
   file_here = sym so ∙ ap (file_fault source) next
 
-  pub file_on : is_compressed source row ≡ false → file_fault source (drop (i + 1) rows) ≡ file_fault source rows
-  file_on off = sym (file_here ∙ ap (λ b. option_map (λ r. Compressed (text_at r 0)) (cond b (Some row) (find (is_compressed source) (drop (i + 1) rows)))) off)
+  pub file_on : is_compressed source r ≡ false → file_fault source t ≡ file_fault source all
+  file_on off = sym (file_here ∙ ap (λ b. option_map (λ (f : FileRow). Compressed f.file) (cond b (Some r) (find (is_compressed source) t))) off)
 
-  pub file_not : is_compressed source row ≡ true → file_fault source rows ≡ Some (Compressed (text_at row 0))
-  file_not on = file_here ∙ ap (λ b. option_map (λ r. Compressed (text_at r 0)) (cond b (Some row) (find (is_compressed source) (drop (i + 1) rows)))) on
+  pub file_not : is_compressed source r ≡ true → file_fault source all ≡ Some (Compressed r.file)
+  file_not on = file_here ∙ ap (λ b. option_map (λ (f : FileRow). Compressed f.file) (cond b (Some r) (find (is_compressed source) t))) on
 
-module _ (rows : List Row) (i : ℕ) (row : Row) (next : drop i rows ≡ row ∷ drop (i + 1) rows) (so : word_count (drop i rows) ≡ word_count rows) where
-  count_here : word_count rows ≡ number_or_zero (cond (is_word_count row) (Some row) (find is_word_count (drop (i + 1) rows)))
+module _ (all s t : List SummaryInformationRow) (r : SummaryInformationRow) (so : word_count s ≡ word_count all) (next : s ≡ r ∷ t) where
+  count_here : word_count all ≡ number_or_zero (cond (is_word_count r) (Some r) (find is_word_count t))
   count_here = sym so ∙ ap word_count next
 
-  pub count_on : is_word_count row ≡ false → word_count (drop (i + 1) rows) ≡ word_count rows
-  count_on off = sym (count_here ∙ ap (λ b. number_or_zero (cond b (Some row) (find is_word_count (drop (i + 1) rows)))) off)
+  pub count_on : is_word_count r ≡ false → word_count t ≡ word_count all
+  count_on off = sym (count_here ∙ ap (λ b. number_or_zero (cond b (Some r) (find is_word_count t))) off)
 
-  pub count_found : is_word_count row ≡ true → word_count rows ≡ number_on 0 (text_at row 1)
-  count_found on = count_here ∙ ap (λ b. number_or_zero (cond b (Some row) (find is_word_count (drop (i + 1) rows)))) on
+  pub count_found : is_word_count r ≡ true → word_count all ≡ number_on 0 (unwrap_or r.value [])
+  count_found on = count_here ∙ ap (λ b. number_or_zero (cond b (Some r) (find is_word_count t))) on
 
 pub number_mod : (n m : ℕ) (ds : List ℕ) → n % 4 ≡ m % 4 → number_on n ds % 4 ≡ number_on m ds % 4
 number_mod n m [] e = e
@@ -194,10 +193,40 @@ low_step digits i bits k n lt is so =
     number_mod ((bits * 10 + k) % 4) (bits * 10 + (get_or digits i 0 - 48)) (drop (i + 1) digits) (omega (arith, is))
     ∙ sym (ap (λ ds. number_on bits ds % 4) (drop-cons digits i 0 lt ∙ ap (λ m. get_or digits i 0 ∷ drop m digits) (sym (add-one i)))) ∙ so
 
--- ---- the tables, one by one
+-- ---- properties
 
-pub content_next : (content : Kept) (i : ℕ) (rows : List Row) → rows ≡ get_or (content_as content) i [] → i < 45 → drop i (content_as content) ≡ rows ∷ drop (i + 1) (content_as content)
-content_next content i rows is lt =
-    let long : length (content_as content) ≡ length content.held.items = length-map content.held.items rows_as in
-    drop-cons (content_as content) i [] (omega (arith, long, content.full, content.held.ok, lt)) ∙ ap (λ n. get_or (content_as content) i [] ∷ drop n (content_as content)) (sym (add-one i))
-    ∙ ap (λ (r : List Row). r ∷ drop (i + 1) (content_as content)) (sym is)
+module _ (rows : List PropertyRow) (names : List Name) (i : ℕ) (name : Name) (next : drop i names ≡ name ∷ drop (i + 1) names) (so : first_fault (missing_property rows) (drop i names) ≡ first_fault (missing_property rows) names) where
+  name_here : first_fault (missing_property rows) names ≡ missing_property rows name or_else first_fault (missing_property rows) (drop (i + 1) names)
+  name_here = sym so ∙ ap (first_fault (missing_property rows)) next
+
+  pub name_on : is_key_in (map (λ (r : PropertyRow). r.property) rows) name ≡ true → first_fault (missing_property rows) (drop (i + 1) names) ≡ first_fault (missing_property rows) names
+  name_on on = sym (name_here ∙ ap (λ b. cond b None (Some (MissingProperty name)) or_else first_fault (missing_property rows) (drop (i + 1) names)) on)
+
+  pub name_not : is_key_in (map (λ (r : PropertyRow). r.property) rows) name ≡ false → first_fault (missing_property rows) names ≡ Some (MissingProperty name)
+  name_not off = name_here ∙ ap (λ b. cond b None (Some (MissingProperty name)) or_else first_fault (missing_property rows) (drop (i + 1) names)) off
+
+drops : {A B : Type 0} (f : A → B) (xs : List A) (i : ℕ) → map f (drop i xs) ≡ drop i (map f xs)
+drops f xs zero = refl
+drops f [] (suc i) = refl
+drops f (x ∷ xs) (suc i) = drops f xs i
+
+pub drop_map : {A : Type 0} (rows : List PropertyRow) (f : A → Name) (xs : List A) (i : ℕ) → first_fault (missing_property rows) (map f (drop i xs)) ≡ first_fault (missing_property rows) (map f xs) → first_fault (missing_property rows) (drop i (map f xs)) ≡ first_fault (missing_property rows) (map f xs)
+drop_map rows f xs i e = ap (first_fault (missing_property rows)) (sym (drops f xs i)) ∙ e
+
+pub map_drop : {A : Type 0} (rows : List PropertyRow) (f : A → Name) (xs : List A) (i : ℕ) → first_fault (missing_property rows) (drop i (map f xs)) ≡ first_fault (missing_property rows) (map f xs) → first_fault (missing_property rows) (map f (drop i xs)) ≡ first_fault (missing_property rows) (map f xs)
+map_drop rows f xs i e = ap (first_fault (missing_property rows)) (drops f xs i) ∙ e
+
+-- ---- the tables of the list
+
+listed_next : (items : List InCode) (i : ℕ) (d : InCode) → i < length items → map listed_as (drop i items) ≡ listed_as (get_or items i d) ∷ map listed_as (drop (suc i) items)
+listed_next [] i d lt = absurd (omega arith)
+listed_next (x ∷ xs) zero d lt = refl
+listed_next (x ∷ xs) (suc i) d lt = listed_next xs i d (omega arith)
+
+-- a known table of which a row dangles
+pub listed_fails : (rows : Rows) (items : List InCode) (i : ℕ) (d : InCode) (k : Known) → i < length items → get_or items i d ≡ code.Known k → map listed_as items ≡ listed
+    → first_fault (table_dangling rows) (map listed_as (drop i items)) ≡ first_fault (table_dangling rows) (map listed_as items) → (f : Fault) → rows_dangling rows k ≡ Some f → references_fault rows ≡ Some f
+listed_fails rows items i d k lt at is so f some =
+    ap (first_fault (table_dangling rows)) (sym is) ∙ sym so ∙ ap (first_fault (table_dangling rows)) (listed_next items i d lt)
+    ∙ ap (λ (x : InCode). table_dangling rows (listed_as x) or_else first_fault (table_dangling rows) (map listed_as (drop (suc i) items))) at
+    ∙ ap (λ (o : Option Fault). o or_else first_fault (table_dangling rows) (map listed_as (drop (suc i) items))) some

@@ -1,5 +1,5 @@
 -- Each text is a condition or has its one place, and which of the two the definition says.
-use Rattle.std.proofs.Common.{◌≡◌, ℕ, ◌≤◌, List, Some, None, Result, Ok, Err, sym, ap, subst, ◌∙◌, arith}
+use Rattle.std.proofs.Common.{◌≡◌, ℕ, ◌≤◌, List, Some, None, Result, Ok, Err, sym, ap, subst, arith}
 use Rattle.std.specs.Prelude.{◌↔◌}
 use Rattle.mi_cond.specs.Tree.{Tree}
 use Rattle.mi_cond.specs.Place.{IsRead, IsPlace, IsConditionFault}

@@ -1,6 +1,6 @@
 -- No two rows of a table without a fault have one key.
-use Rattle.std.proofs.Common.{◌≡◌, ◌≢◌, ◌&&◌, ◌||◌, append_assoc, ℕ, ◌+◌, not, Bool, true, false, cond, List, [], ◌∷◌, ◌++◌, length, map, get_or, refl, sym, ap, subst, ◌∙◌, inl, inr, arith, Option, Some, None}
-use Rattle.std.specs.List.{All, AllPairs, list_all}
+use Rattle.std.proofs.Common.{◌≡◌, ◌≢◌, ◌||◌, append_assoc, ℕ, ◌+◌, not, true, false, cond, List, [], ◌∷◌, ◌++◌, length, map, get_or, refl, sym, ap, subst, ◌∙◌, inl, inr, arith, Option, Some, None}
+use Rattle.std.specs.List.{All, AllPairs}
 use Rattle.std.specs.Str.{bytes_eq}
 use Rattle.std.proofs.lemmas.Bool.{cases_Bool}
 use Rattle.std.proofs.lemmas.List.{length-append}
@@ -15,26 +15,11 @@ use Rattle.mi_schema.specs.declared.column.Kind.TheVariants as kind
 use Rattle.mi_schema.specs.Lawful.{AreRowsOf}
 use Rattle.mi_schema.specs.Reads.{FitsKind}
 use Rattle.mi_schema.specs.Rows.{key_places, begins_with}
-use Rattle.mi_schema.specs.Suits.{key_cell, key_cells, IsNewKey, KeysDiffer}
-use Rattle.mi_schema.specs.Tables.{Column, Table, tables}
+use Rattle.mi_schema.specs.Suits.{key_cell, key_cells, tells, keys_tell, IsNewKey, KeysDiffer}
+use Rattle.mi_schema.specs.Tables.{Column, Table}
 use Rattle.mi_schema.specs.Values.{Row, value_of, row_of}
 use Rattle.mi_schema.proofs.FitLemmas.{AllFit, front, back}
 use Rattle.mi_schema.proofs.SuitLemmas.{EachFits, IsFaultless, faultless}
-
--- codes of other letters may be equal, so that the value doesn't tell the text
-abbrev pub tells : Kind → Bool
-tells kind.Code = false
-tells other = true
-
--- the values of the key columns tell the fields
-abbrev pub keys_tell : List Column → Bool
-keys_tell [] = true
-keys_tell (c ∷ cs) = (not c.key || tells c.kind) && keys_tell cs
-
--- so it is of every table
-pub tables_tell : list_all (λ (t : Table). keys_tell t.columns) tables ≡ true
-unfolding tables
-tables_tell = refl
 
 -- ---- a value tells its field
 
@@ -54,7 +39,6 @@ as_plain kind.Text (raw.Text text) on fit = refl
 as_plain kind.Name (raw.Text text) on fit = refl
 as_plain kind.Pattern (raw.Text text) on fit = refl
 as_plain kind.Formatted (raw.Text text) on fit = refl
-as_plain (kind.KeyOf target) (raw.Text text) on fit = refl
 
 one_field : (x y : raw.Cell) → plain x ≡ plain y → x ≡ y
 one_field raw.Nothing raw.Nothing e = refl

@@ -59,8 +59,6 @@ fits_one kind.Condition c field (Text t) is spells = tt
 fits_one kind.Condition c field (Number z) is spells = not_both c.letter is spells.0
 fits_one kind.Code c field (Text t) is spells = tt
 fits_one kind.Code c field (Number z) is spells = not_both c.letter is spells.0
-fits_one (kind.KeyOf target) c field (Text t) is spells = tt
-fits_one (kind.KeyOf target) c field (Number z) is spells = not_both c.letter is spells.0
 
 pub fits_all : (known : List Column) (columns : List ColumnValue) (fields : List (List ℕ)) (row : List Cell) → begins_with known columns ≡ true → SpellsFields columns fields row → AllFit known row
 fits_all [] columns fields row is spells = tt
@@ -134,8 +132,6 @@ key_shown kind.Formatted (Text t) (Some text) has shows fits = shows
 key_shown kind.Formatted (Number z) (Some text) has shows fits = absurd fits
 key_shown kind.Condition (Text t) (Some text) has shows fits = shows
 key_shown kind.Condition (Number z) (Some text) has shows fits = absurd fits
-key_shown (kind.KeyOf target) (Text t) (Some text) has shows fits = shows
-key_shown (kind.KeyOf target) (Number z) (Some text) has shows fits = absurd fits
 
 -- a key that has no text
 pub key_without : (k : Kind) (x : Cell) → has_text k ≡ false → FitsKind k x → [] ≡ unwrap_or (text_in (value_of k x)) []
@@ -148,7 +144,6 @@ key_without kind.Name (Text t) has fits = cc
 key_without kind.Pattern (Text t) has fits = cc
 key_without kind.Formatted (Text t) has fits = cc
 key_without kind.Condition (Text t) has fits = cc
-key_without (kind.KeyOf target) (Text t) has fits = cc
 
 -- the text of the first column
 pub key_of_text : (listed : List Listed) (d : Listed) (cells : List Cell) (shown : Option (List ℕ)) (b : Bool) → 1 ≤ length listed → AllFit (map column_as listed) cells → b ≡ has_text (slice_index_or listed 0 d).kind → b ≡ true → Shows shown (slice_index_or cells 0 Nothing)

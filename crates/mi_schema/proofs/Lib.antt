@@ -1,5 +1,4 @@
 pub mod ApartLaws
-pub mod BuildLemmas
 pub mod CellLaws
 pub mod ChainLaws
 pub mod CheckLemmas
@@ -8,12 +7,13 @@ pub mod ConditionFaults
 pub mod ConditionLaws
 pub mod DifferLemmas
 pub mod FitLemmas
+pub mod FolderLemmas
 pub mod KeyLemmas
+pub mod LawfulLaws
 pub mod ListLemmas
 pub mod LoadLemmas
 pub mod NumberLaws
 pub mod PackageLaws
-pub mod PlaceLemmas
 pub mod ReferenceLaws
 pub mod RowLaws
 pub mod RowLemmas

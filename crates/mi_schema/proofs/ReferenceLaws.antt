@@ -1,7 +1,7 @@
 -- Rows that are named are there.
-use Rattle.std.proofs.Common.{◌≡◌, ◌&&◌, ◌||◌, ℕ, zero, suc, ◌<◌, Bool, true, false, List, [], ◌∷◌, length, map, take, get_or, Option, Some, None, refl, sym, ap, subst, ◌∙◌, arith}
-use Rattle.std.specs.Prelude.{is_some, unwrap_or, nat_lt, IfSome, Contains, All}
-use Rattle.std.specs.Map.{keys_of as keys_in}
+use Rattle.std.proofs.Common.{◌≡◌, ◌||◌, ℕ, zero, suc, ◌<◌, Bool, true, false, List, [], ◌∷◌, length, map, take, get_or, Option, Some, None, cond, ◌+◌, refl, sym, ap, subst, ◌∙◌, arith}
+use Rattle.std.specs.Prelude.{is_some, option_map, nat_lt, IfSome, Contains, All}
+use Rattle.std.specs.Map.{keys_of as keys_of_map}
 use Rattle.std.proofs.lemmas.Bool.Decides.{nat_tests}
 use Rattle.std.proofs.lemmas.Bool.{cases_Bool}
 use Rattle.std.proofs.lemmas.List.{length-map}
@@ -9,20 +9,22 @@ use Rattle.std.proofs.Common.{inl, inr}
 use Rattle.mi_text.specs.Maps.{Name, same_name}
 use Rattle.mi_text.proofs.MapLemmas.{from_same}
 use Rattle.mi_schema.specs.declared.cell.Cell.{Cell}
-use Rattle.mi_schema.specs.declared.cell.Cell.TheVariants as cell
 use Rattle.mi_schema.specs.declared.column.Kind.TheVariants as kind
 use Rattle.mi_schema.specs.declared.column.Rule.TheVariants as rule
-use Rattle.mi_schema.specs.declared.column.Target.{Target}
-use Rattle.mi_schema.specs.Checks.{Content, rows_at, target_table, targets_of, is_key_or_null, meets_reference_kind, meets_reference_rule, refers, references_fault}
-use Rattle.mi_schema.specs.Laws.{EachRow, IsKeyOf}
-use Rattle.mi_schema.specs.Lawful.{AreTables}
+use Rattle.mi_base.specs.declared.answers.Fault.TheVariants.{Reference}
+use Rattle.mi_schema.specs.declared.known.Target.{Target}
+use Rattle.mi_schema.specs.Checks.{Content, rows_at}
+use Rattle.mi_schema.specs.Laws.{EachRow}
+use Rattle.mi_schema.specs.References.{keys_in, names, may_name, must_name, first_dangling}
+use Rattle.mi_schema.specs.RowsOf.{behind}
+use Rattle.mi_schema.specs.TableRows.{Rows}
 use Rattle.mi_schema.specs.Package.{keyed}
 use Rattle.mi_schema.specs.Rows.{keys_of}
-use Rattle.mi_schema.specs.Suits.{suits, suits_kind}
-use Rattle.mi_schema.specs.Tables.{Column, Table, tables}
-use Rattle.mi_schema.specs.Values.{Row, cell_at, text_in, text_at, is_key_in}
-use Rattle.mi_schema.proofs.CellLaws.{IsKnown, Stands, value_at, of_table, stands_at, suits_at, refers_at}
-use Rattle.mi_schema.proofs.FitLemmas.{front, back}
+use Rattle.mi_schema.specs.Suits.{suits}
+use Rattle.mi_schema.specs.Tables.{Column, Table}
+use Rattle.mi_schema.specs.Values.{Row, is_key_in}
+use Rattle.mi_schema.proofs.CellLaws.{AreTables, IsKnown, Stands, value_at, of_table, stands_at, suits_at}
+use Rattle.mi_schema.proofs.SuitLemmas.{or_none, map_none}
 
 -- ---- rows behind their keys
 
@@ -38,12 +40,12 @@ module _ {K R : Type 0} (key : Row → K) (row : Row → R) where
   pub each_keyed : (P : K × R → Type 0) (rows : List Row) (entries : List (K × R)) → entries ≡ keyed key row rows → ((n : ℕ) → n < length rows → P (key (get_or rows n []), row (get_or rows n []))) → All P entries
   each_keyed P rows entries is h = subst (All P) (sym is) (λ n d lt. let there : n < length rows = let long = keyed_long rows in omega (arith, long, lt) in subst P (sym (keyed_at rows n d there)) (h n there))
 
-  keys_map : (rows : List Row) → keys_in (keyed key row rows) ≡ map key rows
+  keys_map : (rows : List Row) → keys_of_map (keyed key row rows) ≡ map key rows
   keys_map [] = refl
   keys_map (r ∷ rows) = ap (λ ks. key r ∷ ks) (keys_map rows)
 
-  pub keys_keyed : (rows : List Row) (entries : List (K × R)) → entries ≡ keyed key row rows → keys_in entries ≡ map key rows
-  keys_keyed rows entries is = ap keys_in is ∙ keys_map rows
+  pub keys_keyed : (rows : List Row) (entries : List (K × R)) → entries ≡ keyed key row rows → keys_of_map entries ≡ map key rows
+  keys_keyed rows entries is = ap keys_of_map is ∙ keys_map rows
 
   -- the row at a place is among the entries
   pub keyed_has : (rows : List Row) (n : ℕ) → n < length rows → Contains (keyed key row rows) (key (get_or rows n []), row (get_or rows n []))
@@ -64,19 +66,6 @@ key_found (k ∷ keys) q e = elim (cases_Bool (same_name q k)) [
 pub key_there : (keys : List Name) (q : Name) → is_key_in keys q ≡ true → Contains keys q
 key_there keys q e = let found = key_found keys q e in (found.0, found.1, found.2 q)
 
--- a value that isn't null names a key
-named : (keys : List Name) (x : Option Cell) → is_key_or_null keys x ≡ true → is_some x ≡ true → Contains keys (unwrap_or (text_in x) [])
-named keys None e some = cc
-named keys (Some value) e some = key_there keys (unwrap_or (text_in (Some value)) []) e
-
-if_text_named : (keys : List Name) (o : Option Name) → is_key_in keys (unwrap_or o []) ≡ true → IfSome o (Contains keys)
-if_text_named keys None e = tt
-if_text_named keys (Some q) e = key_there keys q e
-
-pub if_named : (keys : List Name) (x : Option Cell) → is_key_or_null keys x ≡ true → IfSome (text_in x) (Contains keys)
-if_named keys None e = tt
-if_named keys (Some value) e = if_text_named keys (text_in (Some value)) e
-
 pub not_null : (c : Column) (x : Option Cell) → suits c x ≡ true → c.nullable ≡ false → is_some x ≡ true
 not_null c None on off = let wrong : true ≡ false = sym on ∙ off in cc
 not_null c (Some value) on off = refl
@@ -91,72 +80,61 @@ column_at t i = get_or t.columns i any_column
 pub column_there : (t : Table) (i : ℕ) → nat_lt i (length t.columns) ≡ true → i < length t.columns
 column_there t i e = grind (arith, nat_tests)
 
--- the column names keys of the target
-abbrev pub Names : Table → ℕ → Target → Bool → Type 0
-Names t i target nullable = (nat_lt i (length t.columns) ≡ true) × ((column_at t i).kind ≡ kind.KeyOf target) × ((column_at t i).nullable ≡ nullable)
-
 -- the value of a row suits its column, and stands there
-module _ (content : Content) (are : AreTables tables content) (t : Table) (known : IsKnown t) (i n : ℕ) (lt : n < length (rows_at content t)) (below : nat_lt i (length t.columns) ≡ true) where
+module _ (content : Content) (are : AreTables content) (t : Table) (known : IsKnown t) (i n : ℕ) (lt : n < length (rows_at content t)) (below : nat_lt i (length t.columns) ≡ true) where
   pub suits_here : suits (column_at t i) (value_at (rows_at content t) n i) ≡ true
   suits_here = (suits_at t (rows_at content t) (of_table content are t known) n i any_column lt (column_there t i below)).0
 
   pub stands_here : Stands (column_at t i) (keys_of (rows_at content t)) (take n (rows_at content t)) (take i (get_or (rows_at content t) n [])) (value_at (rows_at content t) n i)
   stands_here = stands_at t (rows_at content t) (of_table content are t known) n i any_column lt (column_there t i below)
 
-module _ (content : Content) (are : AreTables tables content) (none : references_fault content tables content ≡ None) where
-  module _ (t : Table) (known : IsKnown t) (i : ℕ) (n : ℕ) (lt : n < length (rows_at content t)) where
-    refers_here : nat_lt i (length t.columns) ≡ true → refers (column_at t i) content (get_or (rows_at content t) n []) (value_at (rows_at content t) n i) ≡ true
-    refers_here below = refers_at content are none t known n i any_column lt (column_there t i below)
+-- ---- rows that name rows
 
-    key_or_null : (target : Target) → nat_lt i (length t.columns) ≡ true → (column_at t i).kind ≡ kind.KeyOf target → is_key_or_null (targets_of content target) (value_at (rows_at content t) n i) ≡ true
-    key_or_null target below is =
-        sym (ap (λ k. meets_reference_kind k content (value_at (rows_at content t) n i)) is)
-        ∙ front (meets_reference_kind (column_at t i).kind content (value_at (rows_at content t) n i)) (meets_reference_rule (column_at t i).rule content (get_or (rows_at content t) n []) (value_at (rows_at content t) n i)) (refers_here below)
+pub behind_at : {K R : Type 0} (entries : List (K × R)) (n : ℕ) (d : K × R) → n < length entries → get_or (behind entries) n d.1 ≡ (get_or entries n d).1
+behind_at [] n d lt = absurd (omega arith)
+behind_at (e ∷ es) zero d lt = refl
+behind_at (e ∷ es) (suc n) d lt = behind_at es n d (omega arith)
 
-    pub meets_rule : nat_lt i (length t.columns) ≡ true → meets_reference_rule (column_at t i).rule content (get_or (rows_at content t) n []) (value_at (rows_at content t) n i) ≡ true
-    meets_rule below = back (meets_reference_kind (column_at t i).kind content (value_at (rows_at content t) n i)) (meets_reference_rule (column_at t i).rule content (get_or (rows_at content t) n []) (value_at (rows_at content t) n i)) (refers_here below)
+pub behind_long : {K R : Type 0} (entries : List (K × R)) → length (behind entries) ≡ length entries
+behind_long entries = length-map entries (λ e. e.1)
 
-    named_here : (target : Target) → Names t i target false → Contains (targets_of content target) (text_at (get_or (rows_at content t) n []) i)
-    named_here target names = named (targets_of content target) (value_at (rows_at content t) n i) (key_or_null target names.0 names.1) (not_null (column_at t i) (value_at (rows_at content t) n i) (suits_here content are t known i n lt names.0) names.2)
+-- what holds of each row behind its key
+pub each_behind : {K R : Type 0} (P : R → Type 0) (entries : List (K × R)) → ((n : ℕ) (d : R) → n < length (behind entries) → P (get_or (behind entries) n d)) → EachRow entries P
+each_behind P entries h = λ n d lt. subst P (behind_at entries n d lt) (h n d.1 (let long = behind_long entries in omega (arith, long, lt)))
 
-    pub if_named_here : (target : Target) → Names t i target true → IfSome (text_in (value_at (rows_at content t) n i)) (Contains (targets_of content target))
-    if_named_here target names = if_named (targets_of content target) (value_at (rows_at content t) n i) (key_or_null target names.0 names.1)
+dangles_at : {R : Type 0} (table : Name) (f : R → Option ℕ) (number : ℕ) (rows : List R) → first_dangling table f number rows ≡ None → (n : ℕ) (d : R) → n < length rows → f (get_or rows n d) ≡ None
+dangles_at table f number [] e n d lt = absurd (omega arith)
+dangles_at table f number (r ∷ rows) e zero d lt = map_none (Reference table number) (f r) (or_none (option_map (Reference table number) (f r)) (first_dangling table f (number + 1) rows) e).0
+dangles_at table f number (r ∷ rows) e (suc n) d lt = dangles_at table f (number + 1) rows (or_none (option_map (Reference table number) (f r)) (first_dangling table f (number + 1) rows) e).1 n d (omega arith)
 
-    -- the text of a value that isn't null is found among the keys
-    pub key_here : (target : Target) (q : Name) → Names t i target true → text_in (value_at (rows_at content t) n i) ≡ Some q → is_key_in (targets_of content target) q ≡ true
-    key_here target q names is = found (value_at (rows_at content t) n i) (key_or_null target names.0 names.1) is
-      where
-        found : (x : Option Cell) → is_key_or_null (targets_of content target) x ≡ true → text_in x ≡ Some q → is_key_in (targets_of content target) q ≡ true
-        found None e is = cc
-        found (Some value) e is = sym (ap (λ (o : Option Name). is_key_in (targets_of content target) (unwrap_or o [])) is) ∙ e
+-- no row of a table dangles
+pub each_named : {K R : Type 0} (table : Name) (f : R → Option ℕ) (P : R → Type 0) (entries : List (K × R)) → ((r : R) → f r ≡ None → P r) → first_dangling table f 1 (behind entries) ≡ None → EachRow entries P
+each_named table f P entries h none = each_behind P entries (λ n d lt. h (get_or (behind entries) n d) (dangles_at table f 1 (behind entries) none n d lt))
 
-  -- typed rows whose column names keys
-  module _ {K R S : Type 0} (key : Row → K) (row : Row → R) (there : Row → S) (t : Table) (known : IsKnown t) (i : ℕ) (target : Target) (entries : List (K × R)) (is : entries ≡ keyed key row (rows_at content t))
-      (others : List (Name × S)) (are_others : others ≡ keyed (λ r. text_at r 0) there (rows_at content (target_table target))) where
-    same_keys : targets_of content target ≡ keys_in others
-    same_keys = sym (keys_keyed (λ r. text_at r 0) there (rows_at content (target_table target)) others are_others)
+module _ (keys held : List Name) (are : held ≡ keys) (column : ℕ) where
+  pub there : (q : Name) → cond (is_key_in keys q) None (Some column) ≡ None → Contains held q
+  there q none = subst (λ (ks : List Name). Contains ks q) (sym are) (key_there keys q (found (is_key_in keys q) none))
+    where
+      found : (b : Bool) → cond b None (Some column) ≡ None → b ≡ true
+      found true e = refl
+      found false e = cc
 
-    pub row_names : Names t i target false → (field : R → Name) → ((r : Row) → field (row r) ≡ text_at r i) → EachRow entries (λ r. IsKeyOf others (field r))
-    row_names names field at = each_keyed key row (λ e. IsKeyOf others (field e.1)) (rows_at content t) entries is (λ n lt.
-        subst (λ (q : Name). IsKeyOf others q) (sym (at (get_or (rows_at content t) n [])))
-        (subst (λ (ks : List Name). Contains ks (text_at (get_or (rows_at content t) n []) i)) same_keys (named_here t known i n lt target names)))
+module _ (rows : Rows) (target : Target) (held : List Name) (are : held ≡ keys_in rows target) (column : ℕ) where
+  pub named_there : (q : Name) → names rows target column q ≡ None → Contains held q
+  named_there q none = there (keys_in rows target) held are column q none
 
-    pub row_may_name : Names t i target true → (field : R → Option Name) → ((r : Row) → field (row r) ≡ text_in (cell_at r i)) → EachRow entries (λ r. IfSome (field r) (IsKeyOf others))
-    row_may_name names field at = each_keyed key row (λ e. IfSome (field e.1) (IsKeyOf others)) (rows_at content t) entries is (λ n lt.
-        subst (λ (o : Option Name). IfSome o (IsKeyOf others)) (sym (at (get_or (rows_at content t) n [])))
-        (subst (λ (ks : List Name). IfSome (text_in (value_at (rows_at content t) n i)) (Contains ks)) same_keys (if_named_here t known i n lt target names)))
+  pub may_be_there : (o : Option Name) → may_name rows target column o ≡ None → IfSome o (Contains held)
+  may_be_there None e = tt
+  may_be_there (Some q) e = named_there q e
 
--- ---- the sources of actions
+  pub must_be_there : (o : Option Name) → must_name rows target column o ≡ None → (q : Name) × (o ≡ Some q) × Contains held q
+  must_be_there None e = cc
+  must_be_there (Some q) e = (q, refl, named_there q e)
 
-text_of : (x : Cell) → suits_kind kind.Text x ≡ true → (q : Name) × (text_in (Some x) ≡ Some q)
-text_of (cell.Text text) e = (text, refl)
-text_of (cell.Integer z) e = cc
-text_of (cell.Code code) e = cc
-text_of (cell.Condition text tree) e = cc
-
--- of a column of texts
-pub source_named : (keys : List Name) (c : Column) (x : Option Cell) → c.kind ≡ kind.Text → suits c x ≡ true → (is_some x && is_key_or_null keys x) ≡ true → (q : Name) × (text_in x ≡ Some q) × Contains keys q
-source_named keys c None is on e = cc
-source_named keys c (Some value) is on e =
-    let text = text_of value (sym (ap (λ k. suits_kind k value) is) ∙ on) in
-    (text.0, text.1, key_there keys text.0 (sym (ap (λ (o : Option Name). is_key_in keys (unwrap_or o [])) text.1) ∙ e))
+-- rows that stand under the keys that they have
+pub named_keys : {R : Type 0} (key : Row → Name) (row : Row → R) (field : R → Name) → ((r : Row) → field (row r) ≡ key r) → (rows : List Row) (entries : List (Name × R)) → entries ≡ keyed key row rows → keys_of_map entries ≡ map field (behind entries)
+named_keys key row field same rows entries is = ap keys_of_map is ∙ pairs rows ∙ ap (λ (es : List _). map field (behind es)) (sym is)
+  where
+    pairs : (rows : List Row) → keys_of_map (keyed key row rows) ≡ map field (behind (keyed key row rows))
+    pairs [] = refl
+    pairs (r ∷ rows) = ap (λ (q : Name). q ∷ keys_of_map (keyed key row rows)) (sym (same r)) ∙ ap (λ (qs : List Name). field (row r) ∷ qs) (pairs rows)

@@ -1,36 +1,33 @@
 -- Texts of rows are no longer than their file; conditions are what texts read as; names have parts that are names.
-use Rattle.std.proofs.Common.{◌≡◌, ◌⊎◌, ◌&&◌, ◌||◌, ℕ, zero, suc, ◌+◌, ◌<◌, ◌≤◌, Bool, true, false, cond, List, [], ◌∷◌, length, map, take, get_or, Option, Some, None, refl, sym, ap, subst, ◌∙◌, arith, inl, inr}
-use Rattle.std.specs.Prelude.{All, IfSome, unwrap_or, codes, slice_index, ◌-◌, ◌==◌}
+use Rattle.std.proofs.Common.{◌≡◌, ◌⊎◌, ◌&&◌, ◌||◌, ℕ, zero, suc, ◌≤◌, Bool, true, false, cond, List, [], ◌∷◌, length, map, take, get_or, Option, Some, None, refl, sym, ap, subst, arith, inl, inr}
+use Rattle.std.specs.Prelude.{IfSome, unwrap_or, codes, slice_index, ◌-◌, ◌==◌}
 use Rattle.std.specs.List.{slice_split, onto_first, AllZip}
 use Rattle.std.specs.Str.{bytes_eq}
-use Rattle.std.specs.Str.Lines.{lines, lines_of_parts, strip_carriage_return}
+use Rattle.std.specs.Str.Lines.{lines_of_parts, strip_carriage_return}
 use Rattle.std.specs.Cmp.Lexicographic.{bytes_decides}
 use Rattle.std.proofs.lemmas.List.{length-map, length-take}
 use Rattle.mi_text.specs.FileNames.{is_file_name, is_file_pattern, is_folder_name, is_default_dir, is_pattern_part, short_name, long_name, target_part, source_part}
 use Rattle.mi_text.specs.Path.{is_part}
 use Rattle.mi_idt.specs.Cells as raw
 use Rattle.mi_idt.specs.Fields.{fields_of, unescaped}
-use Rattle.mi_idt.specs.Spells.{Spells, SpellsField, SpellsFields, SpellsRow}
-use Rattle.mi_cond.specs.Place.{IsRead}
-use Rattle.mi_cond.specs.Tree.{Tree}
+use Rattle.mi_idt.specs.Spells.{SpellsFields, SpellsRow}
 use Rattle.mi_schema.specs.declared.cell.Cell.{Cell}
 use Rattle.mi_schema.specs.declared.cell.Cell.TheVariants as cell
 use Rattle.mi_schema.specs.declared.column.Kind.{Kind}
 use Rattle.mi_schema.specs.declared.column.Kind.TheVariants as kind
+use Rattle.mi_schema.specs.declared.known.Known.TheVariants as known
 use Rattle.mi_schema.specs.declared.package.Package.{Package}
 use Rattle.mi_schema.specs.Checks.{Content, rows_at}
-use Rattle.mi_schema.specs.Conditions.{condition_of}
-use Rattle.mi_schema.specs.Laws.{EachRow, IsShort, AreShort, TextsShort, IsOfText, ConditionsStand, AreNames, ArePatterns, IsFolder, NamesStand, KeysStand, ValuesStand}
-use Rattle.mi_schema.specs.Lawful.{AreRowsOf, AreTables, IsLawful}
+use Rattle.mi_schema.specs.Laws.{IsShort, AreShort, TextsShort, IsOfText, ConditionsStand, AreNames, ArePatterns, IsFolder, NamesStand, ValuesStand}
+use Rattle.mi_schema.specs.Lawful.{AreRowsOf, IsOfTables}
 use Rattle.mi_schema.specs.Package.{IsPackage}
-use Rattle.mi_schema.specs.Suits.{suits}
-use Rattle.mi_schema.specs.Tables.{Column, Table, tables, component, condition, create_folder, custom_action, directory, duplicate_file, environment, feature, feature_components, file, install_execute_sequence, launch_condition, msi_file_hash, property, registry, remove_file, remove_registry, shortcut, summary_information, upgrade}
+use Rattle.mi_schema.specs.Tables.{Column, Table, component, condition, create_folder, custom_action, directory, duplicate_file, environment, feature, feature_components, file, install_execute_sequence, launch_condition, msi_file_hash, property, registry, remove_file, remove_registry, shortcut, summary_information, upgrade}
 use Rattle.mi_schema.specs.Typed.{some_condition_in}
 use Rattle.mi_schema.specs.TypedRows.{component_row, component_key, condition_row, condition_key, create_folder_row, create_folder_key, custom_action_row, custom_action_key, directory_row, directory_key, duplicate_file_row, duplicate_file_key, environment_row, environment_key, feature_row, feature_key, feature_components_row, feature_components_key, file_row, file_key, install_execute_sequence_row, install_execute_sequence_key, launch_condition_row, launch_condition_key, msi_file_hash_row, msi_file_hash_key, property_row, property_key, registry_row, registry_key, remove_file_row, remove_file_key, remove_registry_row, remove_registry_key, shortcut_row, shortcut_key, summary_information_row, summary_information_key, upgrade_row, upgrade_key}
-use Rattle.mi_schema.specs.Values.{Row, row_of, value_of, text_value, cell_at, text_in, text_at, is_root_below}
-use Rattle.mi_schema.proofs.CellLaws.{IsKnown, OfKind, Stands, value_at, of_table}
+use Rattle.mi_schema.specs.Values.{Row, row_of, text_value, text_in, text_at, is_root_below}
+use Rattle.mi_schema.proofs.CellLaws.{AreTables, IsKnown, is_known, OfKind, value_at, of_table}
 use Rattle.mi_schema.proofs.ConditionLaws.{reads_exactly}
-use Rattle.mi_schema.proofs.PackageLaws.{component_known, condition_known, create_folder_known, custom_action_known, directory_known, duplicate_file_known, environment_known, feature_known, feature_components_known, file_known, install_execute_sequence_known, launch_condition_known, msi_file_hash_known, property_known, registry_known, remove_file_known, remove_registry_known, shortcut_known, summary_information_known, upgrade_known, keys_stand, values_stand}
+use Rattle.mi_schema.proofs.PackageLaws.{keys_stand, values_stand}
 use Rattle.mi_schema.proofs.ReferenceLaws.{each_keyed, stands_here}
 use Rattle.mi_schema.proofs.SuitLemmas.{faultless}
 
@@ -166,12 +163,12 @@ folders_of text e = let parts = both_on (is_folder_name (target_part text)) (is_
 
 -- ---- the laws
 
-module _ (p : Package) (lawful : IsLawful p) where
+module _ (p : Package) (lawful : IsOfTables p) where
   abbrev content : Content
   content = lawful.content
 
-  abbrev are : AreTables tables content
-  are = lawful.are_tables
+  abbrev are : AreTables content
+  are = lawful.right_tables
 
   abbrev is : IsPackage p content
   is = lawful.is
@@ -184,40 +181,40 @@ module _ (p : Package) (lawful : IsLawful p) where
 
   pub texts_short : TextsShort p
   texts_short = record {
-    component = each_keyed component_key component_row (λ e. let r = e.1 in AreShort (Some r.component ∷ Some r.directory ∷ r.key_path ∷ [])) (rows_at content component) p.component.entries is.component (λ n lt. (one component component_known n 0, (one component component_known n 2, (some component component_known n 5, tt))));
-    condition = each_keyed condition_key condition_row (λ e. let r = e.1 in AreShort (Some r.feature ∷ [])) (rows_at content condition) p.condition.entries is.condition (λ n lt. (one condition condition_known n 0, tt));
-    create_folder = each_keyed create_folder_key create_folder_row (λ e. let r = e.1 in AreShort (Some r.directory ∷ Some r.component ∷ [])) (rows_at content create_folder) p.create_folder.entries is.create_folder (λ n lt. (one create_folder create_folder_known n 0, (one create_folder create_folder_known n 1, tt)));
-    custom_action = each_keyed custom_action_key custom_action_row (λ e. let r = e.1 in AreShort (Some r.action ∷ r.source ∷ r.target ∷ [])) (rows_at content custom_action) p.custom_action.entries is.custom_action (λ n lt. (one custom_action custom_action_known n 0, (some custom_action custom_action_known n 2, (some custom_action custom_action_known n 3, tt))));
-    directory = each_keyed directory_key directory_row (λ e. let r = e.1 in AreShort (Some r.directory ∷ r.directory_parent ∷ Some r.default_dir ∷ [])) (rows_at content directory) p.directory.entries is.directory (λ n lt. (one directory directory_known n 0, (some directory directory_known n 1, (one directory directory_known n 2, tt))));
-    duplicate_file = each_keyed duplicate_file_key duplicate_file_row (λ e. let r = e.1 in AreShort (Some r.file_key ∷ Some r.component ∷ Some r.file ∷ r.dest_name ∷ r.dest_folder ∷ [])) (rows_at content duplicate_file) p.duplicate_file.entries is.duplicate_file (λ n lt. (one duplicate_file duplicate_file_known n 0, (one duplicate_file duplicate_file_known n 1, (one duplicate_file duplicate_file_known n 2, (some duplicate_file duplicate_file_known n 3, (some duplicate_file duplicate_file_known n 4, tt))))));
-    environment = each_keyed environment_key environment_row (λ e. let r = e.1 in AreShort (Some r.environment ∷ Some r.name ∷ r.value ∷ Some r.component ∷ [])) (rows_at content environment) p.environment.entries is.environment (λ n lt. (one environment environment_known n 0, (one environment environment_known n 1, (some environment environment_known n 2, (one environment environment_known n 3, tt)))));
-    feature = each_keyed feature_key feature_row (λ e. let r = e.1 in AreShort (Some r.feature ∷ r.feature_parent ∷ r.title ∷ r.description ∷ r.directory ∷ [])) (rows_at content feature) p.feature.entries is.feature (λ n lt. (one feature feature_known n 0, (some feature feature_known n 1, (some feature feature_known n 2, (some feature feature_known n 3, (some feature feature_known n 6, tt))))));
-    feature_components = each_keyed feature_components_key feature_components_row (λ e. let r = e.1 in AreShort (Some r.feature ∷ Some r.component ∷ [])) (rows_at content feature_components) p.feature_components.entries is.feature_components (λ n lt. (one feature_components feature_components_known n 0, (one feature_components feature_components_known n 1, tt)));
-    file = each_keyed file_key file_row (λ e. let r = e.1 in AreShort (Some r.file ∷ Some r.component ∷ Some r.file_name ∷ r.version ∷ r.language ∷ [])) (rows_at content file) p.file.entries is.file (λ n lt. (one file file_known n 0, (one file file_known n 1, (one file file_known n 2, (some file file_known n 4, (some file file_known n 5, tt))))));
-    install_execute_sequence = each_keyed install_execute_sequence_key install_execute_sequence_row (λ e. let r = e.1 in AreShort (Some r.action ∷ [])) (rows_at content install_execute_sequence) p.install_execute_sequence.entries is.install_execute_sequence (λ n lt. (one install_execute_sequence install_execute_sequence_known n 0, tt));
-    launch_condition = each_keyed launch_condition_key launch_condition_row (λ e. let r = e.1 in AreShort (Some r.description ∷ [])) (rows_at content launch_condition) p.launch_condition.entries is.launch_condition (λ n lt. (one launch_condition launch_condition_known n 1, tt));
-    msi_file_hash = each_keyed msi_file_hash_key msi_file_hash_row (λ e. let r = e.1 in AreShort (Some r.file ∷ [])) (rows_at content msi_file_hash) p.msi_file_hash.entries is.msi_file_hash (λ n lt. (one msi_file_hash msi_file_hash_known n 0, tt));
-    property = each_keyed property_key property_row (λ e. let r = e.1 in AreShort (Some r.property ∷ Some r.value ∷ [])) (rows_at content property) p.property.entries is.property (λ n lt. (one property property_known n 0, (one property property_known n 1, tt)));
-    registry = each_keyed registry_key registry_row (λ e. let r = e.1 in AreShort (Some r.registry ∷ Some r.key ∷ r.name ∷ r.value ∷ Some r.component ∷ [])) (rows_at content registry) p.registry.entries is.registry (λ n lt. (one registry registry_known n 0, (one registry registry_known n 2, (some registry registry_known n 3, (some registry registry_known n 4, (one registry registry_known n 5, tt))))));
-    remove_file = each_keyed remove_file_key remove_file_row (λ e. let r = e.1 in AreShort (Some r.file_key ∷ Some r.component ∷ r.file_name ∷ Some r.dir_property ∷ [])) (rows_at content remove_file) p.remove_file.entries is.remove_file (λ n lt. (one remove_file remove_file_known n 0, (one remove_file remove_file_known n 1, (some remove_file remove_file_known n 2, (one remove_file remove_file_known n 3, tt)))));
-    remove_registry = each_keyed remove_registry_key remove_registry_row (λ e. let r = e.1 in AreShort (Some r.remove_registry ∷ Some r.key ∷ r.name ∷ Some r.component ∷ [])) (rows_at content remove_registry) p.remove_registry.entries is.remove_registry (λ n lt. (one remove_registry remove_registry_known n 0, (one remove_registry remove_registry_known n 2, (some remove_registry remove_registry_known n 3, (one remove_registry remove_registry_known n 4, tt)))));
-    shortcut = each_keyed shortcut_key shortcut_row (λ e. let r = e.1 in AreShort (Some r.shortcut ∷ Some r.directory ∷ Some r.name ∷ Some r.component ∷ Some r.target ∷ r.arguments ∷ r.description ∷ r.icon ∷ r.wk_dir ∷ [])) (rows_at content shortcut) p.shortcut.entries is.shortcut (λ n lt. (one shortcut shortcut_known n 0, (one shortcut shortcut_known n 1, (one shortcut shortcut_known n 2, (one shortcut shortcut_known n 3, (one shortcut shortcut_known n 4, (some shortcut shortcut_known n 5, (some shortcut shortcut_known n 6, (some shortcut shortcut_known n 8, (some shortcut shortcut_known n 11, tt))))))))));
-    summary_information = each_keyed summary_information_key summary_information_row (λ e. let r = e.1 in AreShort (r.value ∷ [])) (rows_at content summary_information) p.summary_information.entries is.summary_information (λ n lt. (some summary_information summary_information_known n 1, tt));
-    upgrade = each_keyed upgrade_key upgrade_row (λ e. let r = e.1 in AreShort (Some r.upgrade_code ∷ r.version_min ∷ r.version_max ∷ r.language ∷ r.remove ∷ Some r.action_property ∷ [])) (rows_at content upgrade) p.upgrade.entries is.upgrade (λ n lt. (one upgrade upgrade_known n 0, (some upgrade upgrade_known n 1, (some upgrade upgrade_known n 2, (some upgrade upgrade_known n 3, (some upgrade upgrade_known n 5, (one upgrade upgrade_known n 6, tt)))))));
-    launch_condition_key = each_keyed launch_condition_key launch_condition_row (λ e. IsShort e.0) (rows_at content launch_condition) p.launch_condition.entries is.launch_condition (λ n lt. one launch_condition launch_condition_known n 0);
+    component = each_keyed component_key component_row (λ e. let r = e.1 in AreShort (Some r.component ∷ Some r.directory ∷ r.key_path ∷ [])) (rows_at content component) p.component.entries (is.rows known.Component) (λ n lt. (one component (is_known known.Component) n 0, (one component (is_known known.Component) n 2, (some component (is_known known.Component) n 5, tt))));
+    condition = each_keyed condition_key condition_row (λ e. let r = e.1 in AreShort (Some r.feature ∷ [])) (rows_at content condition) p.condition.entries (is.rows known.Condition) (λ n lt. (one condition (is_known known.Condition) n 0, tt));
+    create_folder = each_keyed create_folder_key create_folder_row (λ e. let r = e.1 in AreShort (Some r.directory ∷ Some r.component ∷ [])) (rows_at content create_folder) p.create_folder.entries (is.rows known.CreateFolder) (λ n lt. (one create_folder (is_known known.CreateFolder) n 0, (one create_folder (is_known known.CreateFolder) n 1, tt)));
+    custom_action = each_keyed custom_action_key custom_action_row (λ e. let r = e.1 in AreShort (Some r.action ∷ r.source ∷ r.target ∷ [])) (rows_at content custom_action) p.custom_action.entries (is.rows known.CustomAction) (λ n lt. (one custom_action (is_known known.CustomAction) n 0, (some custom_action (is_known known.CustomAction) n 2, (some custom_action (is_known known.CustomAction) n 3, tt))));
+    directory = each_keyed directory_key directory_row (λ e. let r = e.1 in AreShort (Some r.directory ∷ r.directory_parent ∷ Some r.default_dir ∷ [])) (rows_at content directory) p.directory.entries (is.rows known.Directory) (λ n lt. (one directory (is_known known.Directory) n 0, (some directory (is_known known.Directory) n 1, (one directory (is_known known.Directory) n 2, tt))));
+    duplicate_file = each_keyed duplicate_file_key duplicate_file_row (λ e. let r = e.1 in AreShort (Some r.file_key ∷ Some r.component ∷ Some r.file ∷ r.dest_name ∷ r.dest_folder ∷ [])) (rows_at content duplicate_file) p.duplicate_file.entries (is.rows known.DuplicateFile) (λ n lt. (one duplicate_file (is_known known.DuplicateFile) n 0, (one duplicate_file (is_known known.DuplicateFile) n 1, (one duplicate_file (is_known known.DuplicateFile) n 2, (some duplicate_file (is_known known.DuplicateFile) n 3, (some duplicate_file (is_known known.DuplicateFile) n 4, tt))))));
+    environment = each_keyed environment_key environment_row (λ e. let r = e.1 in AreShort (Some r.environment ∷ Some r.name ∷ r.value ∷ Some r.component ∷ [])) (rows_at content environment) p.environment.entries (is.rows known.Environment) (λ n lt. (one environment (is_known known.Environment) n 0, (one environment (is_known known.Environment) n 1, (some environment (is_known known.Environment) n 2, (one environment (is_known known.Environment) n 3, tt)))));
+    feature = each_keyed feature_key feature_row (λ e. let r = e.1 in AreShort (Some r.feature ∷ r.feature_parent ∷ r.title ∷ r.description ∷ r.directory ∷ [])) (rows_at content feature) p.feature.entries (is.rows known.Feature) (λ n lt. (one feature (is_known known.Feature) n 0, (some feature (is_known known.Feature) n 1, (some feature (is_known known.Feature) n 2, (some feature (is_known known.Feature) n 3, (some feature (is_known known.Feature) n 6, tt))))));
+    feature_components = each_keyed feature_components_key feature_components_row (λ e. let r = e.1 in AreShort (Some r.feature ∷ Some r.component ∷ [])) (rows_at content feature_components) p.feature_components.entries (is.rows known.FeatureComponents) (λ n lt. (one feature_components (is_known known.FeatureComponents) n 0, (one feature_components (is_known known.FeatureComponents) n 1, tt)));
+    file = each_keyed file_key file_row (λ e. let r = e.1 in AreShort (Some r.file ∷ Some r.component ∷ Some r.file_name ∷ r.version ∷ r.language ∷ [])) (rows_at content file) p.file.entries (is.rows known.File) (λ n lt. (one file (is_known known.File) n 0, (one file (is_known known.File) n 1, (one file (is_known known.File) n 2, (some file (is_known known.File) n 4, (some file (is_known known.File) n 5, tt))))));
+    install_execute_sequence = each_keyed install_execute_sequence_key install_execute_sequence_row (λ e. let r = e.1 in AreShort (Some r.action ∷ [])) (rows_at content install_execute_sequence) p.install_execute_sequence.entries (is.rows known.InstallExecuteSequence) (λ n lt. (one install_execute_sequence (is_known known.InstallExecuteSequence) n 0, tt));
+    launch_condition = each_keyed launch_condition_key launch_condition_row (λ e. let r = e.1 in AreShort (Some r.description ∷ [])) (rows_at content launch_condition) p.launch_condition.entries (is.rows known.LaunchCondition) (λ n lt. (one launch_condition (is_known known.LaunchCondition) n 1, tt));
+    msi_file_hash = each_keyed msi_file_hash_key msi_file_hash_row (λ e. let r = e.1 in AreShort (Some r.file ∷ [])) (rows_at content msi_file_hash) p.msi_file_hash.entries (is.rows known.MsiFileHash) (λ n lt. (one msi_file_hash (is_known known.MsiFileHash) n 0, tt));
+    property = each_keyed property_key property_row (λ e. let r = e.1 in AreShort (Some r.property ∷ Some r.value ∷ [])) (rows_at content property) p.property.entries (is.rows known.Property) (λ n lt. (one property (is_known known.Property) n 0, (one property (is_known known.Property) n 1, tt)));
+    registry = each_keyed registry_key registry_row (λ e. let r = e.1 in AreShort (Some r.registry ∷ Some r.key ∷ r.name ∷ r.value ∷ Some r.component ∷ [])) (rows_at content registry) p.registry.entries (is.rows known.Registry) (λ n lt. (one registry (is_known known.Registry) n 0, (one registry (is_known known.Registry) n 2, (some registry (is_known known.Registry) n 3, (some registry (is_known known.Registry) n 4, (one registry (is_known known.Registry) n 5, tt))))));
+    remove_file = each_keyed remove_file_key remove_file_row (λ e. let r = e.1 in AreShort (Some r.file_key ∷ Some r.component ∷ r.file_name ∷ Some r.dir_property ∷ [])) (rows_at content remove_file) p.remove_file.entries (is.rows known.RemoveFile) (λ n lt. (one remove_file (is_known known.RemoveFile) n 0, (one remove_file (is_known known.RemoveFile) n 1, (some remove_file (is_known known.RemoveFile) n 2, (one remove_file (is_known known.RemoveFile) n 3, tt)))));
+    remove_registry = each_keyed remove_registry_key remove_registry_row (λ e. let r = e.1 in AreShort (Some r.remove_registry ∷ Some r.key ∷ r.name ∷ Some r.component ∷ [])) (rows_at content remove_registry) p.remove_registry.entries (is.rows known.RemoveRegistry) (λ n lt. (one remove_registry (is_known known.RemoveRegistry) n 0, (one remove_registry (is_known known.RemoveRegistry) n 2, (some remove_registry (is_known known.RemoveRegistry) n 3, (one remove_registry (is_known known.RemoveRegistry) n 4, tt)))));
+    shortcut = each_keyed shortcut_key shortcut_row (λ e. let r = e.1 in AreShort (Some r.shortcut ∷ Some r.directory ∷ Some r.name ∷ Some r.component ∷ Some r.target ∷ r.arguments ∷ r.description ∷ r.icon ∷ r.wk_dir ∷ [])) (rows_at content shortcut) p.shortcut.entries (is.rows known.Shortcut) (λ n lt. (one shortcut (is_known known.Shortcut) n 0, (one shortcut (is_known known.Shortcut) n 1, (one shortcut (is_known known.Shortcut) n 2, (one shortcut (is_known known.Shortcut) n 3, (one shortcut (is_known known.Shortcut) n 4, (some shortcut (is_known known.Shortcut) n 5, (some shortcut (is_known known.Shortcut) n 6, (some shortcut (is_known known.Shortcut) n 8, (some shortcut (is_known known.Shortcut) n 11, tt))))))))));
+    summary_information = each_keyed summary_information_key summary_information_row (λ e. let r = e.1 in AreShort (r.value ∷ [])) (rows_at content summary_information) p.summary_information.entries (is.rows known.SummaryInformation) (λ n lt. (some summary_information (is_known known.SummaryInformation) n 1, tt));
+    upgrade = each_keyed upgrade_key upgrade_row (λ e. let r = e.1 in AreShort (Some r.upgrade_code ∷ r.version_min ∷ r.version_max ∷ r.language ∷ r.remove ∷ Some r.action_property ∷ [])) (rows_at content upgrade) p.upgrade.entries (is.rows known.Upgrade) (λ n lt. (one upgrade (is_known known.Upgrade) n 0, (some upgrade (is_known known.Upgrade) n 1, (some upgrade (is_known known.Upgrade) n 2, (some upgrade (is_known known.Upgrade) n 3, (some upgrade (is_known known.Upgrade) n 5, (one upgrade (is_known known.Upgrade) n 6, tt)))))));
+    launch_condition_key = each_keyed launch_condition_key launch_condition_row (λ e. IsShort e.0) (rows_at content launch_condition) p.launch_condition.entries (is.rows known.LaunchCondition) (λ n lt. one launch_condition (is_known known.LaunchCondition) n 0);
   }
 
   pub conditions_stand : ConditionsStand p
   conditions_stand = record {
-    component = each_keyed component_key component_row (λ e. IfSome e.1.condition IsOfText) (rows_at content component) p.component.entries is.component (λ n lt. condition_of_text (value_at (rows_at content component) n 4) (some component component_known n 4) (stands_here content are component component_known 4 n lt refl).1);
-    condition = each_keyed condition_key condition_row (λ e. IfSome e.1.condition IsOfText) (rows_at content condition) p.condition.entries is.condition (λ n lt. condition_of_text (value_at (rows_at content condition) n 2) (some condition condition_known n 2) (stands_here content are condition condition_known 2 n lt refl).1);
-    install_execute_sequence = each_keyed install_execute_sequence_key install_execute_sequence_row (λ e. IfSome e.1.condition IsOfText) (rows_at content install_execute_sequence) p.install_execute_sequence.entries is.install_execute_sequence (λ n lt. condition_of_text (value_at (rows_at content install_execute_sequence) n 1) (some install_execute_sequence install_execute_sequence_known n 1) (stands_here content are install_execute_sequence install_execute_sequence_known 1 n lt refl).1);
-    launch_condition = λ n d lt. (texts_short.launch_condition_key n d lt, (keys_stand p lawful).launch_condition n d lt);
+    component = each_keyed component_key component_row (λ e. IfSome e.1.condition IsOfText) (rows_at content component) p.component.entries (is.rows known.Component) (λ n lt. condition_of_text (value_at (rows_at content component) n 4) (some component (is_known known.Component) n 4) (stands_here content are component (is_known known.Component) 4 n lt refl).1);
+    condition = each_keyed condition_key condition_row (λ e. IfSome e.1.condition IsOfText) (rows_at content condition) p.condition.entries (is.rows known.Condition) (λ n lt. condition_of_text (value_at (rows_at content condition) n 2) (some condition (is_known known.Condition) n 2) (stands_here content are condition (is_known known.Condition) 2 n lt refl).1);
+    install_execute_sequence = each_keyed install_execute_sequence_key install_execute_sequence_row (λ e. IfSome e.1.condition IsOfText) (rows_at content install_execute_sequence) p.install_execute_sequence.entries (is.rows known.InstallExecuteSequence) (λ n lt. condition_of_text (value_at (rows_at content install_execute_sequence) n 1) (some install_execute_sequence (is_known known.InstallExecuteSequence) n 1) (stands_here content are install_execute_sequence (is_known known.InstallExecuteSequence) 1 n lt refl).1);
+    launch_condition = λ n d lt. (texts_short.launch_condition_key n d lt, (keys_stand p lawful.content lawful.right_tables lawful.is.rows).launch_condition n d lt);
   }
 
   pub names_stand : NamesStand p
   names_stand =
-      let values : ValuesStand p = values_stand p lawful in
+      let values : ValuesStand p = values_stand p lawful.content lawful.right_tables lawful.is.rows in
       record {
         directory = λ n d lt. folders (get_or p.directory.entries n d).1.directory (get_or p.directory.entries n d).1.directory_parent (get_or p.directory.entries n d).1.default_dir (values.directory_default_dir n d lt);
         duplicate_file = λ n d lt. if_those (λ name. is_file_name name ≡ true) AreNames names_of (get_or p.duplicate_file.entries n d).1.dest_name (values.duplicate_file_name n d lt);

@@ -111,7 +111,6 @@ text_suits kind.Text text fits = refl
 text_suits kind.Name text fits = refl
 text_suits kind.Pattern text fits = refl
 text_suits kind.Formatted text fits = refl
-text_suits (kind.KeyOf target) text fits = refl
 
 number_suits : (k : Kind) (z : ℤ) → FitsKind k (raw.Number z) → suits_kind k (Integer z) ≡ true
 number_suits kind.Integer z h = refl
@@ -121,7 +120,6 @@ number_suits kind.Text z h = absurd h
 number_suits kind.Name z h = absurd h
 number_suits kind.Pattern z h = absurd h
 number_suits kind.Formatted z h = absurd h
-number_suits (kind.KeyOf target) z h = absurd h
 
 suits_one : (c : Column) (x : raw.Cell) → kind_fault c.kind c.nullable x ≡ None → FitsKind c.kind x → suits c (value_of c.kind x) ≡ true
 suits_one c raw.Nothing none fits = allowed c.nullable none

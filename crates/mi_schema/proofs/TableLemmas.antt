@@ -1,7 +1,10 @@
 -- A table by its bytes.
-use Rattle.std.proofs.Common.{◌≡◌, ℕ, ◌<◌, Bool, true, false, List, [], ◌∷◌, length, map, Option, Some, None, Result, refl, sym, ap, subst, ◌∙◌, arith}
+use Rattle.std.proofs.Common.{◌≡◌, ℕ, ◌<◌, Bool, true, false, cond, inl, inr, List, [], ◌∷◌, length, map, Option, Some, None, Result, refl, sym, ap, subst, ◌∙◌, arith}
 use Rattle.std.specs.Prelude.{◌==◌, nat_lt, option_map}
+use Rattle.std.proofs.lemmas.Bool.{cases_Bool}
 use Rattle.std.proofs.lemmas.Bool.Decides.{nat_tests}
+use Rattle.mi_text.specs.Maps.{Name}
+use Rattle.mi_base.specs.declared.answers.Fault.{Fault}
 use Rattle.mi_base.specs.declared.answers.Fault.TheVariants.{Unsupported, Idt}
 use Rattle.mi_text.specs.declared.answers.IdtFault.{IdtFault}
 use Rattle.mi_text.specs.declared.answers.IdtFault.TheVariants.{TooLarge}
@@ -11,19 +14,11 @@ use Rattle.mi_idt.specs.Cells as raw
 use Rattle.mi_idt.specs.declared.table.Table.{Table as Spelled}
 use Rattle.mi_idt.specs.Means.{IsSpelledBy, meaning}
 use Rattle.mi_idt.specs.Raw.{value_of}
-use Rattle.mi_schema.specs.declared.column.Column.{Column as Listed}
-use Rattle.mi_schema.specs.Described.{column_as}
 use Rattle.mi_schema.specs.Tables.{Table}
-use Rattle.mi_schema.specs.Rows.{◌or_else◌, are_none, rows_in, value_fault, unsupported, spelled_value, table_fault, table_rows}
-use Rattle.mi_schema.specs.declared.held.Rows.{Rows}
+use Rattle.mi_schema.specs.Rows.{◌or_else◌, are_none, rows_in, value_fault, unsupported, spelled_value, size_fault, table_fault}
 use Rattle.mi_schema.specs.declared.error.LoadError.{LoadError}
 use Rattle.mi_schema.specs.Answers.{Answers}
-use Rattle.mi_schema.specs.Read.{rows_as}
 use Rattle.mi_schema.specs.Values.{row_of}
-
-pub are_none_of : (listed : List Listed) (b : Bool) → b ≡ (length listed == 0) → b ≡ true → are_none (map column_as listed) ≡ true
-are_none_of [] b is on = refl
-are_none_of (k ∷ ks) b is on = absurd (let e : (length (k ∷ ks) == 0) ≡ true = sym is ∙ on in grind (arith, nat_tests))
 
 no_rows_of : {A : Type 0} (xs : List A) → length xs ≡ 0 → xs ≡ []
 no_rows_of [] e = refl
@@ -53,11 +48,11 @@ pub meaning_in : (bytes : List ℕ) (t : Spelled) → IsSpelledBy bytes t → me
 unfolding meaning
 meaning_in bytes t spelled = ap value_of spelled.stands
 
-pub read_spelled : (t : Table) (bytes : List ℕ) (s : Spelled) (r : Result Rows LoadError) → IsSpelledBy bytes s → idt_fault bytes ≡ None → Answers ⊥ (value_fault t (meaning s)) (λ (held : Rows). rows_as held ≡ rows_in t (meaning s)) r
-    → Answers ⊥ (table_fault t (Some bytes)) (λ (held : Rows). rows_as held ≡ table_rows t (Some bytes)) r
-read_spelled t bytes s r spelled none answers =
-    subst (λ (f : Option IdtFault). Answers ⊥ (option_map (Idt t.name) f or_else value_fault t (spelled_value bytes)) (λ (held : Rows). rows_as held ≡ rows_in t (spelled_value bytes)) r) (sym none)
-    (subst (λ (v : raw.TableValue). Answers ⊥ (value_fault t v) (λ (held : Rows). rows_as held ≡ rows_in t v) r) (meaning_in bytes s spelled) answers)
+pub read_spelled : {X : Type 0} (P : X → raw.TableValue → Type 0) (t : Table) (bytes : List ℕ) (s : Spelled) (r : Result X LoadError) → IsSpelledBy bytes s → idt_fault bytes ≡ None → Answers ⊥ (value_fault t (meaning s)) (λ (x : X). P x (meaning s)) r
+    → Answers ⊥ (table_fault t (Some bytes)) (λ (x : X). P x (spelled_value bytes)) r
+read_spelled {X} P t bytes s r spelled none answers =
+    subst (λ (f : Option IdtFault). Answers ⊥ (option_map (Idt t.name) f or_else value_fault t (spelled_value bytes)) (λ (x : X). P x (spelled_value bytes)) r) (sym none)
+    (subst (λ (v : raw.TableValue). Answers ⊥ (value_fault t v) (λ (x : X). P x v) r) (meaning_in bytes s spelled) answers)
 
 pub too_long_table : (t : Table) (o : Option (List ℕ)) → 16777216 < length (bytes_or_none o) → table_fault t o ≡ Some (Idt t.name TooLarge)
 too_long_table t None long = absurd (omega arith)
@@ -68,3 +63,15 @@ is_zero n b is on = let e : (n == 0) ≡ true = sym is ∙ on in grind (arith, n
 
 pub is_more : (n : ℕ) (b : Bool) → b ≡ (n == 0) → b ≡ false → 0 < n
 is_more n b is off = let e : (n == 0) ≡ false = sym is ∙ off in grind (arith, nat_tests)
+
+-- more bytes than a table may have are its fault
+pub size_fails : (t : Table) (o : Option (List ℕ)) (f : Fault) → size_fault t.name o ≡ Some f → table_fault t o ≡ Some f
+size_fails t None f e = cc
+size_fails t (Some bytes) f e = elim (cases_Bool (nat_lt 16777216 (length bytes))) [
+  | inl on ↦ too_long_table t (Some bytes) (grind (arith, nat_tests, on)) ∙ sym (ap (λ b. cond b (Some (Idt t.name TooLarge)) None) on) ∙ e
+  | inr off ↦ let wrong : None ≡ Some f = sym (ap (λ b. cond b (Some (Idt t.name TooLarge)) None) off) ∙ e in cc
+]
+
+pub size_here : (table : Name) (o : Option (List ℕ)) → 16777216 < length (bytes_or_none o) → size_fault table o ≡ Some (Idt table TooLarge)
+size_here table None long = absurd (omega arith)
+size_here table (Some bytes) long = let above : nat_lt 16777216 (length bytes) ≡ true = grind (arith, nat_tests) in rw above refl

@@ -1,8 +1,7 @@
 -- What holds of every lawful package, for those who read it. (Database Tables.)
-use Rattle.std.specs.Prelude.{◌≡◌, ◌≢◌, ◌⊎◌, ℕ, ℤ, zero, suc, pos, negsuc, ◌≤◌, ◌≤ℤ◌, ◌==◌, ◌/◌, ◌%◌, not, Bool, true, false, List, [], ◌∷◌, length, find, unwrap_or, codes, bit_and, Option, Some, None, is_some, IfSome, if◌then◌else◌, All, AllPairs, Contains, ◌-◌, option_map}
+use Rattle.std.specs.Prelude.{◌≡◌, ◌≢◌, ◌⊎◌, ℕ, ℤ, zero, suc, pos, negsuc, ◌≤◌, ◌≤ℤ◌, ◌==◌, ◌/◌, ◌%◌, true, false, List, [], ◌∷◌, length, unwrap_or, codes, Option, Some, None, is_some, IfSome, if◌then◌else◌, All, AllPairs, Contains, ◌-◌, option_map}
 use Rattle.std.specs.List.{slice_get}
 use Rattle.std.specs.Map.{keys_of}
-use Rattle.std.specs.Ordering.{int_eq}
 use Rattle.mi_text.specs.FileNames.{is_file_name, is_file_pattern, is_default_dir, short_name, long_name, target_part, source_part, is_pattern_part}
 use Rattle.mi_text.specs.Path.{is_part}
 use Rattle.mi_text.specs.Maps.{Name}
@@ -11,21 +10,20 @@ use Rattle.mi_text.specs.Version.{version_of}
 use Rattle.mi_text.specs.declared.guid.Guid.{Guid}
 use Rattle.mi_idt.specs.Cells as raw
 use Rattle.mi_idt.specs.Means.{cell_at}
-use Rattle.mi_idt.specs.Fields.{number_on}
 use Rattle.mi_cond.specs.Place.{IsRead, IsPlace}
 use Rattle.mi_cond.specs.Tree.{Tree}
 use Rattle.mi_schema.specs.declared.column.Kind.TheVariants as kind
 use Rattle.mi_schema.specs.declared.package.Package.{Package}
 use Rattle.mi_schema.specs.declared.typed_rows.ComponentRow.{ComponentRow}
-use Rattle.mi_schema.specs.declared.typed_rows.DirectoryRow.{DirectoryRow}
-use Rattle.mi_schema.specs.declared.typed_rows.FileRow.{FileRow}
 use Rattle.mi_schema.specs.declared.typed_rows.PropertyRow.{PropertyRow}
-use Rattle.mi_schema.specs.declared.typed_rows.SummaryInformationRow.{SummaryInformationRow}
-use Rattle.mi_schema.specs.Checks.{companion_of}
 use Rattle.mi_schema.specs.Rows.{spelled_value}
 use Rattle.mi_schema.specs.Tables.{Table}
+use Rattle.mi_schema.specs.Checks.{companion_of, parent_of_directory}
+use Rattle.mi_schema.specs.References.{sets_directory}
+use Rattle.mi_schema.specs.RowsOf.{behind}
+use Rattle.mi_schema.specs.Source.{word_count as count_of, has_attributes}
 use Rattle.mi_schema.specs.Texts.{is_decimal, are_languages, is_language, is_product_code, is_value_of}
-use Rattle.mi_schema.specs.Values.{bits_of, lacks, is_root_below}
+use Rattle.mi_schema.specs.Values.{lacks, is_root_below}
 
 -- ---- words
 
@@ -196,13 +194,9 @@ pub record NamesStand (p : Package) : Type 0 where
 
 -- ---- references
 
--- the keys that a component's key path is one of: values of the registry where attribute 4 is set, else files (Component table, KeyPath)
+-- the keys that a component's key path is one of
 abbrev pub key_paths : Package → ComponentRow → List Name
 key_paths p row = if lacks 4 row.attributes then keys_of p.file.entries else keys_of p.registry.entries
-
--- an action that sets a directory (Custom Action Type 35)
-abbrev pub sets_directory : ℤ → Bool
-sets_directory kind = bit_and (bits_of kind) 63 == 35
 
 -- each row that is named is there
 pub record ReferencesStand (p : Package) : Type 0 where
@@ -236,10 +230,6 @@ EndsWithin {R} parent entries (suc n) row = (parent row ≡ None) ⊎ ((key : Na
 
 abbrev pub ChainsEnd : {R : Type 0} → (R → Option Name) → List (Name × R) → Type 0
 ChainsEnd parent entries = EachRow entries (EndsWithin parent entries (length entries))
-
--- a root row has no parent
-abbrev pub parent_of_directory : DirectoryRow → Option Name
-parent_of_directory row = if is_root_below row.directory row.directory_parent then None else row.directory_parent
 
 -- of Directory, of Feature, and of File, where a companion's parent is the file that its version names
 pub record ParentsEnd (p : Package) : Type 0 where
@@ -291,17 +281,9 @@ pub record ValuesStand (p : Package) : Type 0 where
 
 -- ---- the form of the source files (Word Count Summary property; File table, Attributes)
 
-abbrev pub number_of_property : {K : Type 0} → Option (K × SummaryInformationRow) → ℕ
-number_of_property None = 0
-number_of_property (Some e) = number_on 0 (unwrap_or e.1.value [])
-
 -- property 15, and 0 where it isn't there
 abbrev pub word_count : Package → ℕ
-word_count p = number_of_property (find (λ e. int_eq e.1.property_id (pos 15)) p.summary_information.entries)
-
--- attributes that are null are 0
-abbrev pub has_attributes : FileRow → ℕ → Bool
-has_attributes row bits = not (lacks bits (unwrap_or row.attributes (pos 0)))
+word_count p = count_of (behind p.summary_information.entries)
 
 -- no file is compressed: none has attribute 16384, and each has 8192 where bit 1 of the word count is set; bit 0 says short names
 pub record SourceStands (p : Package) : Type 0 where

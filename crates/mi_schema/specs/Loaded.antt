@@ -1,18 +1,50 @@
--- While the tables of a folder are loaded.
-use Rattle.std.specs.Prelude.{◌≡◌, ℕ, ◌≤◌, List, map, length, take, drop}
+-- While the tables of a folder are loaded into a package.
+use Rattle.std.specs.Prelude.{◌≡◌, ℕ, false, if◌then◌else◌, List, Option, None}
+use Rattle.std.specs.Str.{bytes_eq}
 use Rattle.mi_text.specs.Maps.{Name}
-use Rattle.mi_source.specs.Paths.{Files}
-use Rattle.mi_schema.specs.declared.held.Rows.{Rows}
+use Rattle.mi_schema.specs.declared.package.Package.{Package}
+use Rattle.mi_schema.specs.Content.{Content}
+use Rattle.mi_schema.specs.Package.{HoldsAll, keyed}
+use Rattle.mi_schema.specs.Rows.{table_fault, table_rows}
+use Rattle.mi_schema.specs.Checks.{tables_fault}
+use Rattle.mi_schema.specs.declared.known.Known.{Known}
+use Rattle.mi_schema.specs.Listed.{Listed, Loaded, Refused, layout_of, tables}
 use Rattle.mi_schema.specs.Tables.{Table}
-use Rattle.mi_schema.specs.Checks.{tables_fault, rows_of}
-use Rattle.mi_schema.specs.Lawful.{AreTables}
-use Rattle.mi_schema.specs.Read.{rows_as}
+use Rattle.mi_schema.specs.Values.{Row}
 
--- so many of these tables
-pub record LoadedSoFar (told : Type 0) (old new : Files) (before now : ℕ) (folder : Name) (ts : List Table) (i : ℕ) (held : List Rows) : Type 0 where
-  pub rows : told → map rows_as held ≡ map (rows_of old folder) (take i ts)
-  pub fault : told → tables_fault old folder (drop i ts) ≡ tables_fault old folder ts
-  pub are_tables : AreTables (take i ts) (map rows_as held)
-  pub same : new ≡ old
-  pub counts : before ≤ now
-  pub long : length held ≡ i
+-- some file without a fault has these rows; where the source tells, it is this one
+pub record IsRead (told : Type 0) (file : Option (List ℕ)) (t : Table) (rows : List Row) : Type 0 where
+  pub found : Option (List ℕ)
+  pub same : told → found ≡ file
+  pub right : table_fault t found ≡ None
+  pub are : table_rows t found ≡ rows
+
+-- and so each behind its key
+pub record AreRead {K R : Type 0} (key : Row → K) (row : Row → R) (told : Type 0) (file : Option (List ℕ)) (t : Table) (entries : List (K × R)) : Type 0 where
+  pub found : Option (List ℕ)
+  pub same : told → found ≡ file
+  pub right : table_fault t found ≡ None
+  pub are : entries ≡ keyed key row (table_rows t found)
+
+-- the content with a file in its place
+abbrev pub with_file : Content → Name → Option (List ℕ) → Content
+with_file content table file = λ name. if bytes_eq name table then file else content name
+
+-- a refused table has not the name of a known one
+abbrev pub IsOther : Listed → Type 0
+IsOther (Loaded k) = Unit {0}
+IsOther (Refused name) = (k : Known) → bytes_eq (layout_of k).name name ≡ false
+
+-- some file without a fault has been put into the package
+pub record IsPut (told : Type 0) (content : Content) (t : Table) (old new : Package) : Type 0 where
+  pub found : Option (List ℕ)
+  pub same : told → found ≡ content t.name
+  pub right : table_fault t found ≡ None
+  pub holds : (c : Content) → HoldsAll old c → HoldsAll new (with_file c t.name found)
+
+-- the package holds the rows of some files without a fault, which are those of the folder, where the source tells
+pub record AreLoaded (told : Type 0) (content : Content) (p : Package) : Type 0 where
+  pub found : Content
+  pub same : told → found ≡ content
+  pub right : tables_fault found tables ≡ None
+  pub holds : HoldsAll p found

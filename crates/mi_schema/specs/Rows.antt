@@ -1,9 +1,10 @@
 -- The rows of a table, and its first fault.
-use Rattle.std.specs.Prelude.{ℕ, ◌+◌, ◌&&◌, Bool, true, false, if◌then◌else◌, List, [], ◌∷◌, ◌++◌, map, Option, Some, None, option_map}
+use Rattle.std.specs.Prelude.{ℕ, ◌+◌, ◌&&◌, Bool, true, false, if◌then◌else◌, List, [], ◌∷◌, ◌++◌, map, length, nat_lt, Option, Some, None, option_map}
 use Rattle.std.specs.Str.{bytes_eq}
 use Rattle.mi_text.specs.Maps.{Name}
 use Rattle.mi_base.specs.declared.answers.Fault.{Fault}
 use Rattle.mi_base.specs.declared.answers.Fault.TheVariants.{Idt, Columns, Unsupported, Value, Condition}
+use Rattle.mi_text.specs.declared.answers.IdtFault.TheVariants.{TooLarge}
 use Rattle.mi_idt.specs.Cells as raw
 use Rattle.mi_idt.specs.Columns.{is_text, is_int}
 use Rattle.mi_idt.specs.Fault.{idt_fault}
@@ -97,6 +98,11 @@ value_fault t v =
 -- the value of the table that bytes spell
 abbrev pub spelled_value : List ℕ → raw.TableValue
 spelled_value bytes = spelled.value_of (spelled.raw_of bytes)
+
+-- more bytes than a table may have
+abbrev pub size_fault : Name → Option (List ℕ) → Option Fault
+size_fault table None = None
+size_fault table (Some bytes) = if nat_lt 16777216 (length bytes) then Some (Idt table TooLarge) else None
 
 -- the first fault of a table in a file; a table without a file has no rows
 abbrev pub table_fault : Table → Option (List ℕ) → Option Fault

@@ -4,14 +4,15 @@ use Rattle.mi_schema.specs.declared.package.Package.{Package}
 use Rattle.mi_schema.specs.Tables as table
 use Rattle.mi_text.specs.Maps.{Name}
 use Rattle.mi_source.specs.Paths.{Files}
-use Rattle.mi_schema.specs.Checks.{Content, content_of, rows_at, has_short_names}
+use Rattle.mi_schema.specs.Content.{Content, content_of, rows_at}
+use Rattle.mi_schema.specs.Source.{has_short_names}
 use Rattle.mi_schema.specs.TypedRows.{property_row, directory_row, component_row, feature_row, feature_components_row, condition_row, file_row, msi_file_hash_row, remove_file_row, create_folder_row, duplicate_file_row, registry_row, remove_registry_row, environment_row, shortcut_row, launch_condition_row, launch_condition_key, custom_action_row, install_execute_sequence_row, upgrade_row, summary_information_row}
 use Rattle.mi_schema.specs.TableRows.{Rows}
 
 -- the rows of all known tables
 unfoldable pub rows_of_content : Content → Rows
 rows_of_content content = record {
-  short_names = has_short_names content;
+  short_names = has_short_names (map summary_information_row (rows_at content table.summary_information));
   component = map component_row (rows_at content table.component);
   condition = map condition_row (rows_at content table.condition);
   create_folder = map create_folder_row (rows_at content table.create_folder);

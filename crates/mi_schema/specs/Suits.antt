@@ -1,5 +1,5 @@
 -- Rows whose values are of the types of their columns, and whose keys differ. (Database Tables; Column Data Types.)
-use Rattle.std.specs.Prelude.{◌≡◌, ◌&&◌, Bool, true, false, if◌then◌else◌, List, [], ◌∷◌, Option, Some, None}
+use Rattle.std.specs.Prelude.{◌≡◌, ◌&&◌, ◌||◌, not, Bool, true, false, if◌then◌else◌, List, [], ◌∷◌, Option, Some, None}
 use Rattle.std.specs.List.{list_all}
 use Rattle.mi_schema.specs.declared.cell.Cell.{Cell}
 use Rattle.mi_schema.specs.declared.cell.Cell.TheVariants as cell
@@ -17,7 +17,6 @@ suits_kind kind.Text (cell.Text text) = true
 suits_kind kind.Name (cell.Text text) = true
 suits_kind kind.Pattern (cell.Text text) = true
 suits_kind kind.Formatted (cell.Text text) = true
-suits_kind (kind.KeyOf target) (cell.Text text) = true
 suits_kind kind other = false
 
 -- null only where the column allows it
@@ -55,3 +54,13 @@ IsNewKey cs row (r ∷ rows) = (key_cells cs row ≡ key_cells cs r → ⊥) × 
 abbrev pub KeysDiffer : List Column → List Row → Type 0
 KeysDiffer cs [] = Unit {0}
 KeysDiffer cs (row ∷ rows) = IsNewKey cs row rows × KeysDiffer cs rows
+
+-- codes of other letters may be equal, so that the value doesn't tell the text
+abbrev pub tells : Kind → Bool
+tells kind.Code = false
+tells other = true
+
+-- the values of the key columns tell the fields
+abbrev pub keys_tell : List Column → Bool
+keys_tell [] = true
+keys_tell (c ∷ cs) = (not c.key || tells c.kind) && keys_tell cs

@@ -1,10 +1,9 @@
--- The tables that are known or refused, in byte order of their names. (Database Tables.)
+-- The layouts of the known tables. (Database Tables.)
 use Rattle.std.specs.Prelude.{ℕ, pos, negsuc, Bool, true, false, List, [], ◌∷◌, codes}
-use Rattle.mi_schema.specs.declared.column.Target.TheVariants as of
 use Rattle.mi_schema.specs.declared.column.Kind.{Kind}
-use Rattle.mi_schema.specs.declared.column.Kind.TheVariants.{Text, Name, Pattern, Formatted, Condition, Code, Integer, KeyOf}
+use Rattle.mi_schema.specs.declared.column.Kind.TheVariants.{Text, Name, Pattern, Formatted, Condition, Code, Integer}
 use Rattle.mi_schema.specs.declared.column.Rule.{Rule}
-use Rattle.mi_schema.specs.declared.column.Rule.TheVariants.{Free, PropertyName, PropertyValue, OneRoot, DefaultDir, NewCode, Without, Within, VersionOrKey, Languages, WordCount, KeyPath, ActionSource}
+use Rattle.mi_schema.specs.declared.column.Rule.TheVariants.{Free, PropertyName, PropertyValue, OneRoot, DefaultDir, NewCode, Without, Within, VersionOrKey, Languages, WordCount}
 
 -- a column: its name, what it holds, whether it may be null, whether it is a key column, and its further rule
 pub record Column : Type 0 where
@@ -45,45 +44,45 @@ abbrev pub component : Table
 component = known (codes "Component") (
     key (codes "Component") Text Free
     ∷ allows (codes "ComponentId") Code NewCode
-    ∷ needs (codes "Directory_") (KeyOf of.Directory) Free
+    ∷ needs (codes "Directory_") Text Free
     ∷ needs (codes "Attributes") Integer (Without 97)
     ∷ allows (codes "Condition") Condition Free
-    ∷ allows (codes "KeyPath") Text KeyPath
+    ∷ allows (codes "KeyPath") Text Free
     ∷ [])
 
 abbrev pub condition : Table
 condition = known (codes "Condition") (
-    key (codes "Feature_") (KeyOf of.Feature) Free
+    key (codes "Feature_") Text Free
     ∷ key (codes "Level") Integer Free
     ∷ allows (codes "Condition") Condition Free
     ∷ [])
 
 abbrev pub create_folder : Table
 create_folder = known (codes "CreateFolder") (
-    key (codes "Directory_") (KeyOf of.Directory) Free
-    ∷ key (codes "Component_") (KeyOf of.Component) Free
+    key (codes "Directory_") Text Free
+    ∷ key (codes "Component_") Text Free
     ∷ [])
 
 abbrev pub custom_action : Table
 custom_action = known (codes "CustomAction") (
     key (codes "Action") Text Free
     ∷ needs (codes "Type") Integer Free
-    ∷ allows (codes "Source") Text ActionSource
+    ∷ allows (codes "Source") Text Free
     ∷ allows (codes "Target") Formatted Free
     ∷ [])
 
 abbrev pub directory : Table
 directory = known (codes "Directory") (
     key (codes "Directory") Text Free
-    ∷ allows (codes "Directory_Parent") (KeyOf of.Directory) OneRoot
+    ∷ allows (codes "Directory_Parent") Text OneRoot
     ∷ needs (codes "DefaultDir") Text DefaultDir
     ∷ [])
 
 abbrev pub duplicate_file : Table
 duplicate_file = known (codes "DuplicateFile") (
     key (codes "FileKey") Text Free
-    ∷ needs (codes "Component_") (KeyOf of.Component) Free
-    ∷ needs (codes "File_") (KeyOf of.File) Free
+    ∷ needs (codes "Component_") Text Free
+    ∷ needs (codes "File_") Text Free
     ∷ allows (codes "DestName") Name Free
     ∷ allows (codes "DestFolder") Text Free
     ∷ [])
@@ -93,13 +92,13 @@ environment = known (codes "Environment") (
     key (codes "Environment") Text Free
     ∷ needs (codes "Name") Text Free
     ∷ allows (codes "Value") Formatted Free
-    ∷ needs (codes "Component_") (KeyOf of.Component) Free
+    ∷ needs (codes "Component_") Text Free
     ∷ [])
 
 abbrev pub feature : Table
 feature = known (codes "Feature") (
     key (codes "Feature") Text Free
-    ∷ allows (codes "Feature_Parent") (KeyOf of.Feature) Free
+    ∷ allows (codes "Feature_Parent") Text Free
     ∷ allows (codes "Title") Text Free
     ∷ allows (codes "Description") Text Free
     ∷ allows (codes "Display") Integer Free
@@ -110,14 +109,14 @@ feature = known (codes "Feature") (
 
 abbrev pub feature_components : Table
 feature_components = known (codes "FeatureComponents") (
-    key (codes "Feature_") (KeyOf of.Feature) Free
-    ∷ key (codes "Component_") (KeyOf of.Component) Free
+    key (codes "Feature_") Text Free
+    ∷ key (codes "Component_") Text Free
     ∷ [])
 
 abbrev pub file : Table
 file = known (codes "File") (
     key (codes "File") Text Free
-    ∷ needs (codes "Component_") (KeyOf of.Component) Free
+    ∷ needs (codes "Component_") Text Free
     ∷ needs (codes "FileName") Name Free
     ∷ needs (codes "FileSize") Integer (Within (pos 0) (pos 2147483647))
     ∷ allows (codes "Version") Text VersionOrKey
@@ -141,7 +140,7 @@ launch_condition = known (codes "LaunchCondition") (
 
 abbrev pub msi_file_hash : Table
 msi_file_hash = known (codes "MsiFileHash") (
-    key (codes "File_") (KeyOf of.File) Free
+    key (codes "File_") Text Free
     ∷ needs (codes "Options") Integer Free
     ∷ needs (codes "HashPart1") Integer Free
     ∷ needs (codes "HashPart2") Integer Free
@@ -162,13 +161,13 @@ registry = known (codes "Registry") (
     ∷ needs (codes "Key") Formatted Free
     ∷ allows (codes "Name") Formatted Free
     ∷ allows (codes "Value") Formatted Free
-    ∷ needs (codes "Component_") (KeyOf of.Component) Free
+    ∷ needs (codes "Component_") Text Free
     ∷ [])
 
 abbrev pub remove_file : Table
 remove_file = known (codes "RemoveFile") (
     key (codes "FileKey") Text Free
-    ∷ needs (codes "Component_") (KeyOf of.Component) Free
+    ∷ needs (codes "Component_") Text Free
     ∷ allows (codes "FileName") Pattern Free
     ∷ needs (codes "DirProperty") Text Free
     ∷ needs (codes "InstallMode") Integer (Within (pos 1) (pos 3))
@@ -180,15 +179,15 @@ remove_registry = known (codes "RemoveRegistry") (
     ∷ needs (codes "Root") Integer (Within (negsuc 0) (pos 3))
     ∷ needs (codes "Key") Formatted Free
     ∷ allows (codes "Name") Formatted Free
-    ∷ needs (codes "Component_") (KeyOf of.Component) Free
+    ∷ needs (codes "Component_") Text Free
     ∷ [])
 
 abbrev pub shortcut : Table
 shortcut = known (codes "Shortcut") (
     key (codes "Shortcut") Text Free
-    ∷ needs (codes "Directory_") (KeyOf of.Directory) Free
+    ∷ needs (codes "Directory_") Text Free
     ∷ needs (codes "Name") Name Free
-    ∷ needs (codes "Component_") (KeyOf of.Component) Free
+    ∷ needs (codes "Component_") Text Free
     ∷ needs (codes "Target") Formatted Free
     ∷ allows (codes "Arguments") Formatted Free
     ∷ allows (codes "Description") Text Free
@@ -215,55 +214,6 @@ upgrade = known (codes "Upgrade") (
     ∷ allows (codes "Remove") Text Free
     ∷ needs (codes "ActionProperty") Text Free
     ∷ [])
-
-unfoldable pub tables : List Table
-tables =
-    refused (codes "AppId")
-    ∷ refused (codes "BindImage")
-    ∷ refused (codes "Class")
-    ∷ refused (codes "Complus")
-    ∷ component
-    ∷ condition
-    ∷ create_folder
-    ∷ custom_action
-    ∷ directory
-    ∷ duplicate_file
-    ∷ environment
-    ∷ refused (codes "Extension")
-    ∷ feature
-    ∷ feature_components
-    ∷ file
-    ∷ refused (codes "Font")
-    ∷ refused (codes "IniFile")
-    ∷ install_execute_sequence
-    ∷ refused (codes "IsolatedComponent")
-    ∷ launch_condition
-    ∷ refused (codes "LockPermissions")
-    ∷ refused (codes "MIME")
-    ∷ refused (codes "MoveFile")
-    ∷ refused (codes "MsiAssembly")
-    ∷ msi_file_hash
-    ∷ refused (codes "ODBCAttribute")
-    ∷ refused (codes "ODBCDataSource")
-    ∷ refused (codes "ODBCDriver")
-    ∷ refused (codes "ODBCSourceAttribute")
-    ∷ refused (codes "ODBCTranslator")
-    ∷ refused (codes "ProgId")
-    ∷ property
-    ∷ refused (codes "PublishComponent")
-    ∷ registry
-    ∷ remove_file
-    ∷ refused (codes "RemoveIniFile")
-    ∷ remove_registry
-    ∷ refused (codes "SelfReg")
-    ∷ refused (codes "ServiceControl")
-    ∷ refused (codes "ServiceInstall")
-    ∷ shortcut
-    ∷ refused (codes "TypeLib")
-    ∷ upgrade
-    ∷ refused (codes "Verb")
-    ∷ summary_information
-    ∷ []
 
 -- the properties that each package has
 abbrev pub required_properties : List (List ℕ)

@@ -153,5 +153,3 @@ meets rule.VersionOrKey keys before front cell = if_text (λ text. is_some (vers
 meets rule.Languages keys before front cell = if_text are_languages cell
 meets rule.WordCount keys before front cell = not (int_eq (number_in (cell_at front 0)) (pos 15)) || is_decimal (unwrap_or (text_in cell) [])
 meets rule.Free keys before front cell = true
-meets rule.KeyPath keys before front cell = true
-meets rule.ActionSource keys before front cell = true

@@ -1,107 +1,139 @@
 //! Chains of parents.
 
-ghost use Rattle.std.specs.Prelude.{◌≡◌, IfOk, List, option_and_then};
-ghost use Rattle.std.specs.Option.{option_copied};
+ghost use Rattle.std.specs.Prelude.{◌≡◌, ◌≤◌, ℕ, List, Option, map, length, codes, IfOk, option_map, option_and_then};
+ghost use Rattle.std.specs.Map.{keys_of};
 ghost use Rattle.mi_text.specs.Maps.{Name};
 ghost use Rattle.mi_base.specs.declared.answers.Fault.TheVariants as faults;
 ghost use Rattle.mi_schema.specs.Answers.{Answers};
-ghost use Rattle.mi_schema.specs.Checks.{target_table, companion_of, parent_key, row_with, parents_of, chain_fault};
-ghost use Rattle.mi_schema.specs.Keys.{KnowsKeys};
-ghost use Rattle.mi_schema.specs.Read.{rows_as};
+ghost use Rattle.mi_schema.specs.Checks.{companion_of, parent_of_directory, row_with, parents_of, chain_fault, cycles_fault};
+ghost use Rattle.mi_schema.specs.Laws.{TablesSmall};
+ghost use Rattle.mi_schema.specs.Named.{AreNamed};
 ghost use Rattle.mi_schema.specs.Reads.{Refuses};
+ghost use Rattle.mi_schema.specs.RowsOf.{rows_in, behind};
 
-use crate::cell::{Cell, some_text_at};
-use crate::column::Target;
 use crate::error::LoadError;
-use crate::held::Rows;
-use crate::rule::is_root;
+use crate::package::Package;
 use crate::text::is_version;
+use crate::typed_rows::{DirectoryRow, FeatureRow, FileRow};
+use indexmap::IndexMap;
 use mi_base::{Fault, NoMemory, Text};
 use mi_dirs::{DirError, DirFault, order_of};
 use std::alloc::Global;
-use std::collections::BTreeMap;
 
-/// The key of the file that a Version names, where it isn't a version (File table, Version).
-fn companion_of(version: Option<&str>) -> Option<&str>
-    ensures { option_copied result ≡ companion_of (option_copied version.entry) }
-{
-    let text = version?;
-    if is_version(text) { None } else { Some(text) }
+/// A row that may have a parent in its table.
+pub trait HasParent {
+    /// The key of its own.
+    ghost own: { Self → Name };
+
+    /// The key of its parent.
+    ghost parent: { Self → Option Name };
+
+    /// The key of its parent.
+    fn parent(&self) -> Option<&Text>
+        ensures { option_map (λ key. key.now) result ≡ parent self.now };
 }
 
-/// The key of a row's parent.
-fn parent_key(target: Target, row: &[Option<Cell>]) -> Option<&str>
-    ensures { option_copied result ≡ parent_key target row.now }
-{
-    match target {
-        Target::Directory => {
-            if is_root(row) {
-                None
-            } else {
-                some_text_at(row, 1)
-            }
+impl HasParent for DirectoryRow {
+    ghost own = { λ r. r.directory };
+
+    ghost parent = { parent_of_directory };
+
+    fn parent(&self) -> Option<&Text> {
+        let parent = self.directory_parent.as_ref()?;
+        if parent.as_str() == self.directory.as_str() {
+            None
+        } else {
+            Some(parent)
         }
-        Target::Feature => some_text_at(row, 1),
-        Target::File => companion_of(some_text_at(row, 4)),
-        Target::Component | Target::Registry => None,
+    }
+}
+
+impl HasParent for FeatureRow {
+    ghost own = { λ r. r.feature };
+
+    ghost parent = { λ r. r.feature_parent };
+
+    fn parent(&self) -> Option<&Text> {
+        self.feature_parent.as_ref()
+    }
+}
+
+impl HasParent for FileRow {
+    ghost own = { λ r. r.file };
+
+    ghost parent = { λ r. companion_of r.version };
+
+    fn parent(&self) -> Option<&Text> {
+        let version = self.version.as_ref()?;
+        if is_version(version.as_str()) {
+            None
+        } else {
+            Some(version)
+        }
     }
 }
 
 /// The row of a row's parent.
-fn parent_of(target: Target, index: &BTreeMap<String, usize>, row: &[Option<Cell>]) -> Option<usize>
-    ensures { (keys : List Name) → KnowsKeys index.now keys → result ≡ option_and_then (row_with keys) (parent_key target row.now) }
+fn parent_of<R: HasParent>(rows: &IndexMap<Text, R>, row: &R) -> Option<usize>
+    ensures { result ≡ option_and_then (row_with (keys_of rows.now.entries)) (R.parent row.now) }
 {
-    match parent_key(target, row) {
-        Some(key) => match index.get(key) {
-            Some(row) => Some(*row),
-            None => None,
-        },
+    match row.parent() {
+        Some(key) => rows.get_index_of(key),
         None => None,
     }
 }
 
 /// The rows of the parents of all rows.
-fn parents_of(alloc: Global, target: Target, rows: &Rows) -> Result<Vec<Option<usize>>, NoMemory>
-    ensures { IfOk result (λ parents. parents.items ≡ parents_of target (rows_as rows.now)) }
+fn parents_of<R: HasParent>(
+    alloc: Global,
+    rows: &IndexMap<Text, R>,
+) -> Result<Vec<Option<usize>>, NoMemory>
+    ensures { IfOk result (λ parents. parents.items ≡ map (λ r. option_and_then (row_with (keys_of rows.now.entries)) (R.parent r)) (behind rows.now.entries)) }
 {
-    let mut parents = Vec::new(alloc);
-    for row in rows.rows.iter() {
-        parents.push(parent_of(target, &rows.index, row.as_slice()))?;
+    let mut parents = Vec::with_capacity(alloc, rows.len())?;
+    for row in rows.values() {
+        parents.push(parent_of(rows, row))?;
     }
     Ok(parents)
 }
 
-fn name_of(target: Target) -> &'static str
-    ensures { result.now ≡ (target_table target).name }
-{
-    match target {
-        Target::Component => "Component",
-        Target::Directory => "Directory",
-        Target::Feature => "Feature",
-        Target::File => "File",
-        Target::Registry => "Registry",
-    }
-}
-
 /// The fault of a row whose chain of parents doesn't end.
-fn endless(alloc: Global, target: Target, row: u32) -> LoadError
-    ensures { Refuses result (faults.Cycle (target_table target).name row) }
+fn endless(alloc: Global, table: &str, row: u32) -> LoadError
+    ensures { Refuses result (faults.Cycle table.now row) }
 {
-    match Text::copy_of(alloc, name_of(target)) {
+    match Text::copy_of(alloc, table) {
         Ok(table) => LoadError::Table(Fault::Cycle(table, row)),
         Err(_) => LoadError::NoMemory,
     }
 }
 
 /// Refuses with the first row whose chain of parents doesn't end.
-pub fn check_chains(alloc: Global, target: Target, rows: &Rows) -> Result<(), LoadError>
-    ensures { Answers ⊥ (chain_fault target (rows_as rows.now)) (λ _. Unit {0}) result }
+fn check_chains<R: HasParent>(
+    alloc: Global,
+    table: &str,
+    rows: &IndexMap<Text, R>,
+) -> Result<(), LoadError>
+    requires named { keys_of rows.now.entries ≡ map R.own (behind rows.now.entries) }
+    requires few { length rows.now.entries ≤ 65535 }
+    ensures { Answers ⊥ (chain_fault table.now R.own R.parent (behind rows.now.entries)) (λ _. Unit {0}) result }
 {
-    let parents = parents_of(alloc, target, rows)?;
+    let parents = parents_of(alloc, rows)?;
     match order_of(alloc, parents.as_slice()) {
         Ok(_) => Ok(()),
-        Err(DirError::Fault(DirFault::Cycle(row))) => Err(endless(alloc, target, row)),
+        Err(DirError::Fault(DirFault::Cycle(row))) => Err(endless(alloc, table, row)),
         Err(DirError::Fault(DirFault::BadPath(_))) => unreachable!(),
         Err(DirError::NoMemory) => Err(LoadError::NoMemory),
     }
+}
+
+/// Refuses with the first row of Directory, Feature or File whose chain of parents doesn't end.
+#[tactic(auto, unfolding(crate::specs::RowsOf::rows_in))]
+pub fn check_cycles(alloc: Global, loaded: &Package) -> Result<(), LoadError>
+    requires named { AreNamed loaded.now }
+    requires few { TablesSmall loaded.now }
+    ensures { Answers ⊥ (cycles_fault (rows_in loaded.now)) (λ _. Unit {0}) result }
+{
+    check_chains(alloc, "Directory", &loaded.directory)?;
+    check_chains(alloc, "Feature", &loaded.feature)?;
+    check_chains(alloc, "File", &loaded.file)
 }

@@ -1,15 +1,5 @@
 //! How a table is described: its columns, what they hold, and the rules that their values meet.
 
-/// A table whose keys other tables name.
-#[derive(Clone, Copy, PartialEq, Eq)]
-pub enum Target {
-    Component,
-    Directory,
-    Feature,
-    File,
-    Registry,
-}
-
 /// What a column holds (Column Data Types).
 #[derive(Clone, Copy)]
 pub enum Kind {
@@ -27,12 +17,9 @@ pub enum Kind {
     Code,
     /// An integer (Integer; DoubleInteger).
     Integer,
-    /// A key of a table (Identifier).
-    KeyOf(Target),
 }
 
-/// What the values of a column meet beside their kind. A null meets every rule but `OneRoot`, `WordCount`
-/// and `ActionSource`.
+/// What the values of a column meet beside their kind. A null meets every rule but `OneRoot` and `WordCount`.
 #[derive(Clone, Copy)]
 pub enum Rule {
     /// No further rule.
@@ -58,10 +45,6 @@ pub enum Rule {
     Languages,
     /// A decimal number for property 15 (Word Count Summary property).
     WordCount,
-    /// A key of File, or with attribute 4 one of Registry (Component table).
-    KeyPath,
-    /// A key of Directory, where the action sets a directory (CustomAction table).
-    ActionSource,
 }
 
 /// A column of a known table.
@@ -74,7 +57,7 @@ pub struct Column {
     pub rule: Rule,
 }
 
-/// A table as this project knows it; one without columns is refused where it holds a row.
+/// A table as this project knows it; one that is refused has no columns here.
 #[derive(Clone, Copy)]
 pub struct Layout {
     pub name: &'static str,

@@ -4,17 +4,16 @@ ghost use Rattle.std.specs.Prelude.{◌≡◌, ◌%◌};
 ghost use Rattle.mi_base.specs.declared.answers.Fault.TheVariants as faults;
 ghost use Rattle.mi_idt.specs.Fields.{number_on};
 ghost use Rattle.mi_schema.specs.Answers.{Answers};
-ghost use Rattle.mi_schema.specs.Checks.{word_count, is_word_count, is_compressed, file_fault, has_short_names, is_source_compressed};
-ghost use Rattle.mi_schema.specs.Held.{content_as};
-ghost use Rattle.mi_schema.specs.Read.{rows_as};
+ghost use Rattle.mi_schema.specs.Checks.{compressed_fault};
 ghost use Rattle.mi_schema.specs.Reads.{Refuses};
+ghost use Rattle.mi_schema.specs.RowsOf.{rows_in, behind};
+ghost use Rattle.mi_schema.specs.Source.{word_count, number_or_zero, has_attributes, is_compressed, file_fault, has_short_names, is_source_compressed};
 
-use crate::cell::{Cell, number_at, text_at};
-use crate::content::Content;
 use crate::error::LoadError;
-use crate::held::Rows;
-use crate::place::SUMMARY_INFORMATION;
+use crate::package::Package;
 use crate::rule::lacks;
+use crate::typed_rows::{FileRow, SummaryInformationRow};
+use indexmap::IndexMap;
 use mi_base::{Fault, Text};
 use std::alloc::Global;
 
@@ -29,45 +28,50 @@ fn low_bits(digits: &str) -> u32
     bits
 }
 
-/// Whether a row states the word count (Word Count Summary property).
-fn is_word_count(row: &[Option<Cell>]) -> bool
-    ensures { result ≡ is_word_count row.now }
-{
-    number_at(row, 0) == 15
-}
-
 /// The two low bits of the word count (Word Count Summary property).
-fn word_count(summary: &Rows) -> u32
-    ensures { result ≡ word_count (rows_as summary.now) % 4 }
+fn word_count(summary: &IndexMap<i32, SummaryInformationRow>) -> u32
+    ensures { result ≡ word_count (behind summary.now.entries) % 4 }
 {
-    for row in summary.rows.iter() {
-        if is_word_count(row.as_slice()) {
-            return low_bits(text_at(row.as_slice(), 1));
+    for row in summary.values() {
+        if row.property_id == 15 {
+            return match &row.value {
+                Some(value) => low_bits(value.as_str()),
+                None => 0,
+            };
         }
     }
     0
 }
 
 /// Whether the source has short names.
-pub fn has_short_names(content: &Content) -> bool
-    ensures { result ≡ has_short_names (content_as content.now) }
+pub fn has_short_names(loaded: &Package) -> bool
+    ensures { result ≡ has_short_names (behind loaded.now.summary_information.entries) }
 {
-    word_count(content.at(SUMMARY_INFORMATION)) % 2 == 1
+    word_count(&loaded.summary_information) % 2 == 1
 }
 
 /// Whether the source is compressed, where a file doesn't say otherwise.
-pub fn is_source_compressed(content: &Content) -> bool
-    ensures { result ≡ is_source_compressed (content_as content.now) }
+fn is_source_compressed(loaded: &Package) -> bool
+    ensures { result ≡ is_source_compressed (behind loaded.now.summary_information.entries) }
 {
-    word_count(content.at(SUMMARY_INFORMATION)) / 2 == 1
+    word_count(&loaded.summary_information) / 2 == 1
 }
 
-/// Whether a file is compressed (File table, Attributes).
-fn is_compressed(source: bool, row: &[Option<Cell>]) -> bool
+/// Whether a file has one of these attributes (File table, Attributes).
+fn has_attributes(row: &FileRow, bits: u32) -> bool
+    ensures { result ≡ has_attributes row.now bits }
+{
+    match row.attributes {
+        Some(attributes) => !lacks(bits, attributes),
+        None => !lacks(bits, 0),
+    }
+}
+
+/// Whether a file is compressed.
+fn is_compressed(source: bool, row: &FileRow) -> bool
     ensures { result ≡ is_compressed source row.now }
 {
-    let attributes = number_at(row, 6);
-    !lacks(16384, attributes) || (source && lacks(8192, attributes))
+    has_attributes(row, 16384) || (source && !has_attributes(row, 8192))
 }
 
 /// The fault of a compressed file.
@@ -81,13 +85,25 @@ fn compressed(alloc: Global, file: &str) -> LoadError
 }
 
 /// Refuses with the first compressed file.
-pub fn check_files(alloc: Global, source: bool, files: &Rows) -> Result<(), LoadError>
-    ensures { Answers ⊥ (file_fault source (rows_as files.now)) (λ _. Unit {0}) result }
+fn check_files(
+    alloc: Global,
+    source: bool,
+    files: &IndexMap<Text, FileRow>,
+) -> Result<(), LoadError>
+    ensures { Answers ⊥ (file_fault source (behind files.now.entries)) (λ _. Unit {0}) result }
 {
-    for row in files.rows.iter() {
-        if is_compressed(source, row.as_slice()) {
-            return Err(compressed(alloc, text_at(row.as_slice(), 0)));
+    for row in files.values() {
+        if is_compressed(source, row) {
+            return Err(compressed(alloc, row.file.as_str()));
         }
     }
     Ok(())
+}
+
+/// Refuses with the first compressed file of a package.
+#[tactic(auto, unfolding(crate::specs::RowsOf::rows_in))]
+pub fn check_compressed(alloc: Global, loaded: &Package) -> Result<(), LoadError>
+    ensures { Answers ⊥ (compressed_fault (rows_in loaded.now)) (λ _. Unit {0}) result }
+{
+    check_files(alloc, is_source_compressed(loaded), &loaded.file)
 }

@@ -1,21 +1,19 @@
 //! The tables of a package, loaded from a folder and checked (Database Tables).
 #![tactic(auto)]
 
-mod build;
 mod cell;
 mod chain;
 mod check;
 mod column;
-mod content;
 mod error;
 mod file;
 mod form;
-mod held;
 mod key;
+mod known;
 mod laws;
+mod layouts;
 mod load;
 mod package;
-mod place;
 mod property;
 mod read;
 mod reference;

@@ -1,66 +1,132 @@
 //! Loading the tables of a package.
 
-ghost use Rattle.std.specs.Prelude.{◌≡◌, ◌≤◌, IfOk, None, length, map, vec_len};
+ghost use Rattle.std.specs.Prelude.{◌≡◌, ◌≤◌, IfErr, IfOk, OnOk, None};
 ghost use Rattle.mi_source.specs.Counts.{Rose};
-ghost use Rattle.mi_schema.specs.Answers.{Answers, IsCounted};
-ghost use Rattle.mi_schema.specs.Described.{table_as};
-ghost use Rattle.mi_schema.specs.Held.{content_as};
-ghost use Rattle.mi_schema.specs.Lawful.{AreTables, IsLawful};
-ghost use Rattle.mi_schema.specs.Package.{IsPackage};
-ghost use Rattle.mi_schema.specs.Read.{rows_as};
+ghost use Rattle.mi_schema.specs.Answers.{Answers, Fails, IsCounted};
+ghost use Rattle.mi_schema.specs.Lawful.{IsLawful};
+ghost use Rattle.mi_schema.specs.Listed.{layout_of, table_of, tables, listed_as};
+ghost use Rattle.mi_schema.specs.Loaded.{AreRead, IsPut, IsOther, AreLoaded};
+ghost use Rattle.mi_schema.specs.Package.{IsPackage, HoldsAll};
 ghost use Rattle.mi_schema.specs.RowsOf.{folder_rows, rows_in};
-ghost use Rattle.mi_schema.specs.Tables.{tables};
 ghost use Rattle.mi_base.specs.declared.answers.Fault.TheVariants as faults;
 ghost use Rattle.mi_schema.specs.Reads.{Refuses};
-ghost use Rattle.mi_schema.specs.Checks.{rows_of, content_of, tables_fault, missing_table, missing_fault, content_fault, load_fault};
+ghost use Rattle.mi_schema.specs.Rows.{table_fault};
+ghost use Rattle.mi_schema.specs.Checks.{Content, content_of, tables_fault, missing_table, missing_fault, load_fault};
 
-use crate::build::build;
-use crate::check::check_content;
-use crate::column::Layout;
-use crate::content::Content;
+use crate::check::check_rows;
 use crate::error::LoadError;
-use crate::held::Rows;
+use crate::form::has_short_names;
+use crate::known::Known;
 use crate::package::Package;
-use crate::table::{is_there, load_table, path_of};
-use crate::tables::tables;
+use crate::table::{is_there, load_table, path_of, refuse_table};
+use crate::table_row::{Key, TableRow, collect};
+use crate::tables::{Listed, tables};
+use indexmap::IndexMap;
 use mi_base::{Fault, Text};
 use mi_source::Source;
 use std::alloc::Global;
 
-/// The rows of these tables in a folder, or the first fault of one.
-fn load_each<S: Source>(
+/// Reads the rows of a table in a folder into a map, under their keys.
+fn load_rows<K: Key, R: TableRow<K>, S: Source>(
     alloc: Global,
     src: &mut S,
     folder: &str,
-    layouts: &[Layout],
-) -> Result<Vec<Rows>, LoadError>
-    ensures value { S.told → Answers (Rose (S.faults src.old) (S.faults src.new)) (tables_fault (S.files src.old) folder.now (map table_as layouts.now))
-        (λ held. map rows_as held.items ≡ map (rows_of (S.files src.old) folder.now) (map table_as layouts.now)) result }
-    ensures as_many { IfOk result (λ held. vec_len held ≡ length layouts.now) }
-    ensures are_tables { IfOk result (λ held. AreTables (map table_as layouts.now) (map rows_as held.items)) }
+    map: &mut IndexMap<K, R>,
+) -> Result<(), LoadError>
+    ensures read { OnOk result (AreRead R.key R.value S.told (content_of (S.files src.old) folder.now R.table.name) R.table map.new.entries) }
+    ensures fault { S.told → IfErr result (Fails (Rose (S.faults src.old) (S.faults src.new)) (table_fault R.table (content_of (S.files src.old) folder.now R.table.name))) }
     ensures counted { IsCounted (Rose (S.faults src.old) (S.faults src.new)) result }
     ensures stays { S.files src.new ≡ S.files src.old }
     ensures counts { S.faults src.old ≤ S.faults src.new }
 {
-    let mut held = Vec::new(alloc);
-    for layout in layouts {
-        let rows = load_table(alloc, src, folder, layout)?;
-        held.push(rows)?;
-    }
-    Ok(held)
+    let rows = load_table(alloc, src, folder, R::layout())?;
+    let collected = collect(alloc, rows)?;
+    *map = collected;
+    Ok(())
 }
 
-/// The rows of all tables in a folder, or the first fault of a table.
-fn load_tables<S: Source>(alloc: Global, src: &mut S, folder: &str) -> Result<Content, LoadError>
-    ensures value { S.told → Answers (Rose (S.faults src.old) (S.faults src.new)) (tables_fault (S.files src.old) folder.now tables)
-        (λ content. content_as content ≡ content_of (S.files src.old) folder.now) result }
-    ensures are_tables { IfOk result (λ content. AreTables tables (content_as content)) }
+/// Reads the rows of a known table in a folder into a package.
+fn load_known<S: Source>(
+    alloc: Global,
+    src: &mut S,
+    folder: &str,
+    known: Known,
+    loaded: &mut Package,
+) -> Result<(), LoadError>
+    ensures put { OnOk result (IsPut S.told (content_of (S.files src.old) folder.now) (layout_of known) loaded.old loaded.new) }
+    ensures fault { S.told → IfErr result (Fails (Rose (S.faults src.old) (S.faults src.new)) (table_fault (layout_of known) (content_of (S.files src.old) folder.now (layout_of known).name))) }
     ensures counted { IsCounted (Rose (S.faults src.old) (S.faults src.new)) result }
     ensures stays { S.files src.new ≡ S.files src.old }
     ensures counts { S.faults src.old ≤ S.faults src.new }
 {
-    let held = load_each(alloc, src, folder, tables())?;
-    Ok(Content { held })
+    match known {
+        Known::Component => load_rows(alloc, src, folder, &mut loaded.component),
+        Known::Condition => load_rows(alloc, src, folder, &mut loaded.condition),
+        Known::CreateFolder => load_rows(alloc, src, folder, &mut loaded.create_folder),
+        Known::CustomAction => load_rows(alloc, src, folder, &mut loaded.custom_action),
+        Known::Directory => load_rows(alloc, src, folder, &mut loaded.directory),
+        Known::DuplicateFile => load_rows(alloc, src, folder, &mut loaded.duplicate_file),
+        Known::Environment => load_rows(alloc, src, folder, &mut loaded.environment),
+        Known::Feature => load_rows(alloc, src, folder, &mut loaded.feature),
+        Known::FeatureComponents => load_rows(alloc, src, folder, &mut loaded.feature_components),
+        Known::File => load_rows(alloc, src, folder, &mut loaded.file),
+        Known::InstallExecuteSequence => load_rows(
+            alloc,
+            src,
+            folder,
+            &mut loaded.install_execute_sequence,
+        ),
+        Known::LaunchCondition => load_rows(alloc, src, folder, &mut loaded.launch_condition),
+        Known::MsiFileHash => load_rows(alloc, src, folder, &mut loaded.msi_file_hash),
+        Known::Property => load_rows(alloc, src, folder, &mut loaded.property),
+        Known::Registry => load_rows(alloc, src, folder, &mut loaded.registry),
+        Known::RemoveFile => load_rows(alloc, src, folder, &mut loaded.remove_file),
+        Known::RemoveRegistry => load_rows(alloc, src, folder, &mut loaded.remove_registry),
+        Known::Shortcut => load_rows(alloc, src, folder, &mut loaded.shortcut),
+        Known::SummaryInformation => load_rows(alloc, src, folder, &mut loaded.summary_information),
+        Known::Upgrade => load_rows(alloc, src, folder, &mut loaded.upgrade),
+    }
+}
+
+/// Reads a table of the list in a folder into a package.
+fn load_listed<S: Source>(
+    alloc: Global,
+    src: &mut S,
+    folder: &str,
+    table: Listed,
+    loaded: &mut Package,
+) -> Result<(), LoadError>
+    requires { IsOther (listed_as table) }
+    ensures put { OnOk result (IsPut S.told (content_of (S.files src.old) folder.now) (table_of (listed_as table)) loaded.old loaded.new) }
+    ensures fault { S.told → IfErr result (Fails (Rose (S.faults src.old) (S.faults src.new)) (table_fault (table_of (listed_as table)) (content_of (S.files src.old) folder.now (table_of (listed_as table)).name))) }
+    ensures counted { IsCounted (Rose (S.faults src.old) (S.faults src.new)) result }
+    ensures stays { S.files src.new ≡ S.files src.old }
+    ensures counts { S.faults src.old ≤ S.faults src.new }
+{
+    match table {
+        Listed::Known(known) => load_known(alloc, src, folder, known, loaded),
+        Listed::Refused(name) => refuse_table(alloc, src, folder, name),
+    }
+}
+
+/// Reads all tables of a folder into a package without rows, or refuses with the first fault of a table.
+fn load_tables<S: Source>(
+    alloc: Global,
+    src: &mut S,
+    folder: &str,
+    loaded: &mut Package,
+) -> Result<(), LoadError>
+    requires { HoldsAll loaded.old (λ _. None) }
+    ensures loaded { OnOk result (AreLoaded S.told (content_of (S.files src.old) folder.now) loaded.new) }
+    ensures fault { S.told → IfErr result (Fails (Rose (S.faults src.old) (S.faults src.new)) (tables_fault (content_of (S.files src.old) folder.now) tables)) }
+    ensures counted { IsCounted (Rose (S.faults src.old) (S.faults src.new)) result }
+    ensures stays { S.files src.new ≡ S.files src.old }
+    ensures counts { S.faults src.old ≤ S.faults src.new }
+{
+    for table in tables() {
+        load_listed(alloc, src, folder, *table, loaded)?;
+    }
+    Ok(())
 }
 
 fn missing_table(alloc: Global, table: &str) -> LoadError
@@ -79,7 +145,7 @@ fn require<S: Source>(
     folder: &str,
     table: &str,
 ) -> Result<(), LoadError>
-    ensures value { S.told → Answers (Rose (S.faults src.old) (S.faults src.new)) (missing_table (S.files src.old) folder.now table.now) (λ _. Unit {0}) result }
+    ensures value { S.told → Answers (Rose (S.faults src.old) (S.faults src.new)) (missing_table (content_of (S.files src.old) folder.now) table.now) (λ _. Unit {0}) result }
     ensures counted { IsCounted (Rose (S.faults src.old) (S.faults src.new)) result }
     ensures stays { S.files src.new ≡ S.files src.old }
     ensures counts { S.faults src.old ≤ S.faults src.new }
@@ -93,7 +159,7 @@ fn require<S: Source>(
 
 /// Refuses where a table that each package has has no file.
 fn require_tables<S: Source>(alloc: Global, src: &mut S, folder: &str) -> Result<(), LoadError>
-    ensures value { S.told → Answers (Rose (S.faults src.old) (S.faults src.new)) (missing_fault (S.files src.old) folder.now) (λ _. Unit {0}) result }
+    ensures value { S.told → Answers (Rose (S.faults src.old) (S.faults src.new)) (missing_fault (content_of (S.files src.old) folder.now)) (λ _. Unit {0}) result }
     ensures counted { IsCounted (Rose (S.faults src.old) (S.faults src.new)) result }
     ensures stays { S.files src.new ≡ S.files src.old }
     ensures counts { S.faults src.old ≤ S.faults src.new }
@@ -102,24 +168,33 @@ fn require_tables<S: Source>(alloc: Global, src: &mut S, folder: &str) -> Result
     require(alloc, src, folder, "InstallExecuteSequence")
 }
 
-/// The rows of all tables in a folder, or the first fault of the package.
-pub fn load_content<S: Source>(
+/// Says which names the source has.
+fn name_source(loaded: &mut Package)
+    ensures { (content : Content) → HoldsAll loaded.old content → IsPackage loaded.new content }
+{
+    loaded.short_names = has_short_names(loaded);
+}
+
+/// Loads the package of a folder into one without rows, or refuses with the first fault.
+fn fill<S: Source>(
     alloc: Global,
     src: &mut S,
     folder: &str,
-) -> Result<Content, LoadError>
+    loaded: &mut Package,
+) -> Result<(), LoadError>
+    requires { HoldsAll loaded.old (λ _. None) }
     ensures value { S.told → Answers (Rose (S.faults src.old) (S.faults src.new)) (load_fault (S.files src.old) folder.now)
-        (λ content. content_as content ≡ content_of (S.files src.old) folder.now) result }
-    ensures are_tables { IfOk result (λ content. AreTables tables (content_as content)) }
-    ensures right { IfOk result (λ content. content_fault (content_as content) ≡ None) }
+        (λ _. IsPackage loaded.new (content_of (S.files src.old) folder.now)) result }
+    ensures lawful { OnOk result (IsLawful loaded.new) }
     ensures counted { IsCounted (Rose (S.faults src.old) (S.faults src.new)) result }
     ensures stays { S.files src.new ≡ S.files src.old }
     ensures counts { S.faults src.old ≤ S.faults src.new }
 {
     require_tables(alloc, src, folder)?;
-    let content = load_tables(alloc, src, folder)?;
-    check_content(alloc, &content)?;
-    Ok(content)
+    load_tables(alloc, src, folder, loaded)?;
+    name_source(loaded);
+    check_rows(alloc, loaded)?;
+    Ok(())
 }
 
 impl Package {
@@ -135,8 +210,13 @@ impl Package {
         ensures stays { S.files src.new ≡ S.files src.old }
         ensures counts { S.faults src.old ≤ S.faults src.new }
     {
-        let content = load_content(alloc, src, folder)?;
-        let package = build(alloc, content)?;
-        Ok(package)
+        let mut loaded = Package::empty(alloc);
+        match fill(alloc, src, folder, &mut loaded) {
+            Ok(()) => Ok(loaded),
+            Err(error) => {
+                drop(loaded);
+                Err(error)
+            }
+        }
     }
 }

@@ -1,5 +1,6 @@
 //! A package: the rows of the known tables.
 
+use crate::known::Target;
 use crate::typed_rows::{
     ComponentRow, ConditionRow, CreateFolderRow, CustomActionRow, DirectoryRow, DuplicateFileRow,
     EnvironmentRow, FeatureComponentsRow, FeatureRow, FileRow, InstallExecuteSequenceRow,
@@ -8,6 +9,7 @@ use crate::typed_rows::{
 };
 use indexmap::IndexMap;
 use mi_base::Text;
+use std::alloc::Global;
 
 /// The key of a row of Upgrade: UpgradeCode, VersionMin, VersionMax, Language and Attributes (Upgrade table).
 pub type UpgradeKey = (Text, Option<Text>, Option<Text>, Option<Text>, i32);
@@ -37,4 +39,56 @@ pub struct Package {
     pub install_execute_sequence: IndexMap<Text, InstallExecuteSequenceRow>,
     pub upgrade: IndexMap<UpgradeKey, UpgradeRow>,
     pub summary_information: IndexMap<i32, SummaryInformationRow>,
+}
+
+impl Package {
+    ghost use Rattle.std.specs.Prelude.{◌≡◌, None};
+    ghost use Rattle.mi_schema.specs.Named.{AreNamed};
+    ghost use Rattle.mi_schema.specs.Package.{HoldsAll};
+    ghost use Rattle.mi_schema.specs.References.{keys_in};
+    ghost use Rattle.mi_schema.specs.RowsOf.{rows_in};
+    ghost use Rattle.mi_schema.specs.Values.{is_key_in};
+
+    /// A package without rows.
+    pub(crate) fn empty(alloc: Global) -> Package
+        ensures { HoldsAll result (λ _. None) }
+    {
+        Package {
+            short_names: false,
+            property: IndexMap::new(alloc),
+            directory: IndexMap::new(alloc),
+            component: IndexMap::new(alloc),
+            feature: IndexMap::new(alloc),
+            feature_components: IndexMap::new(alloc),
+            condition: IndexMap::new(alloc),
+            file: IndexMap::new(alloc),
+            msi_file_hash: IndexMap::new(alloc),
+            remove_file: IndexMap::new(alloc),
+            create_folder: IndexMap::new(alloc),
+            duplicate_file: IndexMap::new(alloc),
+            registry: IndexMap::new(alloc),
+            remove_registry: IndexMap::new(alloc),
+            environment: IndexMap::new(alloc),
+            shortcut: IndexMap::new(alloc),
+            launch_condition: IndexMap::new(alloc),
+            custom_action: IndexMap::new(alloc),
+            install_execute_sequence: IndexMap::new(alloc),
+            upgrade: IndexMap::new(alloc),
+            summary_information: IndexMap::new(alloc),
+        }
+    }
+
+    /// Whether a table has a row of this key.
+    pub(crate) fn has(&self, target: Target, key: &Text) -> bool
+        requires { AreNamed self.now }
+        ensures { result ≡ is_key_in (keys_in (rows_in self.now) target) key.now }
+    {
+        match target {
+            Target::Component => self.component.contains_key(key),
+            Target::Directory => self.directory.contains_key(key),
+            Target::Feature => self.feature.contains_key(key),
+            Target::File => self.file.contains_key(key),
+            Target::Registry => self.registry.contains_key(key),
+        }
+    }
 }

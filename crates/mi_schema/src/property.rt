@@ -1,16 +1,18 @@
 //! The properties that each package has.
 
 ghost use Rattle.std.specs.Prelude.{◌≡◌, map};
+ghost use Rattle.std.specs.Map.{keys_of};
 ghost use Rattle.mi_base.specs.declared.answers.Fault.TheVariants as faults;
 ghost use Rattle.mi_schema.specs.Answers.{Answers};
-ghost use Rattle.mi_schema.specs.Checks.{first_fault, missing_property};
-ghost use Rattle.mi_schema.specs.Read.{rows_as};
+ghost use Rattle.mi_schema.specs.Checks.{first_fault, missing_property, required_fault};
+ghost use Rattle.mi_schema.specs.Named.{AreNamed};
 ghost use Rattle.mi_schema.specs.Reads.{Refuses};
-ghost use Rattle.mi_schema.specs.Tables.{required_properties};
+ghost use Rattle.mi_schema.specs.RowsOf.{rows_in, behind};
 
 use crate::error::LoadError;
-use crate::held::Rows;
-use crate::rule::is_key;
+use crate::package::Package;
+use crate::typed_rows::PropertyRow;
+use indexmap::IndexMap;
 use mi_base::{Fault, Text};
 use std::alloc::Global;
 
@@ -31,11 +33,17 @@ fn missing_property(alloc: Global, name: &str) -> LoadError
     }
 }
 
-fn check_names(alloc: Global, properties: &Rows, names: &[&str]) -> Result<(), LoadError>
-    ensures { Answers ⊥ (first_fault (missing_property (rows_as properties.now)) (map (λ n. n.now) names.now)) (λ _. Unit {0}) result }
+fn check_names(
+    alloc: Global,
+    properties: &IndexMap<Text, PropertyRow>,
+    names: &[&str],
+) -> Result<(), LoadError>
+    requires { keys_of properties.now.entries ≡ map (λ r. r.property) (behind properties.now.entries) }
+    ensures { Answers ⊥ (first_fault (missing_property (behind properties.now.entries)) (map (λ n. n.now) names.now)) (λ _. Unit {0}) result }
 {
     for name in names {
-        if !is_key(&properties.index, name) {
+        let key = Text::copy_of(alloc, name)?;
+        if !properties.contains_key(&key) {
             return Err(missing_property(alloc, name));
         }
     }
@@ -43,8 +51,10 @@ fn check_names(alloc: Global, properties: &Rows, names: &[&str]) -> Result<(), L
 }
 
 /// Refuses with the first property that each package has and that isn't there.
-pub fn check_properties(alloc: Global, properties: &Rows) -> Result<(), LoadError>
-    ensures { Answers ⊥ (first_fault (missing_property (rows_as properties.now)) required_properties) (λ _. Unit {0}) result }
+#[tactic(auto, unfolding(crate::specs::RowsOf::rows_in))]
+pub fn check_properties(alloc: Global, loaded: &Package) -> Result<(), LoadError>
+    requires { AreNamed loaded.now }
+    ensures { Answers ⊥ (required_fault (rows_in loaded.now)) (λ _. Unit {0}) result }
 {
-    check_names(alloc, properties, &REQUIRED)
+    check_names(alloc, &loaded.property, &REQUIRED)
 }

@@ -61,7 +61,7 @@ fn read_text(alloc: Global, kind: Kind, text: Text) -> Result<Cell, CellError>
         Kind::Pattern => checked(is_file_pattern(text.as_str()), text),
         Kind::Code => read_code(text.as_str()),
         Kind::Condition => read_condition(alloc, text),
-        Kind::Text | Kind::Formatted | Kind::Integer | Kind::KeyOf(_) => Ok(Cell::Text(text)),
+        Kind::Text | Kind::Formatted | Kind::Integer => Ok(Cell::Text(text)),
     }
 }
 

@@ -1,55 +1,70 @@
 //! Rows that name rows of other tables.
 
-ghost use Rattle.std.specs.Prelude.{◌≡◌, ◌+◌, ◌≤◌, List, length, map};
-ghost use Rattle.mi_text.specs.Maps.{Name};
+ghost use Rattle.std.specs.Prelude.{◌≡◌, ◌≤◌, ℕ, Option, length};
 ghost use Rattle.mi_base.specs.declared.answers.Fault.TheVariants as faults;
 ghost use Rattle.mi_schema.specs.Answers.{Answers};
-ghost use Rattle.mi_schema.specs.Checks.{is_key_or_null, targets_of, key_path_target, sets_directory, meets_reference_rule, meets_reference_kind, refers, cells_reference, rows_reference, references_fault};
-ghost use Rattle.mi_schema.specs.Described.{column_as, table_as};
-ghost use Rattle.mi_schema.specs.Held.{content_as};
-ghost use Rattle.mi_schema.specs.Keys.{KnowsKeys};
-ghost use Rattle.mi_schema.specs.Read.{rows_as};
+ghost use Rattle.mi_schema.specs.Checks.{references_fault};
+ghost use Rattle.mi_schema.specs.Laws.{TablesSmall};
+ghost use Rattle.mi_schema.specs.Named.{AreNamed};
 ghost use Rattle.mi_schema.specs.Reads.{Refuses};
-ghost use Rattle.mi_schema.specs.Tables.{tables};
+ghost use Rattle.mi_schema.specs.References.{names, may_name, key_path_target, sets_directory, first_dangling, rows_dangling, component_dangling, condition_dangling, create_folder_dangling, custom_action_dangling, directory_dangling, duplicate_file_dangling, environment_dangling, feature_dangling, feature_components_dangling, file_dangling, msi_file_hash_dangling, registry_dangling, remove_file_dangling, remove_registry_dangling, shortcut_dangling};
+ghost use Rattle.mi_schema.specs.RowsOf.{rows_in, behind};
+ghost use Rattle.mi_schema.specs.TableRows.{Rows};
 
-use crate::cell::{Cell, number_at, text_in};
-use crate::column::{Column, Kind, Layout, Rule, Target};
-use crate::content::Content;
 use crate::error::LoadError;
-use crate::held::Rows;
-use crate::place::place_of;
-use crate::rule::{is_key, lacks};
-use crate::tables::tables;
+use crate::known::{Known, Target};
+use crate::package::Package;
+use crate::rule::lacks;
+use crate::table_row::Key;
+use crate::tables::{Listed, tables};
+use crate::typed_rows::{
+    ComponentRow, ConditionRow, CreateFolderRow, CustomActionRow, DirectoryRow, DuplicateFileRow,
+    EnvironmentRow, FeatureComponentsRow, FeatureRow, FileRow, MsiFileHashRow, RegistryRow,
+    RemoveFileRow, RemoveRegistryRow, ShortcutRow,
+};
+use indexmap::IndexMap;
 use mi_base::{Fault, Text};
 use std::alloc::Global;
-use std::collections::BTreeMap;
 
-/// Whether a value is null or a key.
-fn is_key_or_null(index: &BTreeMap<String, usize>, cell: &Option<Cell>) -> bool
-    ensures { (keys : List Name) → KnowsKeys index.now keys → result ≡ is_key_or_null keys cell.now }
+/// A row that names rows of other tables.
+pub trait Naming {
+    /// The first column, from 1, that names a row that isn't there.
+    ghost dangles: { Rows → Self → Option ℕ };
+
+    /// The first column, from 1, that names a row that isn't in the package.
+    fn dangling(&self, loaded: &Package) -> Option<u32>
+        requires { AreNamed loaded.now }
+        ensures { result ≡ dangles (rows_in loaded.now) self.now };
+}
+
+/// The column, unless the row that it names is there.
+fn names(loaded: &Package, target: Target, column: u32, key: &Text) -> Option<u32>
+    requires { AreNamed loaded.now }
+    ensures { result ≡ names (rows_in loaded.now) target column key.now }
 {
-    if cell.is_none() {
-        return true;
-    }
-    match text_in(cell) {
-        Some(text) => is_key(index, text),
-        None => is_key(index, ""),
+    if loaded.has(target, key) {
+        None
+    } else {
+        Some(column)
     }
 }
 
-/// Whether a value is null or names a row of a table.
-fn names_row(content: &Content, target: Target, cell: &Option<Cell>) -> bool
-    ensures { result ≡ is_key_or_null (targets_of (content_as content.now) target) cell.now }
+/// The column, unless it is null or the row that it names is there.
+fn may_name(loaded: &Package, target: Target, column: u32, key: &Option<Text>) -> Option<u32>
+    requires { AreNamed loaded.now }
+    ensures { result ≡ may_name (rows_in loaded.now) target column key.now }
 {
-    let rows = content.at(place_of(target));
-    is_key_or_null(&rows.index, cell)
+    match key {
+        Some(key) => names(loaded, target, column, key),
+        None => None,
+    }
 }
 
 /// The table that the key path of a component names a row of (Component table, KeyPath).
-fn key_path_target(row: &[Option<Cell>]) -> Target
+fn key_path_target(row: &ComponentRow) -> Target
     ensures { result ≡ key_path_target row.now }
 {
-    if lacks(4, number_at(row, 3)) {
+    if lacks(4, row.attributes) {
         Target::File
     } else {
         Target::Registry
@@ -57,43 +72,155 @@ fn key_path_target(row: &[Option<Cell>]) -> Target
 }
 
 /// Whether an action sets a directory (Custom Action Type 35).
-fn sets_directory(row: &[Option<Cell>]) -> bool
-    ensures { result ≡ sets_directory row.now }
+fn sets_directory(kind: i32) -> bool
+    ensures { result ≡ sets_directory kind }
 {
-    number_at(row, 1).cast_unsigned() & 63 == 35
+    kind.cast_unsigned() & 63 == 35
 }
 
-fn meets_rule(content: &Content, rule: Rule, row: &[Option<Cell>], cell: &Option<Cell>) -> bool
-    ensures { result ≡ meets_reference_rule rule (content_as content.now) row.now cell.now }
-{
-    match rule {
-        Rule::KeyPath => names_row(content, key_path_target(row), cell),
-        Rule::ActionSource => {
-            let named = cell.is_some() && names_row(content, Target::Directory, cell);
-            !sets_directory(row) || named
+impl Naming for ComponentRow {
+    ghost dangles = { component_dangling };
+
+    fn dangling(&self, loaded: &Package) -> Option<u32> {
+        if !loaded.has(Target::Directory, &self.directory) {
+            return Some(3);
         }
-        _ => true,
+        may_name(loaded, key_path_target(self), 6, &self.key_path)
     }
 }
 
-fn meets_kind(content: &Content, kind: Kind, cell: &Option<Cell>) -> bool
-    ensures { result ≡ meets_reference_kind kind (content_as content.now) cell.now }
-{
-    match kind {
-        Kind::KeyOf(target) => names_row(content, target, cell),
-        _ => true,
+impl Naming for ConditionRow {
+    ghost dangles = { condition_dangling };
+
+    fn dangling(&self, loaded: &Package) -> Option<u32> {
+        names(loaded, Target::Feature, 1, &self.feature)
     }
 }
 
-/// Whether a value that names a row names one that is there.
-fn refers(content: &Content, column: &Column, row: &[Option<Cell>], cell: &Option<Cell>) -> bool
-    ensures { result ≡ refers (column_as column.now) (content_as content.now) row.now cell.now }
-{
-    meets_kind(content, column.kind, cell) && meets_rule(content, column.rule, row, cell)
+impl Naming for CreateFolderRow {
+    ghost dangles = { create_folder_dangling };
+
+    fn dangling(&self, loaded: &Package) -> Option<u32> {
+        if !loaded.has(Target::Directory, &self.directory) {
+            return Some(1);
+        }
+        names(loaded, Target::Component, 2, &self.component)
+    }
+}
+
+impl Naming for CustomActionRow {
+    ghost dangles = { custom_action_dangling };
+
+    fn dangling(&self, loaded: &Package) -> Option<u32> {
+        if !sets_directory(self.kind) {
+            return None;
+        }
+        match &self.source {
+            Some(source) => names(loaded, Target::Directory, 3, source),
+            None => Some(3),
+        }
+    }
+}
+
+impl Naming for DirectoryRow {
+    ghost dangles = { directory_dangling };
+
+    fn dangling(&self, loaded: &Package) -> Option<u32> {
+        may_name(loaded, Target::Directory, 2, &self.directory_parent)
+    }
+}
+
+impl Naming for DuplicateFileRow {
+    ghost dangles = { duplicate_file_dangling };
+
+    fn dangling(&self, loaded: &Package) -> Option<u32> {
+        if !loaded.has(Target::Component, &self.component) {
+            return Some(2);
+        }
+        names(loaded, Target::File, 3, &self.file)
+    }
+}
+
+impl Naming for EnvironmentRow {
+    ghost dangles = { environment_dangling };
+
+    fn dangling(&self, loaded: &Package) -> Option<u32> {
+        names(loaded, Target::Component, 4, &self.component)
+    }
+}
+
+impl Naming for FeatureRow {
+    ghost dangles = { feature_dangling };
+
+    fn dangling(&self, loaded: &Package) -> Option<u32> {
+        may_name(loaded, Target::Feature, 2, &self.feature_parent)
+    }
+}
+
+impl Naming for FeatureComponentsRow {
+    ghost dangles = { feature_components_dangling };
+
+    fn dangling(&self, loaded: &Package) -> Option<u32> {
+        if !loaded.has(Target::Feature, &self.feature) {
+            return Some(1);
+        }
+        names(loaded, Target::Component, 2, &self.component)
+    }
+}
+
+impl Naming for FileRow {
+    ghost dangles = { file_dangling };
+
+    fn dangling(&self, loaded: &Package) -> Option<u32> {
+        names(loaded, Target::Component, 2, &self.component)
+    }
+}
+
+impl Naming for MsiFileHashRow {
+    ghost dangles = { msi_file_hash_dangling };
+
+    fn dangling(&self, loaded: &Package) -> Option<u32> {
+        names(loaded, Target::File, 1, &self.file)
+    }
+}
+
+impl Naming for RegistryRow {
+    ghost dangles = { registry_dangling };
+
+    fn dangling(&self, loaded: &Package) -> Option<u32> {
+        names(loaded, Target::Component, 6, &self.component)
+    }
+}
+
+impl Naming for RemoveFileRow {
+    ghost dangles = { remove_file_dangling };
+
+    fn dangling(&self, loaded: &Package) -> Option<u32> {
+        names(loaded, Target::Component, 2, &self.component)
+    }
+}
+
+impl Naming for RemoveRegistryRow {
+    ghost dangles = { remove_registry_dangling };
+
+    fn dangling(&self, loaded: &Package) -> Option<u32> {
+        names(loaded, Target::Component, 5, &self.component)
+    }
+}
+
+impl Naming for ShortcutRow {
+    ghost dangles = { shortcut_dangling };
+
+    fn dangling(&self, loaded: &Package) -> Option<u32> {
+        if !loaded.has(Target::Directory, &self.directory) {
+            return Some(2);
+        }
+        names(loaded, Target::Component, 4, &self.component)
+    }
 }
 
 /// The fault of a value that names no row.
-fn dangling(alloc: Global, table: &str, row: u32, column: u32) -> LoadError
+fn dangling_at(alloc: Global, table: &str, row: u32, column: u32) -> LoadError
     ensures { Refuses result (faults.Reference table.now row column) }
 {
     match Text::copy_of(alloc, table) {
@@ -102,50 +229,78 @@ fn dangling(alloc: Global, table: &str, row: u32, column: u32) -> LoadError
     }
 }
 
-/// Refuses with the first value of a row that names no row; `number` counts rows from 1.
-fn check_row(
+/// Refuses with the first value of a table that names no row.
+fn check_table<K: Key, R: Naming>(
     alloc: Global,
-    content: &Content,
-    layout: &Layout,
-    number: u32,
-    row: &[Option<Cell>],
+    loaded: &Package,
+    table: &str,
+    rows: &IndexMap<K, R>,
 ) -> Result<(), LoadError>
-    requires { length layout.now.columns.now ≤ 32 }
-    ensures { Answers ⊥ (cells_reference (content_as content.now) layout.now.name.now number row.now 1 (map column_as layout.now.columns.now) row.now) (λ _. Unit {0}) result }
+    requires named { AreNamed loaded.now }
+    requires few { length rows.now.entries ≤ 65535 }
+    ensures { Answers ⊥ (first_dangling table.now (R.dangles (rows_in loaded.now)) 1 (behind rows.now.entries)) (λ _. Unit {0}) result }
 {
-    for (i, column) in layout.columns.iter().enumerate() {
-        if i >= row.len() {
-            return Ok(());
+    let mut number = 1;
+    for row in rows.values() {
+        if let Some(column) = row.dangling(loaded) {
+            return Err(dangling_at(alloc, table, number, column));
         }
-        if !refers(content, column, row, &row[i]) {
-            return Err(dangling(alloc, layout.name, number, i as u32 + 1));
-        }
+        number += 1;
     }
     Ok(())
 }
 
-/// Refuses with the first value of a table that names no row.
-fn check_rows(
-    alloc: Global,
-    content: &Content,
-    layout: &Layout,
-    rows: &Rows,
-) -> Result<(), LoadError>
-    requires { length layout.now.columns.now ≤ 32 }
-    ensures { Answers ⊥ (rows_reference (content_as content.now) (table_as layout.now) 1 (rows_as rows.now)) (λ _. Unit {0}) result }
+/// Refuses with the first value of a known table that names no row.
+#[tactic(auto, unfolding(crate::specs::RowsOf::rows_in))]
+fn check_known(alloc: Global, loaded: &Package, known: Known) -> Result<(), LoadError>
+    requires named { AreNamed loaded.now }
+    requires few { TablesSmall loaded.now }
+    ensures { Answers ⊥ (rows_dangling (rows_in loaded.now) known) (λ _. Unit {0}) result }
 {
-    for (i, row) in rows.rows.iter().enumerate() {
-        check_row(alloc, content, layout, i as u32 + 1, row.as_slice())?;
+    match known {
+        Known::Component => check_table(alloc, loaded, "Component", &loaded.component),
+        Known::Condition => check_table(alloc, loaded, "Condition", &loaded.condition),
+        Known::CreateFolder => check_table(alloc, loaded, "CreateFolder", &loaded.create_folder),
+        Known::CustomAction => check_table(alloc, loaded, "CustomAction", &loaded.custom_action),
+        Known::Directory => check_table(alloc, loaded, "Directory", &loaded.directory),
+        Known::DuplicateFile => check_table(alloc, loaded, "DuplicateFile", &loaded.duplicate_file),
+        Known::Environment => check_table(alloc, loaded, "Environment", &loaded.environment),
+        Known::Feature => check_table(alloc, loaded, "Feature", &loaded.feature),
+        Known::FeatureComponents => check_table(
+            alloc,
+            loaded,
+            "FeatureComponents",
+            &loaded.feature_components,
+        ),
+        Known::File => check_table(alloc, loaded, "File", &loaded.file),
+        Known::MsiFileHash => check_table(alloc, loaded, "MsiFileHash", &loaded.msi_file_hash),
+        Known::Registry => check_table(alloc, loaded, "Registry", &loaded.registry),
+        Known::RemoveFile => check_table(alloc, loaded, "RemoveFile", &loaded.remove_file),
+        Known::RemoveRegistry => check_table(
+            alloc,
+            loaded,
+            "RemoveRegistry",
+            &loaded.remove_registry,
+        ),
+        Known::Shortcut => check_table(alloc, loaded, "Shortcut", &loaded.shortcut),
+        Known::InstallExecuteSequence
+        | Known::LaunchCondition
+        | Known::Property
+        | Known::SummaryInformation
+        | Known::Upgrade => Ok(()),
     }
-    Ok(())
 }
 
 /// Refuses with the first value that names no row, by table, row and column.
-pub fn check_references(alloc: Global, content: &Content) -> Result<(), LoadError>
-    ensures { Answers ⊥ (references_fault (content_as content.now) tables (content_as content.now)) (λ _. Unit {0}) result }
+pub fn check_references(alloc: Global, loaded: &Package) -> Result<(), LoadError>
+    requires named { AreNamed loaded.now }
+    requires few { TablesSmall loaded.now }
+    ensures { Answers ⊥ (references_fault (rows_in loaded.now)) (λ _. Unit {0}) result }
 {
-    for (i, layout) in tables().iter().enumerate() {
-        check_rows(alloc, content, layout, content.at(i))?;
+    for table in tables() {
+        if let Listed::Known(known) = table {
+            check_known(alloc, loaded, *known)?;
+        }
     }
     Ok(())
 }

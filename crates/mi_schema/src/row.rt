@@ -18,7 +18,6 @@ ghost use Rattle.mi_schema.specs.Read.{raw_row, has_text, rows_as};
 use crate::cell::{Bad, Cell, CellError, Row};
 use crate::column::{Column, Kind, Layout};
 use crate::error::LoadError;
-use crate::held::Rows;
 use crate::read::read_field;
 use crate::rule::meets;
 use crate::seen::Seen;
@@ -158,7 +157,7 @@ fn index_of(
 }
 
 /// The rows of a table that has the columns of its layout, or the first fault among them.
-pub fn read_rows(alloc: Global, layout: &Layout, table: &Table) -> Result<Rows, LoadError>
+pub fn read_rows(alloc: Global, layout: &Layout, table: &Table) -> Result<Vec<Row>, LoadError>
     requires spelled { IsSpelled table.now }
     requires columns { begins_with (table_as layout.now).columns (meaning table.now).columns ≡ true }
     ensures { let rows = rows_in (table_as layout.now) (meaning table.now) in
@@ -172,5 +171,5 @@ pub fn read_rows(alloc: Global, layout: &Layout, table: &Table) -> Result<Rows, 
         seen.add(row.as_slice())?;
         rows.push(row)?;
     }
-    Ok(Rows { rows, index })
+    Ok(rows)
 }

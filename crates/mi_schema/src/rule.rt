@@ -20,7 +20,7 @@ use mi_base::{is_default_dir, is_property_name};
 use std::collections::BTreeMap;
 
 /// Whether a row of Directory is a root row, by its key and its parent.
-fn is_root_below(own: &str, parent: Option<&str>) -> bool
+pub fn is_root_below(own: &str, parent: Option<&str>) -> bool
     ensures { result ≡ is_root_below own.now (option_copied parent.entry) }
 {
     match parent {
@@ -136,6 +136,6 @@ pub fn meets(
         Rule::VersionOrKey => is_version_or_key(index, cell),
         Rule::Languages => holds_languages(cell),
         Rule::WordCount => counts_words(front, cell),
-        Rule::Free | Rule::KeyPath | Rule::ActionSource => true,
+        Rule::Free => true,
     }
 }

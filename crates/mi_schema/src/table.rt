@@ -1,29 +1,30 @@
 //! A table of the package, from its file.
 
-ghost use Rattle.std.specs.Prelude.{◌≡◌, ◌≤◌, ◌&&◌, Some, IfOk, OnErr, is_some, map, []};
+ghost use Rattle.std.specs.Prelude.{◌≡◌, ◌≤◌, ◌&&◌, Some, IfOk, IfErr, OnErr, OnOk, is_some, map, [], false};
 ghost use Rattle.std.specs.FinMap.{get};
 ghost use Rattle.std.specs.Str.{bytes_eq};
 ghost use Rattle.mi_base.specs.declared.answers.Fault.TheVariants as faults;
 ghost use Rattle.mi_source.specs.Counts.{Rose};
 ghost use Rattle.mi_idt.specs.Means.{IsSpelled, meaning, column_value};
-ghost use Rattle.mi_schema.specs.Answers.{Answers, IsCounted};
+ghost use Rattle.mi_schema.specs.Answers.{Answers, Fails, IsCounted};
 ghost use Rattle.mi_schema.specs.Described.{column_as, table_as};
-ghost use Rattle.mi_schema.specs.Lawful.{AreRowsOf};
+ghost use Rattle.mi_schema.specs.Loaded.{IsRead};
 ghost use Rattle.mi_schema.specs.Reads.{Refuses};
-ghost use Rattle.mi_schema.specs.Rows.{is_of_class, begins_with, key_places, has_columns, rows_in, value_fault, table_fault, table_rows};
-ghost use Rattle.mi_schema.specs.Checks.{table_path, bytes_of, rows_of};
+ghost use Rattle.mi_schema.specs.Rows.{is_of_class, begins_with, key_places, has_columns, is_refused, rows_in, value_fault, size_fault, table_fault, table_rows};
+ghost use Rattle.mi_schema.specs.Tables.{refused};
+ghost use Rattle.mi_schema.specs.Checks.{table_path, content_of};
 ghost use Rattle.mi_schema.specs.Read.{rows_as};
 
+use crate::cell::Row;
 use crate::column::{Column, Kind, Layout};
 use crate::error::LoadError;
 use crate::file::read_file;
-use crate::held::Rows;
 use crate::row::read_rows;
 use mi_base::{Fault, IdtFault, NoMemory, Text};
 use mi_idt::{Column as Spelled, IdtError, Table, read_table};
 use mi_source::{Failed, Source};
+use mi_text::Bytes;
 use std::alloc::Global;
-use std::collections::BTreeMap;
 
 /// Whether the letter of a definition is of the class of a kind.
 fn is_of_class(kind: Kind, letter: u8) -> bool
@@ -115,41 +116,49 @@ fn misspelled(alloc: Global, table: &str, why: IdtFault) -> LoadError
     }
 }
 
-/// A table without rows.
-pub fn no_rows(alloc: Global) -> Rows
-    ensures { rows_as result ≡ [] }
+/// The rows of a known table that its bytes spell, or its first fault.
+fn read_spelled(alloc: Global, layout: &Layout, table: &Table) -> Result<Vec<Row>, LoadError>
+    requires spelled { IsSpelled table.now }
+    requires known { is_refused (table_as layout.now) ≡ false }
+    ensures { Answers ⊥ (value_fault (table_as layout.now) (meaning table.now)) (λ rows. rows_as rows ≡ rows_in (table_as layout.now) (meaning table.now)) result }
 {
-    Rows {
-        rows: Vec::new(alloc),
-        index: BTreeMap::new(alloc),
-    }
-}
-
-/// The rows of a table that its bytes spell, or its first fault.
-fn read_spelled(alloc: Global, layout: &Layout, table: &Table) -> Result<Rows, LoadError>
-    requires { IsSpelled table.now }
-    ensures { Answers ⊥ (value_fault (table_as layout.now) (meaning table.now)) (λ held. rows_as held ≡ rows_in (table_as layout.now) (meaning table.now)) result }
-{
-    if layout.columns.is_empty() {
-        if table.rows.is_empty() {
-            return Ok(no_rows(alloc));
-        }
-        return Err(unsupported(alloc, layout.name));
-    }
     if !has_columns(layout.columns, table) {
         return Err(other_columns(alloc, layout.name));
     }
     read_rows(alloc, layout, table)
 }
 
-/// The rows of a table in these bytes, or its first fault.
-fn read_bytes(alloc: Global, layout: &Layout, bytes: &[u8]) -> Result<Rows, LoadError>
-    ensures { Answers ⊥ (table_fault (table_as layout.now) (Some bytes.now)) (λ held. rows_as held ≡ table_rows (table_as layout.now) (Some bytes.now)) result }
+/// The rows of a known table in these bytes, or its first fault.
+fn read_bytes(alloc: Global, layout: &Layout, bytes: &[u8]) -> Result<Vec<Row>, LoadError>
+    requires known { is_refused (table_as layout.now) ≡ false }
+    ensures { Answers ⊥ (table_fault (table_as layout.now) (Some bytes.now)) (λ rows. rows_as rows ≡ table_rows (table_as layout.now) (Some bytes.now)) result }
 {
     match read_table(alloc, bytes) {
         Ok(table) => read_spelled(alloc, layout, &table),
         Err(IdtError::NoMemory) => Err(LoadError::NoMemory),
         Err(IdtError::Fault(fault)) => Err(misspelled(alloc, layout.name, fault)),
+    }
+}
+
+/// Refuses a table that holds a row.
+fn refuse_spelled(alloc: Global, name: &str, table: &Table) -> Result<(), LoadError>
+    requires spelled { IsSpelled table.now }
+    ensures { Answers ⊥ (value_fault (refused name.now) (meaning table.now)) (λ _. Unit {0}) result }
+{
+    if table.rows.is_empty() {
+        return Ok(());
+    }
+    Err(unsupported(alloc, name))
+}
+
+/// Refuses these bytes where they hold a row, or spell no table.
+fn refuse_bytes(alloc: Global, name: &str, bytes: &[u8]) -> Result<(), LoadError>
+    ensures { Answers ⊥ (table_fault (refused name.now) (Some bytes.now)) (λ _. Unit {0}) result }
+{
+    match read_table(alloc, bytes) {
+        Ok(table) => refuse_spelled(alloc, name, &table),
+        Err(IdtError::NoMemory) => Err(LoadError::NoMemory),
+        Err(IdtError::Fault(fault)) => Err(misspelled(alloc, name, fault)),
     }
 }
 
@@ -175,26 +184,64 @@ pub fn is_there<S: Source>(src: &mut S, path: &str) -> Result<bool, Failed>
     Ok(size.is_some())
 }
 
-/// The rows of a table in a folder, or its first fault; none where its file isn't there.
+/// The bytes of a table's file, where it is there; more of them than a table may have are its fault.
+fn bytes_of<S: Source>(
+    alloc: Global,
+    src: &mut S,
+    folder: &str,
+    name: &str,
+) -> Result<Option<Bytes>, LoadError>
+    ensures value { S.told → IfOk result (λ found. found ≡ content_of (S.files src.old) folder.now name.now) }
+    ensures fault { S.told → IfErr result (Fails (Rose (S.faults src.old) (S.faults src.new)) (size_fault name.now (content_of (S.files src.old) folder.now name.now))) }
+    ensures counted { IsCounted (Rose (S.faults src.old) (S.faults src.new)) result }
+    ensures stays { S.files src.new ≡ S.files src.old }
+    ensures counts { S.faults src.old ≤ S.faults src.new }
+{
+    let path = path_of(alloc, folder, name)?;
+    if !is_there(src, path.as_str())? {
+        return Ok(None);
+    }
+    match read_file(alloc, src, path.as_str())? {
+        Some(bytes) => Ok(Some(bytes)),
+        None => Err(misspelled(alloc, name, IdtFault::TooLarge)),
+    }
+}
+
+/// The rows of a known table in a folder, or its first fault; none where its file isn't there.
 pub fn load_table<S: Source>(
     alloc: Global,
     src: &mut S,
     folder: &str,
     layout: &Layout,
-) -> Result<Rows, LoadError>
-    ensures value { S.told → Answers (Rose (S.faults src.old) (S.faults src.new)) (table_fault (table_as layout.now) (bytes_of (S.files src.old) folder.now (table_as layout.now)))
-        (λ held. rows_as held ≡ rows_of (S.files src.old) folder.now (table_as layout.now)) result }
-    ensures are_rows { IfOk result (λ held. AreRowsOf (table_as layout.now) (rows_as held)) }
+) -> Result<Vec<Row>, LoadError>
+    requires known { is_refused (table_as layout.now) ≡ false }
+    ensures read { IfOk result (λ rows. IsRead S.told (content_of (S.files src.old) folder.now layout.now.name.now) (table_as layout.now) (rows_as rows)) }
+    ensures fault { S.told → IfErr result (Fails (Rose (S.faults src.old) (S.faults src.new)) (table_fault (table_as layout.now) (content_of (S.files src.old) folder.now layout.now.name.now))) }
     ensures counted { IsCounted (Rose (S.faults src.old) (S.faults src.new)) result }
     ensures stays { S.files src.new ≡ S.files src.old }
     ensures counts { S.faults src.old ≤ S.faults src.new }
 {
-    let path = path_of(alloc, folder, layout.name)?;
-    if !is_there(src, path.as_str())? {
-        return Ok(no_rows(alloc));
-    }
-    match read_file(alloc, src, path.as_str())? {
+    match bytes_of(alloc, src, folder, layout.name)? {
         Some(bytes) => read_bytes(alloc, layout, bytes.as_slice()),
-        None => Err(misspelled(alloc, layout.name, IdtFault::TooLarge)),
+        None => Ok(Vec::new(alloc)),
+    }
+}
+
+/// Refuses a table in a folder that holds a row.
+pub fn refuse_table<S: Source>(
+    alloc: Global,
+    src: &mut S,
+    folder: &str,
+    name: &str,
+) -> Result<(), LoadError>
+    ensures read { OnOk result (IsRead S.told (content_of (S.files src.old) folder.now name.now) (refused name.now) []) }
+    ensures fault { S.told → IfErr result (Fails (Rose (S.faults src.old) (S.faults src.new)) (table_fault (refused name.now) (content_of (S.files src.old) folder.now name.now))) }
+    ensures counted { IsCounted (Rose (S.faults src.old) (S.faults src.new)) result }
+    ensures stays { S.files src.new ≡ S.files src.old }
+    ensures counts { S.faults src.old ≤ S.faults src.new }
+{
+    match bytes_of(alloc, src, folder, name)? {
+        Some(bytes) => refuse_bytes(alloc, name, bytes.as_slice()),
+        None => Ok(()),
     }
 }

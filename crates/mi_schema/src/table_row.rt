@@ -1,13 +1,15 @@
 //! Rows as structs of their tables, by their keys.
 
-ghost use Rattle.std.specs.Prelude.{◌≡◌, true, ℕ, List, IfOk, map, length};
+ghost use Rattle.std.specs.Prelude.{◌≡◌, true, false, IfOk, map, length};
+ghost use Rattle.mi_schema.specs.Described.{table_as};
 ghost use Rattle.mi_schema.specs.Package.{keyed};
-ghost use Rattle.mi_schema.specs.Places.{IsPlaceOf};
-ghost use Rattle.mi_schema.specs.Suits.{all_suit, each_suits, key_cells, KeysDiffer};
+ghost use Rattle.mi_schema.specs.Rows.{is_refused};
+ghost use Rattle.mi_schema.specs.Suits.{all_suit, each_suits, key_cells, keys_tell, KeysDiffer};
 ghost use Rattle.mi_schema.specs.Tables.{Table};
 ghost use Rattle.mi_schema.specs.Values.{Row as Values};
 
 use crate::cell::Row;
+use crate::column::Layout;
 use indexmap::IndexMap;
 use mi_base::NoMemory;
 use std::alloc::Global;
@@ -22,7 +24,7 @@ pub trait Key: Eq + Hash + Drop {
     ghost exact: { (a b : Self) → Self.eq a b ≡ true → a ≡ b };
 }
 
-/// A row of a table as a struct, and its key.
+/// A row of a known table as a struct, with its key.
 pub trait TableRow<K: Key>: Drop {
     /// The table.
     ghost table: { Table };
@@ -33,10 +35,9 @@ pub trait TableRow<K: Key>: Drop {
     /// The row as a struct.
     ghost value: { Values → Self };
 
-    /// The place of the table in the list.
-    ghost PLACE: { ℕ };
-
-    const PLACE: usize;
+    /// The table's name and columns.
+    fn layout() -> &'static Layout
+        ensures { table_as result.now ≡ table };
 
     /// The key and the struct of a row, whose values are moved.
     fn read(alloc: Global, row: Row) -> Result<(K, Self), NoMemory>
@@ -47,7 +48,11 @@ pub trait TableRow<K: Key>: Drop {
     /// A key tells the values of the key columns.
     ghost tells: { (row : Values) → all_suit table.columns row ≡ true → key_cells table.columns row ≡ K.cells (key row) };
 
-    ghost at: { IsPlaceOf PLACE table };
+    /// And those tell the fields.
+    ghost tells_apart: { keys_tell table.columns ≡ true };
+
+    /// Its rows are loaded.
+    ghost is_known: { is_refused table ≡ false };
 }
 
 /// The rows of a table by their keys, in file order.
@@ -59,7 +64,7 @@ pub fn collect<K: Key, R: TableRow<K>>(
     requires differ { KeysDiffer R.table.columns (map (λ row. row.items) rows.items) }
     ensures { IfOk result (λ m. m.entries ≡ keyed R.key R.value (map (λ row. row.items) rows.items)) }
 {
-    let mut table = IndexMap::new(alloc);
+    let mut table = IndexMap::with_capacity(alloc, rows.len())?;
     for row in rows {
         let (key, row) = R::read(alloc, row)?;
         table.insert(key, row)?;

@@ -3,10 +3,11 @@
 ghost use Rattle.std.specs.Prelude.{◌≡◌, refl};
 ghost use Rattle.mi_schema.specs.Tables as table;
 ghost use Rattle.mi_schema.specs.TypedRows.{property_row, property_key, directory_row, directory_key, component_row, component_key, feature_row, feature_key, feature_components_row, feature_components_key, condition_row, condition_key, file_row, file_key, msi_file_hash_row, msi_file_hash_key, remove_file_row, remove_file_key, create_folder_row, create_folder_key, duplicate_file_row, duplicate_file_key, registry_row, registry_key, remove_registry_row, remove_registry_key, environment_row, environment_key, shortcut_row, shortcut_key, launch_condition_row, launch_condition_key, custom_action_row, custom_action_key, install_execute_sequence_row, install_execute_sequence_key, upgrade_row, upgrade_key, summary_information_row, summary_information_key};
-ghost use Rattle.mi_schema.specs.Places.{place_of_property, place_of_directory, place_of_component, place_of_feature, place_of_feature_components, place_of_condition, place_of_file, place_of_msi_file_hash, place_of_remove_file, place_of_create_folder, place_of_duplicate_file, place_of_registry, place_of_remove_registry, place_of_environment, place_of_shortcut, place_of_launch_condition, place_of_custom_action, place_of_install_execute_sequence, place_of_upgrade, place_of_summary_information};
 ghost use Rattle.mi_schema.specs.Tells.{text_tells, number_tells, texts_tell, text_number_tell, upgrade_tells};
 
 use crate::cell::{Row, number_at};
+use crate::column::Layout;
+use crate::layouts;
 use crate::package::UpgradeKey;
 use crate::table_row::TableRow;
 use crate::typed::{
@@ -29,13 +30,15 @@ impl TableRow<Text> for PropertyRow {
 
     ghost value = { property_row };
 
-    ghost PLACE = { 31 };
-
     ghost tells = { text_tells table.property.columns refl };
 
-    ghost at = { place_of_property };
+    ghost tells_apart = { refl };
 
-    const PLACE: usize = 31;
+    ghost is_known = { refl };
+
+    fn layout() -> &'static Layout {
+        &layouts::PROPERTY
+    }
 
     fn read(alloc: Global, row: Row) -> Result<(Text, PropertyRow), NoMemory> {
         let row_key = key_text(alloc, row.as_slice(), 0)?;
@@ -55,13 +58,15 @@ impl TableRow<Text> for DirectoryRow {
 
     ghost value = { directory_row };
 
-    ghost PLACE = { 8 };
-
     ghost tells = { text_tells table.directory.columns refl };
 
-    ghost at = { place_of_directory };
+    ghost tells_apart = { refl };
 
-    const PLACE: usize = 8;
+    ghost is_known = { refl };
+
+    fn layout() -> &'static Layout {
+        &layouts::DIRECTORY
+    }
 
     fn read(alloc: Global, row: Row) -> Result<(Text, DirectoryRow), NoMemory> {
         let row_key = key_text(alloc, row.as_slice(), 0)?;
@@ -82,13 +87,15 @@ impl TableRow<Text> for ComponentRow {
 
     ghost value = { component_row };
 
-    ghost PLACE = { 4 };
-
     ghost tells = { text_tells table.component.columns refl };
 
-    ghost at = { place_of_component };
+    ghost tells_apart = { refl };
 
-    const PLACE: usize = 4;
+    ghost is_known = { refl };
+
+    fn layout() -> &'static Layout {
+        &layouts::COMPONENT
+    }
 
     fn read(alloc: Global, row: Row) -> Result<(Text, ComponentRow), NoMemory> {
         let row_key = key_text(alloc, row.as_slice(), 0)?;
@@ -119,13 +126,15 @@ impl TableRow<Text> for FeatureRow {
 
     ghost value = { feature_row };
 
-    ghost PLACE = { 12 };
-
     ghost tells = { text_tells table.feature.columns refl };
 
-    ghost at = { place_of_feature };
+    ghost tells_apart = { refl };
 
-    const PLACE: usize = 12;
+    ghost is_known = { refl };
+
+    fn layout() -> &'static Layout {
+        &layouts::FEATURE
+    }
 
     fn read(alloc: Global, row: Row) -> Result<(Text, FeatureRow), NoMemory> {
         let row_key = key_text(alloc, row.as_slice(), 0)?;
@@ -160,13 +169,15 @@ impl TableRow<(Text, Text)> for FeatureComponentsRow {
 
     ghost value = { feature_components_row };
 
-    ghost PLACE = { 13 };
-
     ghost tells = { texts_tell table.feature_components.columns refl };
 
-    ghost at = { place_of_feature_components };
+    ghost tells_apart = { refl };
 
-    const PLACE: usize = 13;
+    ghost is_known = { refl };
+
+    fn layout() -> &'static Layout {
+        &layouts::FEATURE_COMPONENTS
+    }
 
     fn read(alloc: Global, row: Row) -> Result<((Text, Text), FeatureComponentsRow), NoMemory> {
         let row_key = key_texts(alloc, row.as_slice())?;
@@ -186,13 +197,15 @@ impl TableRow<(Text, i32)> for ConditionRow {
 
     ghost value = { condition_row };
 
-    ghost PLACE = { 5 };
-
     ghost tells = { text_number_tell table.condition.columns refl };
 
-    ghost at = { place_of_condition };
+    ghost tells_apart = { refl };
 
-    const PLACE: usize = 5;
+    ghost is_known = { refl };
+
+    fn layout() -> &'static Layout {
+        &layouts::CONDITION
+    }
 
     fn read(alloc: Global, row: Row) -> Result<((Text, i32), ConditionRow), NoMemory> {
         let row_key = (
@@ -216,13 +229,15 @@ impl TableRow<Text> for FileRow {
 
     ghost value = { file_row };
 
-    ghost PLACE = { 14 };
-
     ghost tells = { text_tells table.file.columns refl };
 
-    ghost at = { place_of_file };
+    ghost tells_apart = { refl };
 
-    const PLACE: usize = 14;
+    ghost is_known = { refl };
+
+    fn layout() -> &'static Layout {
+        &layouts::FILE
+    }
 
     fn read(alloc: Global, row: Row) -> Result<(Text, FileRow), NoMemory> {
         let row_key = key_text(alloc, row.as_slice(), 0)?;
@@ -276,13 +291,15 @@ impl TableRow<Text> for MsiFileHashRow {
 
     ghost value = { msi_file_hash_row };
 
-    ghost PLACE = { 24 };
-
     ghost tells = { text_tells table.msi_file_hash.columns refl };
 
-    ghost at = { place_of_msi_file_hash };
+    ghost tells_apart = { refl };
 
-    const PLACE: usize = 24;
+    ghost is_known = { refl };
+
+    fn layout() -> &'static Layout {
+        &layouts::MSI_FILE_HASH
+    }
 
     fn read(alloc: Global, row: Row) -> Result<(Text, MsiFileHashRow), NoMemory> {
         let row_key = key_text(alloc, row.as_slice(), 0)?;
@@ -298,13 +315,15 @@ impl TableRow<Text> for RemoveFileRow {
 
     ghost value = { remove_file_row };
 
-    ghost PLACE = { 34 };
-
     ghost tells = { text_tells table.remove_file.columns refl };
 
-    ghost at = { place_of_remove_file };
+    ghost tells_apart = { refl };
 
-    const PLACE: usize = 34;
+    ghost is_known = { refl };
+
+    fn layout() -> &'static Layout {
+        &layouts::REMOVE_FILE
+    }
 
     fn read(alloc: Global, row: Row) -> Result<(Text, RemoveFileRow), NoMemory> {
         let row_key = key_text(alloc, row.as_slice(), 0)?;
@@ -327,13 +346,15 @@ impl TableRow<(Text, Text)> for CreateFolderRow {
 
     ghost value = { create_folder_row };
 
-    ghost PLACE = { 6 };
-
     ghost tells = { texts_tell table.create_folder.columns refl };
 
-    ghost at = { place_of_create_folder };
+    ghost tells_apart = { refl };
 
-    const PLACE: usize = 6;
+    ghost is_known = { refl };
+
+    fn layout() -> &'static Layout {
+        &layouts::CREATE_FOLDER
+    }
 
     fn read(alloc: Global, row: Row) -> Result<((Text, Text), CreateFolderRow), NoMemory> {
         let row_key = key_texts(alloc, row.as_slice())?;
@@ -353,13 +374,15 @@ impl TableRow<Text> for DuplicateFileRow {
 
     ghost value = { duplicate_file_row };
 
-    ghost PLACE = { 9 };
-
     ghost tells = { text_tells table.duplicate_file.columns refl };
 
-    ghost at = { place_of_duplicate_file };
+    ghost tells_apart = { refl };
 
-    const PLACE: usize = 9;
+    ghost is_known = { refl };
+
+    fn layout() -> &'static Layout {
+        &layouts::DUPLICATE_FILE
+    }
 
     fn read(alloc: Global, row: Row) -> Result<(Text, DuplicateFileRow), NoMemory> {
         let row_key = key_text(alloc, row.as_slice(), 0)?;
@@ -382,13 +405,15 @@ impl TableRow<Text> for RegistryRow {
 
     ghost value = { registry_row };
 
-    ghost PLACE = { 33 };
-
     ghost tells = { text_tells table.registry.columns refl };
 
-    ghost at = { place_of_registry };
+    ghost tells_apart = { refl };
 
-    const PLACE: usize = 33;
+    ghost is_known = { refl };
+
+    fn layout() -> &'static Layout {
+        &layouts::REGISTRY
+    }
 
     fn read(alloc: Global, row: Row) -> Result<(Text, RegistryRow), NoMemory> {
         let row_key = key_text(alloc, row.as_slice(), 0)?;
@@ -412,13 +437,15 @@ impl TableRow<Text> for RemoveRegistryRow {
 
     ghost value = { remove_registry_row };
 
-    ghost PLACE = { 36 };
-
     ghost tells = { text_tells table.remove_registry.columns refl };
 
-    ghost at = { place_of_remove_registry };
+    ghost tells_apart = { refl };
 
-    const PLACE: usize = 36;
+    ghost is_known = { refl };
+
+    fn layout() -> &'static Layout {
+        &layouts::REMOVE_REGISTRY
+    }
 
     fn read(alloc: Global, row: Row) -> Result<(Text, RemoveRegistryRow), NoMemory> {
         let row_key = key_text(alloc, row.as_slice(), 0)?;
@@ -441,13 +468,15 @@ impl TableRow<Text> for EnvironmentRow {
 
     ghost value = { environment_row };
 
-    ghost PLACE = { 10 };
-
     ghost tells = { text_tells table.environment.columns refl };
 
-    ghost at = { place_of_environment };
+    ghost tells_apart = { refl };
 
-    const PLACE: usize = 10;
+    ghost is_known = { refl };
+
+    fn layout() -> &'static Layout {
+        &layouts::ENVIRONMENT
+    }
 
     fn read(alloc: Global, row: Row) -> Result<(Text, EnvironmentRow), NoMemory> {
         let row_key = key_text(alloc, row.as_slice(), 0)?;
@@ -469,13 +498,15 @@ impl TableRow<Text> for ShortcutRow {
 
     ghost value = { shortcut_row };
 
-    ghost PLACE = { 40 };
-
     ghost tells = { text_tells table.shortcut.columns refl };
 
-    ghost at = { place_of_shortcut };
+    ghost tells_apart = { refl };
 
-    const PLACE: usize = 40;
+    ghost is_known = { refl };
+
+    fn layout() -> &'static Layout {
+        &layouts::SHORTCUT
+    }
 
     fn read(alloc: Global, row: Row) -> Result<(Text, ShortcutRow), NoMemory> {
         let row_key = key_text(alloc, row.as_slice(), 0)?;
@@ -518,13 +549,15 @@ impl TableRow<Text> for LaunchConditionRow {
 
     ghost value = { launch_condition_row };
 
-    ghost PLACE = { 19 };
-
     ghost tells = { text_tells table.launch_condition.columns refl };
 
-    ghost at = { place_of_launch_condition };
+    ghost tells_apart = { refl };
 
-    const PLACE: usize = 19;
+    ghost is_known = { refl };
+
+    fn layout() -> &'static Layout {
+        &layouts::LAUNCH_CONDITION
+    }
 
     fn read(alloc: Global, row: Row) -> Result<(Text, LaunchConditionRow), NoMemory> {
         let row_key = key_text(alloc, row.as_slice(), 0)?;
@@ -544,13 +577,15 @@ impl TableRow<Text> for CustomActionRow {
 
     ghost value = { custom_action_row };
 
-    ghost PLACE = { 7 };
-
     ghost tells = { text_tells table.custom_action.columns refl };
 
-    ghost at = { place_of_custom_action };
+    ghost tells_apart = { refl };
 
-    const PLACE: usize = 7;
+    ghost is_known = { refl };
+
+    fn layout() -> &'static Layout {
+        &layouts::CUSTOM_ACTION
+    }
 
     fn read(alloc: Global, row: Row) -> Result<(Text, CustomActionRow), NoMemory> {
         let row_key = key_text(alloc, row.as_slice(), 0)?;
@@ -572,13 +607,15 @@ impl TableRow<Text> for InstallExecuteSequenceRow {
 
     ghost value = { install_execute_sequence_row };
 
-    ghost PLACE = { 17 };
-
     ghost tells = { text_tells table.install_execute_sequence.columns refl };
 
-    ghost at = { place_of_install_execute_sequence };
+    ghost tells_apart = { refl };
 
-    const PLACE: usize = 17;
+    ghost is_known = { refl };
+
+    fn layout() -> &'static Layout {
+        &layouts::INSTALL_EXECUTE_SEQUENCE
+    }
 
     fn read(alloc: Global, row: Row) -> Result<(Text, InstallExecuteSequenceRow), NoMemory> {
         let row_key = key_text(alloc, row.as_slice(), 0)?;
@@ -599,13 +636,15 @@ impl TableRow<UpgradeKey> for UpgradeRow {
 
     ghost value = { upgrade_row };
 
-    ghost PLACE = { 42 };
-
     ghost tells = { upgrade_tells table.upgrade.columns refl };
 
-    ghost at = { place_of_upgrade };
+    ghost tells_apart = { refl };
 
-    const PLACE: usize = 42;
+    ghost is_known = { refl };
+
+    fn layout() -> &'static Layout {
+        &layouts::UPGRADE
+    }
 
     fn read(alloc: Global, row: Row) -> Result<(UpgradeKey, UpgradeRow), NoMemory> {
         let row_key = upgrade_key_of(alloc, row.as_slice())?;
@@ -638,13 +677,15 @@ impl TableRow<i32> for SummaryInformationRow {
 
     ghost value = { summary_information_row };
 
-    ghost PLACE = { 44 };
-
     ghost tells = { number_tells table.summary_information.columns refl };
 
-    ghost at = { place_of_summary_information };
+    ghost tells_apart = { refl };
 
-    const PLACE: usize = 44;
+    ghost is_known = { refl };
+
+    fn layout() -> &'static Layout {
+        &layouts::SUMMARY_INFORMATION
+    }
 
     fn read(alloc: Global, row: Row) -> Result<(i32, SummaryInformationRow), NoMemory> {
         let row_key = number_at(row.as_slice(), 0);

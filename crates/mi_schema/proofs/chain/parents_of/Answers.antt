@@ -1,11 +1,24 @@
-use Rattle.mi_schema.proofs.CheckLemmas.{parents_more}
-use Rattle.std.proofs.Common.{ap, ◌∙◌}
-use Rattle.mi_schema.specs.Read.{rows_as}
-use Rattle.mi_schema.proofs.CheckLemmas.{parent_in_table}
+use Rattle.std.proofs.Common.{◌++◌, map, option_and_then, sym, ap, ◌∙◌}
+use Rattle.std.specs.Map.{keys_of}
+use Rattle.std.specs.Map.Iter.{deref}
+use Rattle.std.proofs.lemmas.List.{append-nil}
+use Rattle.std.proofs.lemmas.Map.Iter.{rest_more, rest_all}
+use Rattle.mi_schema.specs.Checks.{row_with}
+use Rattle.mi_schema.specs.RowsOf.{behind}
+use Rattle.mi_schema.proofs.CheckLemmas.{parents_none, parents_more}
 use Rattle.mi_schema.proofs.chain.parents_of.Goals as goal
 
+pub loop-row-init : goal.loop-row-init
+loop-row-init g c =
+    parents_none (λ r. option_and_then (row_with (keys_of c.args.rows.now.entries)) (g.R.HasParent.parent r)) _ _ _ c.in_ok-parents.ensures.items (c.into_iter-row-iterator.ensures.into_iter_gives ∙ c.values-row-items.ensures.rest)
+
 pub loop-row-preserved : goal.loop-row-preserved
-loop-row-preserved c =
-    parents_more c.args.rows.now c.args.target c.deref-row-items.result.now c.loop-row.row-index c.row-item.result c.loop-row.parents.items c.push.new.self.items c.parent_of.result
-    c.deref-row-items.ensures.value c.row-item.is c.loop-row-test.true c.loop-row.invariant c.in_ok-push.ensures.items
-    (c.parent_of.ensures _ c.args.rows.now.indexed ∙ ap (parent_in_table c.args.target (rows_as c.args.rows.now)) c.as_slice.ensures.value)
+loop-row-preserved g c =
+    let next = rest_more deref c.loop-row.row-iterator c.next.new.self c.next.result c.in-Some.row c.in-Some.is c.next.ensures.steps in
+    parents_more (λ r. option_and_then (row_with (keys_of c.args.rows.now.entries)) (g.R.HasParent.parent r)) c.loop-row.parents.items c.push.new.self.items (behind c.args.rows.now.entries)
+    c.loop-row.row-iterator c.next.new.self c.in-Some.row.now c.parent_of.result c.loop-row.invariant next c.in_ok-push.ensures.items c.parent_of.ensures
+
+pub returns : goal.returns
+returns g c =
+    let end = rest_all deref c.loop-row.row-iterator c.next.new.self c.next.result c.in-None.is c.next.ensures.steps in
+    sym (append-nil c.loop-row.parents.items) ∙ sym (ap (λ l. c.loop-row.parents.items ++ map (λ r. option_and_then (row_with (keys_of c.args.rows.now.entries)) (g.R.HasParent.parent r)) l) end) ∙ c.loop-row.invariant

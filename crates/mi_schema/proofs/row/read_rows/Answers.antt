@@ -1,14 +1,13 @@
-use Rattle.std.proofs.Common.{◌≡◌, ◌<◌, List, ◌∷◌, [], ◌++◌, length, map, take, refl, sym, ap, subst, ◌∙◌, arith}
+use Rattle.std.proofs.Common.{◌≡◌, ◌<◌, List, ◌∷◌, [], ◌++◌, length, map, take, refl, ap, subst, ◌∙◌, arith}
 use Rattle.std.proofs.lemmas.Result.{err_from_is_err_and}
-use Rattle.std.proofs.lemmas.List.{map-append, length-map}
+use Rattle.std.proofs.lemmas.List.{map-append}
 use Rattle.std.proofs.Math.Seq.{take-length}
 use Rattle.mi_idt.specs.Means.{meaning}
 use Rattle.mi_schema.specs.Described.{table_as}
 use Rattle.mi_schema.specs.Rows.{keys_of, rows_in}
-use Rattle.mi_schema.specs.Keys.{KnowsKeys}
 use Rattle.mi_schema.specs.Seen.{IsSeen}
 use Rattle.mi_schema.specs.Values.{Row, row_of}
-use Rattle.mi_schema.proofs.FitLemmas.{rows_long, few_rows}
+use Rattle.mi_schema.proofs.FitLemmas.{rows_long}
 use Rattle.mi_schema.proofs.RowLemmas.{before_more, rows_more, rows_fault_here, rows_all, passed_on}
 use Rattle.mi_schema.proofs.row.read_rows.Goals as goal
 
@@ -41,20 +40,6 @@ loop-number-preserved c =
       seen = subst (IsSeen c.add.new.self) (ap (λ (r : Row). map (row_of t.columns) (take c.loop-number.number rows) ++ r ∷ []) (c.as_slice.ensures.value ∙ read.1) ∙ more)
           (c.in_ok-add.ensures _ c.loop-number.invariant.seen);
       fault = rows_more t keys rows c.loop-number.number lt c.loop-number.invariant.fault read.0;
-    }
-
-pub invariant_of-result : goal.invariant_of-result
-invariant_of-result c =
-    let t = table_as c.args.layout.now in
-    let rows = (meaning c.args.table.now).rows in
-    let long = rows_long c.args.table.now in
-    let few = few_rows c.args.table.now c.requires.spelled in
-    let all : c.loop-number.number ≡ length (meaning c.args.table.now).rows = omega (arith, long, c.loop-number-test.false, c.loop-number.auto.number-end, c.len-number-end.ensures, c.args.table.now.rows.ok) in
-    let held = c.loop-number.invariant.rows ∙ ap (λ n. map (row_of t.columns) (take n rows)) all ∙ ap (map (row_of t.columns)) (take-length rows) in
-    let as_many : length c.loop-number.rows.items ≡ length (meaning c.args.table.now).rows = sym (length-map c.loop-number.rows.items (λ row. row.items)) ∙ ap length held ∙ length-map rows (row_of t.columns) in
-    record {
-      few = omega (arith, as_many, long, few, c.loop-number.rows.ok);
-      indexed = subst (λ (rs : List Row). KnowsKeys c.in_ok-index.index (keys_of rs)) (sym held) c.in_ok-index.ensures;
     }
 
 pub returns : goal.returns

@@ -1,16 +1,11 @@
-use Rattle.std.proofs.Common.{Option, List, ℕ, sym, ap, subst, ◌∙◌}
-use Rattle.std.specs.FinMap.{get}
-use Rattle.mi_source.specs.Paths.{Files, bytes_or_none}
+use Rattle.std.proofs.lemmas.Result.{err_from_is_err_and}
+use Rattle.mi_schema.specs.Checks.{content_of}
 use Rattle.mi_schema.specs.Described.{table_as}
-use Rattle.mi_schema.specs.Files.{IsWhole}
-use Rattle.mi_schema.specs.Rows.{table_fault}
-use Rattle.mi_schema.proofs.RowLemmas.{refused_at}
-use Rattle.mi_schema.proofs.TableLemmas.{too_long_table}
+use Rattle.mi_schema.proofs.RowLemmas.{passed_on}
+use Rattle.mi_schema.proofs.TableLemmas.{size_fails}
 use Rattle.mi_schema.proofs.table.load_table.Goals as goal
 
-pub returns-clause-value : goal.returns-clause-value
-returns-clause-value g c = λ told.
-    let t = table_as c.args.layout.now in
-    let long = subst (λ (o : Option (List ℕ)). IsWhole o (bytes_or_none (get (g.S.Source.files c.is_there.new.src) c.as_str-2.result.now))) c.in-None.is (c.in_ok-bytes.ensures.value told) in
-    let at = ap (λ (f : Files). get f c.as_str-2.result.now) c.in_ok-is_there.ensures.stays ∙ ap (get (g.S.Source.files c.args.src.now)) (c.as_str-2.ensures ∙ c.in_ok-path.ensures) in
-    refused_at _ c.misspelled.result _ _ c.misspelled.ensures (sym (ap (table_fault t) at) ∙ too_long_table t _ long)
+pub returns-in_err-bytes-clause-fault : goal.returns-in_err-bytes-clause-fault
+returns-in_err-bytes-clause-fault g c = λ told.
+    let p = err_from_is_err_and c.from_residual.result c.from_residual.ensures.1 in
+    rw (p.1, p.2) (passed_on _ _ (λ x. x) _ _ (size_fails (table_as c.args.layout.now) (content_of (g.S.Source.files c.args.src.now) c.args.folder.now c.args.layout.now.name.now)) c.in_err-bytes.field-0.0 (c.in_err-bytes.ensures.fault told))

@@ -1,0 +1,150 @@
+use Rattle.std.proofs.Common.{IfErr, sym, subst}
+use Rattle.mi_source.specs.Counts.{Rose}
+use Rattle.mi_schema.specs.Answers.{Fails}
+use Rattle.mi_schema.specs.Rows.{table_fault}
+use Rattle.mi_schema.specs.declared.known.Known.{Known}
+use Rattle.mi_schema.specs.declared.known.Known.TheVariants as known
+use Rattle.mi_schema.specs.Checks.{content_of}
+use Rattle.mi_schema.specs.Listed.{layout_of}
+use Rattle.mi_schema.proofs.LoadLemmas.{on_ok}
+use Rattle.mi_schema.proofs.load.load_known.Goals as goal
+
+pub returns-in-Component-clause-put : goal.returns-in-Component-clause-put
+returns-in-Component-clause-put g c = rw c.in-Component.is (on_ok c.load_rows.result c.load_rows.ensures.read (λ read. record { found = read.found; same = read.same; right = read.right; holds = λ content h. elim [ known.Component ↦ read.are | other ↦ h other ] }))
+
+pub returns-in-Condition-clause-put : goal.returns-in-Condition-clause-put
+returns-in-Condition-clause-put g c = rw c.in-Condition.is (on_ok c.load_rows-in-Condition.result c.load_rows-in-Condition.ensures.read (λ read. record { found = read.found; same = read.same; right = read.right; holds = λ content h. elim [ known.Condition ↦ read.are | other ↦ h other ] }))
+
+pub returns-in-CreateFolder-clause-put : goal.returns-in-CreateFolder-clause-put
+returns-in-CreateFolder-clause-put g c = rw c.in-CreateFolder.is (on_ok c.load_rows-in-CreateFolder.result c.load_rows-in-CreateFolder.ensures.read (λ read. record { found = read.found; same = read.same; right = read.right; holds = λ content h. elim [ known.CreateFolder ↦ read.are | other ↦ h other ] }))
+
+pub returns-in-CustomAction-clause-put : goal.returns-in-CustomAction-clause-put
+returns-in-CustomAction-clause-put g c = rw c.in-CustomAction.is (on_ok c.load_rows-in-CustomAction.result c.load_rows-in-CustomAction.ensures.read (λ read. record { found = read.found; same = read.same; right = read.right; holds = λ content h. elim [ known.CustomAction ↦ read.are | other ↦ h other ] }))
+
+pub returns-in-Directory-clause-put : goal.returns-in-Directory-clause-put
+returns-in-Directory-clause-put g c = rw c.in-Directory.is (on_ok c.load_rows-in-Directory.result c.load_rows-in-Directory.ensures.read (λ read. record { found = read.found; same = read.same; right = read.right; holds = λ content h. elim [ known.Directory ↦ read.are | other ↦ h other ] }))
+
+pub returns-in-DuplicateFile-clause-put : goal.returns-in-DuplicateFile-clause-put
+returns-in-DuplicateFile-clause-put g c = rw c.in-DuplicateFile.is (on_ok c.load_rows-in-DuplicateFile.result c.load_rows-in-DuplicateFile.ensures.read (λ read. record { found = read.found; same = read.same; right = read.right; holds = λ content h. elim [ known.DuplicateFile ↦ read.are | other ↦ h other ] }))
+
+pub returns-in-Environment-clause-put : goal.returns-in-Environment-clause-put
+returns-in-Environment-clause-put g c = rw c.in-Environment.is (on_ok c.load_rows-in-Environment.result c.load_rows-in-Environment.ensures.read (λ read. record { found = read.found; same = read.same; right = read.right; holds = λ content h. elim [ known.Environment ↦ read.are | other ↦ h other ] }))
+
+pub returns-in-Feature-clause-put : goal.returns-in-Feature-clause-put
+returns-in-Feature-clause-put g c = rw c.in-Feature.is (on_ok c.load_rows-in-Feature.result c.load_rows-in-Feature.ensures.read (λ read. record { found = read.found; same = read.same; right = read.right; holds = λ content h. elim [ known.Feature ↦ read.are | other ↦ h other ] }))
+
+pub returns-in-FeatureComponents-clause-put : goal.returns-in-FeatureComponents-clause-put
+returns-in-FeatureComponents-clause-put g c = rw c.in-FeatureComponents.is (on_ok c.load_rows-in-FeatureComponents.result c.load_rows-in-FeatureComponents.ensures.read (λ read. record { found = read.found; same = read.same; right = read.right; holds = λ content h. elim [ known.FeatureComponents ↦ read.are | other ↦ h other ] }))
+
+pub returns-in-File-clause-put : goal.returns-in-File-clause-put
+returns-in-File-clause-put g c = rw c.in-File.is (on_ok c.load_rows-in-File.result c.load_rows-in-File.ensures.read (λ read. record { found = read.found; same = read.same; right = read.right; holds = λ content h. elim [ known.File ↦ read.are | other ↦ h other ] }))
+
+pub returns-in-InstallExecuteSequence-clause-put : goal.returns-in-InstallExecuteSequence-clause-put
+returns-in-InstallExecuteSequence-clause-put g c = rw c.in-InstallExecuteSequence.is (on_ok c.load_rows-in-InstallExecuteSequence.result c.load_rows-in-InstallExecuteSequence.ensures.read (λ read. record { found = read.found; same = read.same; right = read.right; holds = λ content h. elim [ known.InstallExecuteSequence ↦ read.are | other ↦ h other ] }))
+
+pub returns-in-LaunchCondition-clause-put : goal.returns-in-LaunchCondition-clause-put
+returns-in-LaunchCondition-clause-put g c = rw c.in-LaunchCondition.is (on_ok c.load_rows-in-LaunchCondition.result c.load_rows-in-LaunchCondition.ensures.read (λ read. record { found = read.found; same = read.same; right = read.right; holds = λ content h. elim [ known.LaunchCondition ↦ read.are | other ↦ h other ] }))
+
+pub returns-in-MsiFileHash-clause-put : goal.returns-in-MsiFileHash-clause-put
+returns-in-MsiFileHash-clause-put g c = rw c.in-MsiFileHash.is (on_ok c.load_rows-in-MsiFileHash.result c.load_rows-in-MsiFileHash.ensures.read (λ read. record { found = read.found; same = read.same; right = read.right; holds = λ content h. elim [ known.MsiFileHash ↦ read.are | other ↦ h other ] }))
+
+pub returns-in-Property-clause-put : goal.returns-in-Property-clause-put
+returns-in-Property-clause-put g c = rw c.in-Property.is (on_ok c.load_rows-in-Property.result c.load_rows-in-Property.ensures.read (λ read. record { found = read.found; same = read.same; right = read.right; holds = λ content h. elim [ known.Property ↦ read.are | other ↦ h other ] }))
+
+pub returns-in-Registry-clause-put : goal.returns-in-Registry-clause-put
+returns-in-Registry-clause-put g c = rw c.in-Registry.is (on_ok c.load_rows-in-Registry.result c.load_rows-in-Registry.ensures.read (λ read. record { found = read.found; same = read.same; right = read.right; holds = λ content h. elim [ known.Registry ↦ read.are | other ↦ h other ] }))
+
+pub returns-in-RemoveFile-clause-put : goal.returns-in-RemoveFile-clause-put
+returns-in-RemoveFile-clause-put g c = rw c.in-RemoveFile.is (on_ok c.load_rows-in-RemoveFile.result c.load_rows-in-RemoveFile.ensures.read (λ read. record { found = read.found; same = read.same; right = read.right; holds = λ content h. elim [ known.RemoveFile ↦ read.are | other ↦ h other ] }))
+
+pub returns-in-RemoveRegistry-clause-put : goal.returns-in-RemoveRegistry-clause-put
+returns-in-RemoveRegistry-clause-put g c = rw c.in-RemoveRegistry.is (on_ok c.load_rows-in-RemoveRegistry.result c.load_rows-in-RemoveRegistry.ensures.read (λ read. record { found = read.found; same = read.same; right = read.right; holds = λ content h. elim [ known.RemoveRegistry ↦ read.are | other ↦ h other ] }))
+
+pub returns-in-Shortcut-clause-put : goal.returns-in-Shortcut-clause-put
+returns-in-Shortcut-clause-put g c = rw c.in-Shortcut.is (on_ok c.load_rows-in-Shortcut.result c.load_rows-in-Shortcut.ensures.read (λ read. record { found = read.found; same = read.same; right = read.right; holds = λ content h. elim [ known.Shortcut ↦ read.are | other ↦ h other ] }))
+
+pub returns-in-SummaryInformation-clause-put : goal.returns-in-SummaryInformation-clause-put
+returns-in-SummaryInformation-clause-put g c = rw c.in-SummaryInformation.is (on_ok c.load_rows-in-SummaryInformation.result c.load_rows-in-SummaryInformation.ensures.read (λ read. record { found = read.found; same = read.same; right = read.right; holds = λ content h. elim [ known.SummaryInformation ↦ read.are | other ↦ h other ] }))
+
+pub returns-in-Upgrade-clause-put : goal.returns-in-Upgrade-clause-put
+returns-in-Upgrade-clause-put g c = rw c.in-Upgrade.is (on_ok c.load_rows-in-Upgrade.result c.load_rows-in-Upgrade.ensures.read (λ read. record { found = read.found; same = read.same; right = read.right; holds = λ content h. elim [ known.Upgrade ↦ read.are | other ↦ h other ] }))
+
+pub returns-in-Component-clause-fault : goal.returns-in-Component-clause-fault
+returns-in-Component-clause-fault g c =
+    subst (λ (k : Known). g.S.Source.told → IfErr c.load_rows.result (Fails (Rose (g.S.Source.faults c.args.src.now) (g.S.Source.faults c.load_rows.new.src)) (table_fault (layout_of k) (content_of (g.S.Source.files c.args.src.now) c.args.folder.now (layout_of k).name)))) (sym c.in-Component.is) c.load_rows.ensures.fault
+
+pub returns-in-Condition-clause-fault : goal.returns-in-Condition-clause-fault
+returns-in-Condition-clause-fault g c =
+    subst (λ (k : Known). g.S.Source.told → IfErr c.load_rows-in-Condition.result (Fails (Rose (g.S.Source.faults c.args.src.now) (g.S.Source.faults c.load_rows-in-Condition.new.src)) (table_fault (layout_of k) (content_of (g.S.Source.files c.args.src.now) c.args.folder.now (layout_of k).name)))) (sym c.in-Condition.is) c.load_rows-in-Condition.ensures.fault
+
+pub returns-in-CreateFolder-clause-fault : goal.returns-in-CreateFolder-clause-fault
+returns-in-CreateFolder-clause-fault g c =
+    subst (λ (k : Known). g.S.Source.told → IfErr c.load_rows-in-CreateFolder.result (Fails (Rose (g.S.Source.faults c.args.src.now) (g.S.Source.faults c.load_rows-in-CreateFolder.new.src)) (table_fault (layout_of k) (content_of (g.S.Source.files c.args.src.now) c.args.folder.now (layout_of k).name)))) (sym c.in-CreateFolder.is) c.load_rows-in-CreateFolder.ensures.fault
+
+pub returns-in-CustomAction-clause-fault : goal.returns-in-CustomAction-clause-fault
+returns-in-CustomAction-clause-fault g c =
+    subst (λ (k : Known). g.S.Source.told → IfErr c.load_rows-in-CustomAction.result (Fails (Rose (g.S.Source.faults c.args.src.now) (g.S.Source.faults c.load_rows-in-CustomAction.new.src)) (table_fault (layout_of k) (content_of (g.S.Source.files c.args.src.now) c.args.folder.now (layout_of k).name)))) (sym c.in-CustomAction.is) c.load_rows-in-CustomAction.ensures.fault
+
+pub returns-in-Directory-clause-fault : goal.returns-in-Directory-clause-fault
+returns-in-Directory-clause-fault g c =
+    subst (λ (k : Known). g.S.Source.told → IfErr c.load_rows-in-Directory.result (Fails (Rose (g.S.Source.faults c.args.src.now) (g.S.Source.faults c.load_rows-in-Directory.new.src)) (table_fault (layout_of k) (content_of (g.S.Source.files c.args.src.now) c.args.folder.now (layout_of k).name)))) (sym c.in-Directory.is) c.load_rows-in-Directory.ensures.fault
+
+pub returns-in-DuplicateFile-clause-fault : goal.returns-in-DuplicateFile-clause-fault
+returns-in-DuplicateFile-clause-fault g c =
+    subst (λ (k : Known). g.S.Source.told → IfErr c.load_rows-in-DuplicateFile.result (Fails (Rose (g.S.Source.faults c.args.src.now) (g.S.Source.faults c.load_rows-in-DuplicateFile.new.src)) (table_fault (layout_of k) (content_of (g.S.Source.files c.args.src.now) c.args.folder.now (layout_of k).name)))) (sym c.in-DuplicateFile.is) c.load_rows-in-DuplicateFile.ensures.fault
+
+pub returns-in-Environment-clause-fault : goal.returns-in-Environment-clause-fault
+returns-in-Environment-clause-fault g c =
+    subst (λ (k : Known). g.S.Source.told → IfErr c.load_rows-in-Environment.result (Fails (Rose (g.S.Source.faults c.args.src.now) (g.S.Source.faults c.load_rows-in-Environment.new.src)) (table_fault (layout_of k) (content_of (g.S.Source.files c.args.src.now) c.args.folder.now (layout_of k).name)))) (sym c.in-Environment.is) c.load_rows-in-Environment.ensures.fault
+
+pub returns-in-Feature-clause-fault : goal.returns-in-Feature-clause-fault
+returns-in-Feature-clause-fault g c =
+    subst (λ (k : Known). g.S.Source.told → IfErr c.load_rows-in-Feature.result (Fails (Rose (g.S.Source.faults c.args.src.now) (g.S.Source.faults c.load_rows-in-Feature.new.src)) (table_fault (layout_of k) (content_of (g.S.Source.files c.args.src.now) c.args.folder.now (layout_of k).name)))) (sym c.in-Feature.is) c.load_rows-in-Feature.ensures.fault
+
+pub returns-in-FeatureComponents-clause-fault : goal.returns-in-FeatureComponents-clause-fault
+returns-in-FeatureComponents-clause-fault g c =
+    subst (λ (k : Known). g.S.Source.told → IfErr c.load_rows-in-FeatureComponents.result (Fails (Rose (g.S.Source.faults c.args.src.now) (g.S.Source.faults c.load_rows-in-FeatureComponents.new.src)) (table_fault (layout_of k) (content_of (g.S.Source.files c.args.src.now) c.args.folder.now (layout_of k).name)))) (sym c.in-FeatureComponents.is) c.load_rows-in-FeatureComponents.ensures.fault
+
+pub returns-in-File-clause-fault : goal.returns-in-File-clause-fault
+returns-in-File-clause-fault g c =
+    subst (λ (k : Known). g.S.Source.told → IfErr c.load_rows-in-File.result (Fails (Rose (g.S.Source.faults c.args.src.now) (g.S.Source.faults c.load_rows-in-File.new.src)) (table_fault (layout_of k) (content_of (g.S.Source.files c.args.src.now) c.args.folder.now (layout_of k).name)))) (sym c.in-File.is) c.load_rows-in-File.ensures.fault
+
+pub returns-in-InstallExecuteSequence-clause-fault : goal.returns-in-InstallExecuteSequence-clause-fault
+returns-in-InstallExecuteSequence-clause-fault g c =
+    subst (λ (k : Known). g.S.Source.told → IfErr c.load_rows-in-InstallExecuteSequence.result (Fails (Rose (g.S.Source.faults c.args.src.now) (g.S.Source.faults c.load_rows-in-InstallExecuteSequence.new.src)) (table_fault (layout_of k) (content_of (g.S.Source.files c.args.src.now) c.args.folder.now (layout_of k).name)))) (sym c.in-InstallExecuteSequence.is) c.load_rows-in-InstallExecuteSequence.ensures.fault
+
+pub returns-in-LaunchCondition-clause-fault : goal.returns-in-LaunchCondition-clause-fault
+returns-in-LaunchCondition-clause-fault g c =
+    subst (λ (k : Known). g.S.Source.told → IfErr c.load_rows-in-LaunchCondition.result (Fails (Rose (g.S.Source.faults c.args.src.now) (g.S.Source.faults c.load_rows-in-LaunchCondition.new.src)) (table_fault (layout_of k) (content_of (g.S.Source.files c.args.src.now) c.args.folder.now (layout_of k).name)))) (sym c.in-LaunchCondition.is) c.load_rows-in-LaunchCondition.ensures.fault
+
+pub returns-in-MsiFileHash-clause-fault : goal.returns-in-MsiFileHash-clause-fault
+returns-in-MsiFileHash-clause-fault g c =
+    subst (λ (k : Known). g.S.Source.told → IfErr c.load_rows-in-MsiFileHash.result (Fails (Rose (g.S.Source.faults c.args.src.now) (g.S.Source.faults c.load_rows-in-MsiFileHash.new.src)) (table_fault (layout_of k) (content_of (g.S.Source.files c.args.src.now) c.args.folder.now (layout_of k).name)))) (sym c.in-MsiFileHash.is) c.load_rows-in-MsiFileHash.ensures.fault
+
+pub returns-in-Property-clause-fault : goal.returns-in-Property-clause-fault
+returns-in-Property-clause-fault g c =
+    subst (λ (k : Known). g.S.Source.told → IfErr c.load_rows-in-Property.result (Fails (Rose (g.S.Source.faults c.args.src.now) (g.S.Source.faults c.load_rows-in-Property.new.src)) (table_fault (layout_of k) (content_of (g.S.Source.files c.args.src.now) c.args.folder.now (layout_of k).name)))) (sym c.in-Property.is) c.load_rows-in-Property.ensures.fault
+
+pub returns-in-Registry-clause-fault : goal.returns-in-Registry-clause-fault
+returns-in-Registry-clause-fault g c =
+    subst (λ (k : Known). g.S.Source.told → IfErr c.load_rows-in-Registry.result (Fails (Rose (g.S.Source.faults c.args.src.now) (g.S.Source.faults c.load_rows-in-Registry.new.src)) (table_fault (layout_of k) (content_of (g.S.Source.files c.args.src.now) c.args.folder.now (layout_of k).name)))) (sym c.in-Registry.is) c.load_rows-in-Registry.ensures.fault
+
+pub returns-in-RemoveFile-clause-fault : goal.returns-in-RemoveFile-clause-fault
+returns-in-RemoveFile-clause-fault g c =
+    subst (λ (k : Known). g.S.Source.told → IfErr c.load_rows-in-RemoveFile.result (Fails (Rose (g.S.Source.faults c.args.src.now) (g.S.Source.faults c.load_rows-in-RemoveFile.new.src)) (table_fault (layout_of k) (content_of (g.S.Source.files c.args.src.now) c.args.folder.now (layout_of k).name)))) (sym c.in-RemoveFile.is) c.load_rows-in-RemoveFile.ensures.fault
+
+pub returns-in-RemoveRegistry-clause-fault : goal.returns-in-RemoveRegistry-clause-fault
+returns-in-RemoveRegistry-clause-fault g c =
+    subst (λ (k : Known). g.S.Source.told → IfErr c.load_rows-in-RemoveRegistry.result (Fails (Rose (g.S.Source.faults c.args.src.now) (g.S.Source.faults c.load_rows-in-RemoveRegistry.new.src)) (table_fault (layout_of k) (content_of (g.S.Source.files c.args.src.now) c.args.folder.now (layout_of k).name)))) (sym c.in-RemoveRegistry.is) c.load_rows-in-RemoveRegistry.ensures.fault
+
+pub returns-in-Shortcut-clause-fault : goal.returns-in-Shortcut-clause-fault
+returns-in-Shortcut-clause-fault g c =
+    subst (λ (k : Known). g.S.Source.told → IfErr c.load_rows-in-Shortcut.result (Fails (Rose (g.S.Source.faults c.args.src.now) (g.S.Source.faults c.load_rows-in-Shortcut.new.src)) (table_fault (layout_of k) (content_of (g.S.Source.files c.args.src.now) c.args.folder.now (layout_of k).name)))) (sym c.in-Shortcut.is) c.load_rows-in-Shortcut.ensures.fault
+
+pub returns-in-SummaryInformation-clause-fault : goal.returns-in-SummaryInformation-clause-fault
+returns-in-SummaryInformation-clause-fault g c =
+    subst (λ (k : Known). g.S.Source.told → IfErr c.load_rows-in-SummaryInformation.result (Fails (Rose (g.S.Source.faults c.args.src.now) (g.S.Source.faults c.load_rows-in-SummaryInformation.new.src)) (table_fault (layout_of k) (content_of (g.S.Source.files c.args.src.now) c.args.folder.now (layout_of k).name)))) (sym c.in-SummaryInformation.is) c.load_rows-in-SummaryInformation.ensures.fault
+
+pub returns-in-Upgrade-clause-fault : goal.returns-in-Upgrade-clause-fault
+returns-in-Upgrade-clause-fault g c =
+    subst (λ (k : Known). g.S.Source.told → IfErr c.load_rows-in-Upgrade.result (Fails (Rose (g.S.Source.faults c.args.src.now) (g.S.Source.faults c.load_rows-in-Upgrade.new.src)) (table_fault (layout_of k) (content_of (g.S.Source.files c.args.src.now) c.args.folder.now (layout_of k).name)))) (sym c.in-Upgrade.is) c.load_rows-in-Upgrade.ensures.fault
