@@ -48,8 +48,9 @@ fn say_file(image: &Image, path: &PathText, out: &mut Vec<u8>) -> Result<(), Ill
 
 fn say_content(image: &Image, path: &PathText, out: &mut Vec<u8>) -> Result<(), Ill> {
     match image.content(path) {
+        Some(Content::Own) => say_word(out, "Own"),
         Some(Content::Held(name)) => say_two(out, b"Held", name.as_bytes()),
-        Some(Content::Copied(path, length)) => say_number(out, path.as_str(), *length),
+        Some(Content::Copied(path)) => say_two(out, b"Copied", path.as_bytes()),
         None => say_word(out, "none"),
     }
 }
@@ -162,6 +163,34 @@ fn list_files(alloc: Global, image: &Image, folder: &str, out: &mut Vec<u8>) -> 
     say_paths(files.as_slice(), out)
 }
 
+fn list_folders(alloc: Global, image: &Image, folder: &str, out: &mut Vec<u8>) -> Result<(), Ill> {
+    let folders = image.folders_below(alloc, &path(alloc, folder)?)?;
+    say_paths(folders.as_slice(), out)
+}
+
+fn list_shortcuts(
+    alloc: Global,
+    image: &Image,
+    folder: &str,
+    out: &mut Vec<u8>,
+) -> Result<(), Ill> {
+    let shortcuts = image.shortcuts_below(alloc, &path(alloc, folder)?)?;
+    say_paths(shortcuts.as_slice(), out)
+}
+
+fn list_keys(
+    alloc: Global,
+    image: &Image,
+    args: &Arguments<'_>,
+    out: &mut Vec<u8>,
+) -> Result<(), Ill> {
+    let keys = image.keys_below(alloc, root(args)?, args.text(1)?)?;
+    for key in keys.as_slice() {
+        say_word(out, key.as_str())?;
+    }
+    Ok(())
+}
+
 fn list_values(
     alloc: Global,
     image: &Image,
@@ -188,6 +217,9 @@ fn list(
 ) -> Result<(), Ill> {
     match name {
         "image-files" => list_files(alloc, image, args.text(0)?, out),
+        "image-folders" => list_folders(alloc, image, args.text(0)?, out),
+        "image-keys" => list_keys(alloc, image, args, out),
+        "image-shortcuts" => list_shortcuts(alloc, image, args.text(0)?, out),
         "image-values" => list_values(alloc, image, args, out),
         "image-clients" => say_clients(alloc, image.clients(alloc)?.as_slice(), out),
         "image-clients-of" => {

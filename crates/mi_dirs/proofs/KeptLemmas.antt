@@ -13,11 +13,12 @@ use Rattle.mi_dirs.specs.Order.{AreRows, IsOrder}
 use Rattle.mi_dirs.specs.Places.{Place, parent_at, target_at, row_of, source_of, first_row, is_named, with_own}
 use Rattle.mi_dirs.specs.Faults.{path_fault, row_number}
 use Rattle.mi_dirs.specs.Views.{own_view, place_of_dir, places_in, with_row_own, IsFolderOwn, TargetFolders}
-use Rattle.mi_dirs.specs.Sources.{sources_in}
+use Rattle.mi_dirs.specs.Sources.{sources_in, above_in, AreAbove}
 use Rattle.mi_dirs.specs.Keeps.{Keeps}
 use Rattle.mi_dirs.proofs.TargetLemmas.{slice_get-places_in, length-places_in, length-with_row_own, parent_at-own, same_function, slice_get-set, order_rows}
 use Rattle.mi_dirs.proofs.DirLemmas.{first_row_below}
 use Rattle.mi_dirs.proofs.SourceLemmas.{same_sources}
+use Rattle.mi_dirs.proofs.AboveLemmas.{same_above}
 use Rattle.mi_dirs.proofs.FaultLemmas.{path_fault_is, has_target, target_at-sources, with_own_at, set_own, row_of-own}
 
 pub some_same : {A : Type 0} {x y : A} → Some x ≡ Some y → x ≡ y
@@ -45,6 +46,14 @@ set_parents rows row d own is =
 pub set_sources : (rows : List Dir) (folder : List ℕ) (row : ℕ) (d : Dir) (own : Own) → slice_get rows row ≡ Some d → sources_in folder (set rows row (record d { own = own })) ≡ sources_in folder rows
 set_sources rows folder row d own is =
     same_sources (set rows row (record d { own = own })) rows folder (set_parents rows row d own is) (map-set_same (λ (x : Dir). x.source) rows row (record d { own = own }) d is refl)
+
+-- nor the way up
+pub set_above : (rows : List Dir) (row : ℕ) (d : Dir) (own : Own) → slice_get rows row ≡ Some d → (table : List (Option ℕ)) → AreAbove rows table → AreAbove (set rows row (record d { own = own })) table
+set_above rows row d own is table all = λ r lt.
+    let new = set rows row (record d { own = own }) in
+    let long : length new ≡ length rows = length-set rows row (record d { own = own }) in
+    let same : above_in new ≡ above_in rows = same_above new rows (set_parents rows row d own is) (map-set_same (λ (x : Dir). x.source) rows row (record d { own = own }) d is refl) long in
+    all r (subst (λ (n : ℕ). r < n) long lt) ∙ ap (λ (f : ℕ → Option ℕ). Some (f r)) (sym same)
 
 sourced : (sources : List (List ℕ)) (row : ℕ) (s : List ℕ) → slice_get sources row ≡ Some s → (o : Option Dir) → is_some o ≡ true → option_map (λ (p : Place). p.source) (option_map (λ d. place_of_dir d (unwrap_or (slice_get sources row) [])) o) ≡ Some s
 sourced sources row s at None h = absurd cc

@@ -3,6 +3,7 @@ mod PathLemmas
 pub mod RowLemmas
 mod TargetLemmas
 mod SourceLemmas
+mod AboveLemmas
 mod OwnLemmas
 mod DirLemmas
 pub mod FaultLemmas

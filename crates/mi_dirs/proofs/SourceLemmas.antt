@@ -1,12 +1,12 @@
 -- Sources that are made of the names of rows.
-use Rattle.std.proofs.Common.{◌≡◌, ℕ, zero, suc, ◌+◌, ◌-◌, ◌<◌, Bool, true, List, [], ◌∷◌, ◌++◌, length, map, get_or, Option, Some, None, refl, sym, ap, ◌∙◌, arith, zero-add}
+use Rattle.std.proofs.Common.{◌≡◌, ℕ, zero, suc, ◌+◌, ◌<◌, Bool, true, List, [], ◌∷◌, ◌++◌, length, map, get_or, Option, Some, None, refl, sym, ap, ◌∙◌, arith, zero-add}
 use Rattle.std.specs.Prelude.{slice_get, option_map}
 use Rattle.std.specs.Option.{option_map_or}
 use Rattle.std.proofs.lemmas.List.{length-map}
 use Rattle.std.proofs.lemmas.Option.{slice_get-get_or, slice_get-map}
 use Rattle.mi_dirs.specs.declared.rows.DirRow.{DirRow}
 use Rattle.mi_dirs.specs.declared.dir.Dir.{Dir}
-use Rattle.mi_dirs.specs.Chains.{along, root_or, ends_in}
+use Rattle.mi_dirs.specs.Chains.{along, ends_in}
 use Rattle.mi_dirs.specs.Faults.{numbers_from, numbers}
 use Rattle.mi_dirs.specs.Places.{bound, parent_at}
 use Rattle.mi_dirs.specs.Rows.{parent_of, row_parent, source_name, source_from, source_step, source_at}
@@ -24,12 +24,12 @@ listed_parent rows parents row r d all lt is =
 
 -- ---- one source
 
-step_here : (rows : List Dir) (folder : List ℕ) (row : ℕ) (d : Dir) (above : Option (List ℕ)) → slice_get rows row ≡ Some d → named_step (source_names rows) folder row above ≡ source_from folder d.source above
+pub step_here : (rows : List Dir) (folder : List ℕ) (row : ℕ) (d : Dir) (above : Option (List ℕ)) → slice_get rows row ≡ Some d → named_step (source_names rows) folder row above ≡ source_from folder d.source above
 step_here rows folder row d above is =
     ap (λ (o : Option (List ℕ)). option_map_or (λ name. source_from folder name above) o []) (slice_get-map (λ (x : Dir). x.source) rows row ∙ ap (option_map (λ (x : Dir). x.source)) is)
 
 -- the equation of a row's source
-source_up : (rows : List Dir) (folder : List ℕ) (row : ℕ) (d : Dir) (up : Option ℕ) → ends_in (parent_at (places_in rows [])) (bound rows) row ≡ true → slice_get rows row ≡ Some d → d.parent ≡ up
+pub source_up : (rows : List Dir) (folder : List ℕ) (row : ℕ) (d : Dir) (up : Option ℕ) → ends_in (parent_at (places_in rows [])) (bound rows) row ≡ true → slice_get rows row ≡ Some d → d.parent ≡ up
     → kept_source rows folder row ≡ source_from folder d.source (option_map (λ p. kept_source rows folder p) up)
 unfolding kept_source
 source_up rows folder row d up ends is parent =
@@ -41,29 +41,6 @@ pub down-push : (step : ℕ → Option (List ℕ) → List ℕ) (path : List ℕ
 down-push step [] row above = refl
 down-push step (x ∷ xs) row above = ap (λ (s : List ℕ). step x (Some s)) (down-push step xs row above)
 
--- the parent of a row that is read
-pub parent_up : (rows : List Dir) (at : ℕ) (up : Option ℕ) (d : Dir) → at < length rows → (get_or rows at d).parent ≡ up → parent_at (places_in rows []) at ≡ up
-parent_up rows at up d lt parent = parent_here rows at (get_or rows at d) (slice_get-get_or rows at d lt) ∙ parent
-
--- the way up with one more row
-pub goes_up : (rows : List Dir) (folder : List ℕ) (path : List ℕ) (row at up : ℕ) (d : Dir) → ends_in (parent_at (places_in rows [])) (bound rows) at ≡ true → at < length rows → (get_or rows at d).parent ≡ Some up
-    → kept_source rows folder row ≡ down_to (named_step (source_names rows) folder) path (kept_source rows folder at)
-    → kept_source rows folder row ≡ down_to (named_step (source_names rows) folder) (path ++ at ∷ []) (kept_source rows folder up)
-goes_up rows folder path row at up d ends lt parent h =
-    let step = named_step (source_names rows) folder in
-    let here = get_or rows at d in
-    let is : slice_get rows at ≡ Some here = slice_get-get_or rows at d lt in
-    h
-    ∙ ap (down_to step path) (source_up rows folder at here (Some up) ends is parent ∙ sym (step_here rows folder at here (Some (kept_source rows folder up)) is))
-    ∙ sym (down-push step path at (kept_source rows folder up))
-
--- the whole way up
-pub at_root : (rows : List Dir) (folder : List ℕ) (path : List ℕ) (row at : ℕ) (d : Dir) → ends_in (parent_at (places_in rows [])) (bound rows) at ≡ true → at < length rows → (get_or rows at d).parent ≡ None
-    → kept_source rows folder row ≡ down_to (named_step (source_names rows) folder) path (kept_source rows folder at)
-    → kept_source rows folder row ≡ down_to (named_step (source_names rows) folder) path folder
-at_root rows folder path row at d ends lt parent h =
-    h ∙ ap (down_to (named_step (source_names rows) folder) path) (source_up rows folder at (get_or rows at d) None ends (slice_get-get_or rows at d lt) parent)
-
 -- the way down with one row less
 pub goes_down : (rows : List Dir) (folder : List ℕ) (path rest : List ℕ) (row : ℕ) (d : Dir) (source new : List ℕ) → path ≡ rest ++ row ∷ [] → slice_get rows row ≡ Some d → new ≡ source_from folder d.source (Some source)
     → down_to (named_step (source_names rows) folder) rest new ≡ down_to (named_step (source_names rows) folder) path source
@@ -71,13 +48,6 @@ goes_down rows folder path rest row d source new popped is made =
     let step = named_step (source_names rows) folder in
     ap (down_to step rest) (made ∙ sym (step_here rows folder row d (Some source) is))
     ∙ sym (ap (λ (p : List ℕ). down_to step p source) popped ∙ down-push step rest row source)
-
--- a chain that goes on ends one row later
-pub ends_next : (parent : ℕ → Option ℕ) (n at up : ℕ) → ends_in parent n at ≡ true → parent at ≡ Some up → (0 < n) × (ends_in parent (n - 1) up ≡ true)
-ends_next parent zero at up e is = absurd cc
-ends_next parent (suc n) at up e is =
-    let less : suc n - 1 ≡ n = omega arith in
-    (omega arith, ap (λ (m : ℕ). ends_in parent m up) less ∙ sym (ap (root_or (ends_in parent n)) is) ∙ e)
 
 -- ---- all sources
 

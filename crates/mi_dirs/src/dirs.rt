@@ -17,7 +17,7 @@ use crate::index::{folders_by_key, rows_by_key};
 use crate::order::{order_of, row_number};
 use crate::own::{named_folder, own_of, parents_of};
 use crate::rows::DirRow;
-use crate::sources::{source_name, source_of};
+use crate::sources::{rows_above, source_name, source_of};
 use crate::targets::{first_refused, targets_of};
 use mi_props::Props;
 use mi_text::{NoMemory, PathText, Text};
@@ -33,6 +33,8 @@ pub struct Dirs {
     folder: Text,
     index: BTreeMap<String, usize>,
     order: Vec<usize>,
+    /// Rows on the way up to the root row, by which sources are made.
+    above: Vec<Option<usize>>,
     targets: Vec<Option<PathText>>,
 }
 
@@ -126,12 +128,14 @@ pub fn resolve(
     if let Some(row) = first_refused(&targets) {
         return Err(DirError::Fault(DirFault::BadPath(row_number(row))));
     }
+    let above = rows_above(alloc, &dirs, &order)?;
     let folder = Text::copy_of(alloc, folder)?;
     Ok(Dirs {
         rows: dirs,
         folder,
         index,
         order,
+        above,
         targets,
     })
 }
@@ -160,7 +164,7 @@ impl Dirs {
         let Some(row) = self.index.get(dir) else {
             return Ok(None);
         };
-        let source = source_of(alloc, &self.rows, self.folder.as_str(), *row)?;
+        let source = source_of(alloc, &self.rows, &self.above, self.folder.as_str(), *row)?;
         Ok(Some(source))
     }
 

@@ -51,9 +51,18 @@ pub enum Trip {
 /// An error of the system.
 #[derive(Clone, Copy, Debug, PartialEq, Eq)]
 pub enum Failure {
+    /// EIO.
     Broken,
+    /// ENOSPC.
     Full,
+    /// EINTR.
     Interrupted,
+    /// EACCES.
+    Denied,
+    /// EROFS.
+    ReadOnly,
+    /// EINVAL.
+    Invalid,
 }
 
 impl Failure {
@@ -62,8 +71,18 @@ impl Failure {
             Failure::Broken => ErrorKind::Other,
             Failure::Full => ErrorKind::StorageFull,
             Failure::Interrupted => ErrorKind::Interrupted,
+            Failure::Denied => ErrorKind::PermissionDenied,
+            Failure::ReadOnly => ErrorKind::ReadOnlyFilesystem,
+            Failure::Invalid => ErrorKind::InvalidInput,
         }
     }
+}
+
+/// What always fails of the folder in which all others stand.
+#[derive(Clone, Copy, Debug, PartialEq, Eq)]
+pub enum Above {
+    Opening(Failure),
+    Syncing(Failure),
 }
 
 /// A file or a folder: what reads give, and what the disk has of it.
@@ -92,9 +111,13 @@ pub struct Device {
     entries: BTreeMap<String, Entry>,
     calls: usize,
     trip: Option<(usize, Trip)>,
+    above: Option<Above>,
     // Whether a call has failed as it was told, and not as one that is to be tried again.
     failed: bool,
 }
+
+/// The number of the folder in which all others stand.
+const TOP: usize = 0;
 
 fn parent_of(path: &str) -> &str {
     match path.rsplit_once('/') {
@@ -190,6 +213,7 @@ impl Device {
             entries: BTreeMap::new(alloc),
             calls: 0,
             trip: None,
+            above: None,
             failed: false,
         };
         device.push_folder(".")?;
@@ -208,6 +232,13 @@ impl Device {
         device.calls = 0;
         device.trip = trip;
         device.failed = false;
+        Ok(device)
+    }
+
+    /// The disk as it is, for another process, to which the folder above all others fails so.
+    pub fn below(&self, above: Above) -> Result<Device, AllocError> {
+        let mut device = self.again(None)?;
+        device.above = Some(above);
         Ok(device)
     }
 
@@ -269,7 +300,7 @@ impl Device {
 
     fn find(&self, path: &str) -> Option<usize> {
         match path.trim_end_matches('/') {
-            "." => Some(0),
+            "." => Some(TOP),
             path => self.entries.get(path)?.now,
         }
     }
@@ -291,6 +322,20 @@ impl Device {
                 self.failed = failure != Failure::Interrupted;
                 Err(io::Error::from(failure.kind()))
             }
+            _ => Ok(()),
+        }
+    }
+
+    fn may_open(&self, number: usize) -> io::Result<()> {
+        match self.above {
+            Some(Above::Opening(failure)) if number == TOP => Err(io::Error::from(failure.kind())),
+            _ => Ok(()),
+        }
+    }
+
+    fn may_sync(&self, number: usize) -> io::Result<()> {
+        match self.above {
+            Some(Above::Syncing(failure)) if number == TOP => Err(io::Error::from(failure.kind())),
             _ => Ok(()),
         }
     }
@@ -332,6 +377,7 @@ impl Device {
         match self.find(path) {
             Some(_) if how.asks_create_new() => Err(io::Error::from(ErrorKind::AlreadyExists)),
             Some(node) => {
+                self.may_open(node)?;
                 if how.asks_truncate() {
                     self.shorten(node, 0);
                 }
@@ -398,6 +444,7 @@ impl Device {
             }
             return Err(error);
         }
+        self.may_sync(number)?;
         if let Some(node) = self.nodes.get_mut(number) {
             match &node.folder {
                 Some(path) => sync_entries(&mut self.entries, path.as_str()),

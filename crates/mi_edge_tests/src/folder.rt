@@ -3,17 +3,24 @@
 use std::alloc::AllocError;
 use std::{env, fs, process};
 
-/// A folder for temporary files that no other run and no other test has.
+/// Whether a folder can be made at a path; it is taken away again.
+fn can_be_made(rt: &HostRuntime, folder: &str) -> bool {
+    fs::create_dir(rt, folder).is_ok() && fs::remove_dir(rt, folder).is_ok()
+}
+
+/// The path of a folder that no other run and no other test has: in the folder for temporary files, where one can be made
+/// there, and otherwise in the current folder.
 pub fn folder_of(rt: &HostRuntime, word: &str) -> Result<String, AllocError> {
     let alloc = rt.alloc();
     let run = process::id(rt.process());
-    match env::temp_dir(rt) {
-        Ok(temporary) => format!(in alloc;
-            "{}/mi_edges-{run}-{word}",
-            temporary.as_path().as_str()
-        ),
-        Err(_) => format!(in alloc; "mi_edges-{run}-{word}"),
+    let name = format!(in alloc; "mi_edges-{run}-{word}")?;
+    if let Ok(temporary) = env::temp_dir(rt) {
+        let folder = format!(in alloc; "{}/{name}", temporary.as_path().as_str())?;
+        if can_be_made(rt, folder.as_str()) {
+            return Ok(folder);
+        }
     }
+    Ok(name)
 }
 
 /// A file directly in a folder.

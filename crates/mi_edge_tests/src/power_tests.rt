@@ -1,9 +1,9 @@
 //! What was synced outlives each stop, each cut of the power and each failure of the system.
 
-use crate::device::{Choice, Device, Failure, Trip};
+use crate::device::{Above, Choice, Device, Failure, Trip};
 use crate::fake::Fake;
 use crate::known::{FakeVolume, Held, Known, Wrong};
-use crate::step::Act;
+use crate::step::{Act, piece_of};
 use mi_edges::FolderVolume;
 use mi_text::Name;
 use mi_volume::Volume;
@@ -26,9 +26,12 @@ struct History {
     lengths: &'static [usize],
     deeds: &'static [Deed],
     trips: &'static [Trip],
+    // Whether the power is cut at each call of the next opening of the volume, too.
+    cuts_opening: bool,
 }
 
-/// Names of one part and of two: each kind of change, of names that are listed and that aren't, and few bytes over many.
+/// Names of one part and of two: each kind of change, of names that are listed and that aren't, few bytes over many, and a
+/// sync behind one that may have failed.
 const SHORT: History = History {
     lengths: &[6, 200],
     deeds: &[
@@ -49,7 +52,8 @@ const SHORT: History = History {
         Deed::At(1, Act::Remove),
         Deed::At(0, Act::Append("behind")),
         Deed::Sync,
-        Deed::At(0, Act::Put("x")),
+        Deed::Sync,
+        Deed::At(1, Act::Put("x")),
     ],
     trips: &[
         Trip::Stop,
@@ -57,6 +61,7 @@ const SHORT: History = History {
         Trip::Fail(Failure::Full),
         Trip::Fail(Failure::Interrupted),
     ],
+    cuts_opening: true,
 };
 
 /// A name of eleven parts.
@@ -69,6 +74,7 @@ const LONG: History = History {
         Deed::Sync,
     ],
     trips: &[Trip::Stop],
+    cuts_opening: false,
 };
 
 /// What the disk may have after the power was cut.
@@ -141,13 +147,13 @@ fn carry_out(
 fn change_all(
     alloc: Global,
     fake: &Fake,
-    history: &History,
+    deeds: &[Deed],
     names: &mut Vec<Known>,
 ) -> Result<u64, Wrong> {
     let Ok(mut volume) = FolderVolume::at(fake.clone()?, alloc, FOLDER) else {
         return Ok(1);
     };
-    for deed in history.deeds {
+    for deed in deeds {
         if fake.is_stopped() {
             break;
         }
@@ -161,11 +167,11 @@ fn change_all(
 fn changed(
     alloc: Global,
     device: Device,
-    history: &History,
+    deeds: &[Deed],
     names: &mut Vec<Known>,
 ) -> Result<Device, Wrong> {
     let fake = Fake::new(alloc, device)?;
-    let faults = change_all(alloc, &fake, history, names)?;
+    let faults = change_all(alloc, &fake, deeds, names)?;
     let device = fake.device()?;
     if device.has_failed() && faults == 0 {
         return Err(Wrong::Uncounted);
@@ -212,22 +218,43 @@ fn opened(alloc: Global, device: Device) -> Result<Device, Wrong> {
     Ok(fake.device()?)
 }
 
-/// Reads where the power was cut.
-fn outlives_a_cut(alloc: Global, device: &Device, names: &Vec<Known>) -> Result<(), Wrong> {
-    for choice in CUTS {
-        read_all(alloc, Fake::new(alloc, device.cut(choice)?)?, names)?;
-    }
-    Ok(())
-}
-
 /// What was synced outlives a cut of the power at each call of the opening of the volume.
 fn outlives_cuts(alloc: Global, device: &Device, names: &Vec<Known>) -> Result<(), Wrong> {
     let calls = opened(alloc, device.again(None)?)?.calls();
     for call in 0..calls {
         let left = opened(alloc, device.again(Some((call, Trip::Stop)))?)?;
-        outlives_a_cut(alloc, &left, names)?;
+        let choice = if call % 2 == 0 {
+            Choice::Old
+        } else {
+            Choice::Mixed(call)
+        };
+        read_all(alloc, Fake::new(alloc, left.cut(choice)?)?, names)?;
     }
     Ok(())
+}
+
+/// The process behind a stopped one makes all changes, and what it synced outlives a cut of the power. Where it ends before
+/// its first sync, what the next process reads outlives one.
+fn goes_on(alloc: Global, device: &Device, history: &History) -> Result<(), Wrong> {
+    let mut names = names_of(alloc, history)?;
+    let synced = changed(alloc, device.again(None)?, history.deeds, &mut names)?;
+    read_all(alloc, Fake::new(alloc, synced.cut(Choice::Old)?)?, &names)?;
+    let mut names = names_of(alloc, history)?;
+    let unsynced = changed(
+        alloc,
+        device.again(None)?,
+        before_sync(history.deeds),
+        &mut names,
+    )?;
+    stays_read(alloc, unsynced, &names)
+}
+
+/// What comes before the first sync.
+fn before_sync(deeds: &'static [Deed]) -> &'static [Deed] {
+    match deeds.iter().position(|deed| matches!(deed, Deed::Sync)) {
+        Some(first) => deeds.get(..first).unwrap_or(deeds),
+        None => deeds,
+    }
 }
 
 /// What is found on the disk behind a process: where the process alone has ended, and where the power was cut.
@@ -247,12 +274,20 @@ fn outlives(
 /// A process whose call of this number goes wrong, and what is found on its disk. How many calls it made.
 fn trial(alloc: Global, history: &History, trip: Option<(usize, Trip)>) -> Result<usize, Wrong> {
     let mut names = names_of(alloc, history)?;
-    let device = changed(alloc, Device::new(alloc)?.again(trip)?, history, &mut names)?;
+    let device = changed(
+        alloc,
+        Device::new(alloc)?.again(trip)?,
+        history.deeds,
+        &mut names,
+    )?;
     match trip {
         Some((_, Trip::Fail(_))) => outlives(alloc, &device, &names, &CUTS)?,
         Some((_, Trip::Stop)) | None => {
             outlives(alloc, &device, &names, &CHOICES)?;
-            outlives_cuts(alloc, &device, &names)?;
+            if history.cuts_opening {
+                outlives_cuts(alloc, &device, &names)?;
+            }
+            goes_on(alloc, &device, history)?;
         }
     }
     Ok(device.calls())
@@ -280,6 +315,51 @@ fn first_wrong(alloc: Global, history: &History) -> Result<(), (usize, Option<Tr
                 return Err((call, Some(*trip), wrong));
             }
         }
+    }
+    Ok(())
+}
+
+/// What may fail of the folder above all others, and whether a sync is good all the same.
+const ABOVE: [(Above, bool); 8] = [
+    (Above::Opening(Failure::Denied), true),
+    (Above::Opening(Failure::ReadOnly), true),
+    (Above::Opening(Failure::Broken), false),
+    (Above::Syncing(Failure::Denied), true),
+    (Above::Syncing(Failure::ReadOnly), true),
+    (Above::Syncing(Failure::Invalid), true),
+    (Above::Syncing(Failure::Broken), false),
+    (Above::Syncing(Failure::Full), false),
+];
+
+/// Whether a process syncs a put.
+fn is_put(alloc: Global, device: Device) -> Result<bool, Wrong> {
+    let Ok(mut volume) = FolderVolume::at(Fake::new(alloc, device)?, alloc, FOLDER) else {
+        return Ok(false);
+    };
+    let Ok(name) = Name::of(alloc, "name") else {
+        return Err(Wrong::NoMemory);
+    };
+    Ok(volume.put(alloc, &name, piece_of("bytes")).is_ok() && volume.sync().is_ok())
+}
+
+/// Whether a sync is good where this fails: of a folder that was there before, and of one that isn't there yet.
+fn are_good(alloc: Global, above: Above) -> Result<[bool; 2], Wrong> {
+    let empty = Device::new(alloc)?;
+    let there = opened(alloc, empty.again(None)?)?;
+    Ok([
+        is_put(alloc, there.below(above)?)?,
+        is_put(alloc, empty.below(above)?)?,
+    ])
+}
+
+#[test]
+fn a_folder_above_that_cant_be_synced_is_passed_over(rt: HostRuntime) -> Result<(), Fail> {
+    for (above, is_good) in ABOVE {
+        assert_eq!(rt;
+            are_good(rt.alloc(), above),
+            Ok([is_good, false]),
+            "{above:?}"
+        );
     }
     Ok(())
 }

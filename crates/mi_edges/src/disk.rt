@@ -4,15 +4,14 @@ ghost use Rattle.std.specs.Prelude.{◌≤◌, IfOk, vec_len};
 
 use crate::found::{Found, Lockable, file_length, is_folder, look};
 use crate::levels::{Levels, do_levels};
-use crate::listing::{Folders, list};
-use crate::names::{LONGEST_NAME, LONGEST_PATH, PART_BYTES, push_path};
+use crate::listing::{Folders, Lengths, Listed, list};
+use crate::names::{LONGEST_NAME, LONGEST_PATH, PART_BYTES, push_digits};
 use crate::reading::read_at;
 use crate::trouble::Trouble;
 use crate::writing::{
     append_file, make_file, make_folder, mark_file, put_file, remove_path, renew_file, sync_path,
 };
 use std::alloc::Global;
-use std::collections::BTreeSet;
 use std::fs::{File, Files};
 
 /// A folder whose files are names of a volume. Once it is opened, it is locked against other processes for as long as
@@ -35,6 +34,17 @@ pub struct Disk<R: Files> {
 
 /// A file beside the names, which isn't one: it stands there while something that was written may not be synced.
 const UNSYNCED: &str = "unsynced";
+
+// What is done with a folder in which a long name stands.
+#[derive(Clone, Copy)]
+enum Parts<'a> {
+    // One look says whether it is there, and that it is a plain folder.
+    Looked,
+    // It is made where it isn't there.
+    Made,
+    // It is synced where it is there, but for one in which this name stands too.
+    Synced(Option<&'a [u8]>),
+}
 
 // Whether two names stand in one folder after so many bytes.
 fn is_shared(name: &[u8], last: Option<&[u8]>, bytes: usize) -> bool {
@@ -105,9 +115,9 @@ impl<R: Files + Alloc + Clone + Drop> Disk<R> {
 
     fn renew_names(&mut self, alloc: Global) -> Result<(), Trouble> {
         match self.list(alloc, Folders::Synced) {
-            Ok(names) => {
-                let renewed = self.renew_all(&names);
-                drop(names);
+            Ok(listed) => {
+                let renewed = self.renew_all(&listed.names);
+                drop(listed);
                 renewed
             }
             Err(trouble) => Err(trouble),
@@ -115,8 +125,8 @@ impl<R: Files + Alloc + Clone + Drop> Disk<R> {
     }
 
     // Writes the plain files of names anew.
-    fn renew_all(&mut self, names: &BTreeSet<String>) -> Result<(), Trouble> {
-        for name in names.iter() {
+    fn renew_all(&mut self, names: &Lengths) -> Result<(), Trouble> {
+        for name in names.keys() {
             if let Found::File(length) = self.look_at(name.as_bytes())? {
                 renew_file(&self.rt, self.path.as_str(), length)?;
             }
@@ -138,19 +148,6 @@ impl<R: Files + Alloc + Clone + Drop> Disk<R> {
         Ok(())
     }
 
-    fn set_name(&mut self, name: &[u8]) -> Result<(), Trouble> {
-        self.set_folder()?;
-        push_path(&mut self.path, name)?;
-        Ok(())
-    }
-
-    // The folder that holds the file of a name after so many bytes.
-    fn set_part(&mut self, name: &[u8], bytes: usize) -> Result<(), Trouble> {
-        self.set_name(name.get(..bytes).unwrap_or(name))?;
-        self.path.push('+')?;
-        Ok(())
-    }
-
     /// Takes down, where a later process finds it, that something may not be synced.
     pub fn note_unsynced(&mut self) -> Result<(), Trouble> {
         self.set_unsynced()?;
@@ -166,25 +163,49 @@ impl<R: Files + Alloc + Clone + Drop> Disk<R> {
         remove_path(&self.rt, self.path.as_str())
     }
 
-    // Whether the folders in which a name stands are there; each is a plain folder.
-    fn has_parts(&mut self, name: &[u8]) -> Result<bool, Trouble> {
-        for part in 1..11usize {
-            let bytes = part * PART_BYTES;
-            if bytes < name.len() {
-                self.set_part(name, bytes)?;
-                if !is_folder(&self.rt, self.path.as_str())? {
-                    return Ok(false);
+    // Does this with the folder at the path, in which a name stands after so many bytes; whether it is there then.
+    fn do_part(&self, name: &[u8], bytes: usize, what: Parts<'_>) -> Result<bool, Trouble> {
+        let path = self.path.as_str();
+        match what {
+            Parts::Synced(last) if is_shared(name, last, bytes) => Ok(true),
+            Parts::Looked => is_folder(&self.rt, path),
+            Parts::Made => {
+                if !is_folder(&self.rt, path)? {
+                    make_folder(&self.rt, path)?;
                 }
+                Ok(true)
+            }
+            Parts::Synced(_) => {
+                let is_there = is_folder(&self.rt, path)?;
+                if is_there {
+                    sync_path(&self.rt, path)?;
+                }
+                Ok(is_there)
             }
         }
-        Ok(true)
+    }
+
+    // Spells a name's path, at which this leaves the path, and does this with each folder in which the name stands, the
+    // highest first, up to one that isn't there; whether all are there then.
+    fn do_parts(&mut self, name: &[u8], what: Parts<'_>) -> Result<bool, Trouble> {
+        self.set_folder()?;
+        let mut are_there = true;
+        let mut bytes = 0usize;
+        for part in name.chunks(PART_BYTES) {
+            if bytes > 0 {
+                self.path.push('+')?;
+                are_there = are_there && self.do_part(name, bytes, what)?;
+                self.path.push('/')?;
+            }
+            push_digits(&mut self.path, part)?;
+            bytes = bytes.saturating_add(part.len());
+        }
+        Ok(are_there)
     }
 
     // Looks at a name's path, at which this leaves the path.
     fn look_anew(&mut self, name: &[u8]) -> Result<Found, Trouble> {
-        let has_parts = self.has_parts(name)?;
-        self.set_name(name)?;
-        if has_parts {
+        if self.do_parts(name, Parts::Looked)? {
             look(&self.rt, self.path.as_str())
         } else {
             Ok(Found::Nothing)
@@ -223,27 +244,13 @@ impl<R: Files + Alloc + Clone + Drop> Disk<R> {
         read_at(&self.rt, alloc, self.path.as_str(), length, at, want)
     }
 
-    fn make_parts(&mut self, name: &[u8]) -> Result<(), Trouble> {
-        for part in 1..11usize {
-            let bytes = part * PART_BYTES;
-            if bytes < name.len() {
-                self.set_part(name, bytes)?;
-                if !is_folder(&self.rt, self.path.as_str())? {
-                    make_folder(&self.rt, self.path.as_str())?;
-                }
-            }
-        }
-        Ok(())
-    }
-
     // The length of a name's file that is to be changed, at whose path this leaves the path. Where it isn't there, its
     // levels are made.
     fn begin(&mut self, name: &[u8]) -> Result<Option<u64>, Trouble> {
         let before = self.size(name)?;
         self.looked.clear();
         if before.is_none() {
-            self.make_parts(name)?;
-            self.set_name(name)?;
+            self.do_parts(name, Parts::Made)?;
         }
         Ok(before)
     }
@@ -289,15 +296,7 @@ impl<R: Files + Alloc + Clone + Drop> Disk<R> {
 
     /// Syncs the folders in which a long name stands, without those in which the last one stands too.
     pub fn sync_parts(&mut self, name: &[u8], last: Option<&[u8]>) -> Result<(), Trouble> {
-        for part in 1..11usize {
-            let bytes = part * PART_BYTES;
-            if bytes < name.len() && !is_shared(name, last, bytes) {
-                self.set_part(name, bytes)?;
-                if is_folder(&self.rt, self.path.as_str())? {
-                    sync_path(&self.rt, self.path.as_str())?;
-                }
-            }
-        }
+        self.do_parts(name, Parts::Synced(last))?;
         Ok(())
     }
 
@@ -311,8 +310,8 @@ impl<R: Files + Alloc + Clone + Drop> Disk<R> {
         do_levels(&self.rt, self.folder.as_str(), Levels::Sync)
     }
 
-    /// The names whose path in the folder is that of a file, whatever stands there.
-    pub fn list(&self, alloc: Global, folders: Folders) -> Result<BTreeSet<String>, Trouble> {
+    /// The names that the folder holds.
+    pub fn list(&self, alloc: Global, folders: Folders) -> Result<Listed, Trouble> {
         list(&self.rt, alloc, self.folder.as_str(), folders)
     }
 }

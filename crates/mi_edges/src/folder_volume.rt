@@ -7,7 +7,7 @@ ghost use Rattle.mi_edges.specs.Count.{Counts};
 
 use crate::disk::Disk;
 use crate::found::{Found, Lockable};
-use crate::listing::Folders;
+use crate::listing::{Folders, Lengths, Listed};
 use crate::trouble::Trouble;
 use mi_text::{Bytes, Name, NameError};
 use mi_volume::{Failed, PutFault, VolFault, Volume};
@@ -40,8 +40,8 @@ pub struct FolderVolume<R: Files> {
     // Whether the folder was opened, or why it can't be.
     opened: bool,
     refusal: Option<EdgeFault>,
-    // The names that are held, once they were listed.
-    held: Option<BTreeSet<String>>,
+    // The names that are held, once they were listed, with the lengths that a look has found since the last change of each.
+    held: Option<Listed>,
     // The names that were written since the last good sync.
     written: BTreeSet<String>,
     // The listed names that were taken away since then, with room for all that are held.
@@ -68,15 +68,11 @@ fn is_above(after: Option<&Name>, name: &Name) -> bool
 }
 
 // The least of these names above `after`.
-fn next_above(
-    alloc: Global,
-    names: &BTreeSet<String>,
-    after: Option<&Name>,
-) -> Result<Option<Name>, Trouble>
+fn next_above(alloc: Global, names: &Lengths, after: Option<&Name>) -> Result<Option<Name>, Trouble>
     ensures { IfOk result (λ name. IfSome name (IsAbove (option_copied after.entry))) }
 {
     let found = match after {
-        None => names.first(),
+        None => names.first_key_value(),
         Some(after) => {
             let from = String::from_str(alloc, after.as_str())?;
             names
@@ -84,7 +80,7 @@ fn next_above(
                 .next()
         }
     };
-    let Some(found) = found else {
+    let Some((found, _)) = found else {
         return Ok(None);
     };
     match Name::of(alloc, found.as_str()) {
@@ -102,6 +98,26 @@ fn insert_name(alloc: Global, names: &mut BTreeSet<String>, name: &Name) -> Resu
     let text = String::from_str(alloc, name.as_str())?;
     names.insert(text)?;
     Ok(())
+}
+
+// Adds a name whose length isn't known, or forgets its length.
+fn insert_held(alloc: Global, names: &mut Lengths, name: &Name) -> Result<(), Trouble> {
+    if let Some(length) = names.get_mut(name.as_str()) {
+        *length = None;
+        return Ok(());
+    }
+    let text = String::from_str(alloc, name.as_str())?;
+    names.insert(text, None)?;
+    Ok(())
+}
+
+// What the listing knows of a name's size, where it does.
+fn told_size(held: &Listed, name: &Name) -> Option<Option<u64>> {
+    match held.names.get(name.as_str()) {
+        Some(Some(length)) => Some(Some(*length)),
+        None if held.is_whole => Some(None),
+        Some(None) | None => None,
+    }
 }
 
 impl<R: Files + Alloc + Clone + Drop> FolderVolume<R>
@@ -233,7 +249,7 @@ where
             return Ok(());
         }
         let held = self.disk.list(alloc, Folders::Listed)?;
-        let room = self.removed.reserve(held.len());
+        let room = self.removed.reserve(held.names.len());
         self.held = Some(held);
         room?;
         Ok(())
@@ -244,7 +260,7 @@ where
     {
         match &self.held {
             None => Ok(None),
-            Some(held) => next_above(alloc, held, after),
+            Some(held) => next_above(alloc, &held.names, after),
         }
     }
 
@@ -252,9 +268,18 @@ where
     fn take_off(&mut self, name: &Name) -> Option<String>
         ensures { self.new.faults ≡ self.old.faults }
     {
-        match &mut self.held {
-            None => None,
-            Some(held) => held.take(name.as_str()),
+        let (text, _) = self.held.as_mut()?.names.remove_entry(name.as_str())?;
+        Some(text)
+    }
+
+    // Takes down the length of a listed name, or that it isn't known.
+    fn note_length(&mut self, name: &Name, length: Option<u64>)
+        ensures { self.new.faults ≡ self.old.faults }
+    {
+        if let Some(held) = &mut self.held {
+            if let Some(known) = held.names.get_mut(name.as_str()) {
+                *known = length;
+            }
         }
     }
 
@@ -262,10 +287,15 @@ where
     fn is_file(&mut self, name: &Name) -> Result<bool, Trouble>
         ensures { self.new.faults ≡ self.old.faults }
     {
-        if let Found::File(_) = self.disk.look_at(name.as_bytes())? {
+        let found = self.disk.look_at(name.as_bytes())?;
+        if let Found::File(length) = found {
+            self.note_length(name, Some(length));
             return Ok(true);
         }
         let _ = self.take_off(name);
+        if let Some(held) = &mut self.held {
+            held.is_whole = held.is_whole && found == Found::Nothing;
+        }
         Ok(false)
     }
 
@@ -287,11 +317,21 @@ where
         Ok(None)
     }
 
+    // The size of a name, where the listing knows it.
+    fn told(&self, name: &Name) -> Option<Option<u64>> {
+        told_size(self.held.as_ref()?, name)
+    }
+
     fn size_of(&mut self, name: &Name) -> Result<Option<u64>, Trouble>
         ensures { self.new.faults ≡ self.old.faults }
     {
         self.open()?;
-        self.disk.size(name.as_bytes())
+        if let Some(size) = self.told(name) {
+            return Ok(size);
+        }
+        let size = self.disk.size(name.as_bytes())?;
+        self.note_length(name, size);
+        Ok(size)
     }
 
     fn bytes_of(
@@ -327,8 +367,8 @@ where
     {
         insert_name(alloc, &mut self.written, name)?;
         if let Some(held) = &mut self.held {
-            self.removed.reserve(held.len().saturating_add(1))?;
-            insert_name(alloc, held, name)?;
+            self.removed.reserve(held.names.len().saturating_add(1))?;
+            insert_held(alloc, &mut held.names, name)?;
         }
         Ok(())
     }
@@ -394,6 +434,7 @@ where
         ensures { self.new.faults ≡ self.old.faults }
     {
         self.begin_change()?;
+        self.note_length(name, None);
         self.disk.mark(name.as_bytes(), byte)?;
         if self.written.contains(name.as_str()) {
             return Ok(());
@@ -411,6 +452,7 @@ where
             return Ok(());
         }
         self.begin_change()?;
+        self.note_length(name, None);
         self.disk.remove(name.as_bytes())?;
         if self.note_removed(name) {
             return Ok(());

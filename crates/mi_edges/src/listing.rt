@@ -6,7 +6,7 @@ use crate::trouble::Trouble;
 use crate::walk::{Visit, visit_all};
 use crate::writing::sync_path;
 use std::alloc::Global;
-use std::collections::BTreeSet;
+use std::collections::BTreeMap;
 use std::fs::Files;
 
 /// What is done with each folder that is listed.
@@ -18,6 +18,18 @@ pub enum Folders {
     Synced,
 }
 
+/// Names, each with the length of its file where a look has found it.
+pub type Lengths = BTreeMap<String, Option<u64>>;
+
+/// What a listing has found.
+#[derive(Drop)]
+pub struct Listed {
+    /// The names whose path is that of a file, whatever stands there, but for those below a level that is no plain folder.
+    pub names: Lengths,
+    /// Whether there was no such level: then nothing stands at the path of any other name.
+    pub is_whole: bool,
+}
+
 // A folder of a long name, with the bytes that its path spells.
 #[derive(Drop)]
 struct Part {
@@ -25,11 +37,11 @@ struct Part {
     bytes: Vec<u8>,
 }
 
-// The names that are listed, the folders that are still to be, and the bytes that the path of the present one spells.
+// What is listed, the folders that are still to be, and the bytes that the path of the present one spells.
 #[derive(Drop)]
 struct Lists {
     alloc: Global,
-    names: BTreeSet<String>,
+    listed: Listed,
     parts: Vec<Part>,
     front: Vec<u8>,
 }
@@ -62,7 +74,7 @@ impl Lists {
         if let Some(bytes) = spelled(self.alloc, self.front.as_slice(), digits)? {
             // A path whose bytes aren't UTF-8 is no name of the volume.
             if let Ok(name) = String::from_utf8(bytes) {
-                self.names.insert(name)?;
+                self.listed.names.insert(name, None)?;
             }
         }
         Ok(())
@@ -81,10 +93,12 @@ impl Visit for Lists {
     fn visit<F: Files>(&mut self, rt: &F, path: &str, name: &str) -> Result<(), Trouble> {
         match name.strip_suffix("+") {
             None => self.add_name(name),
-            Some(digits) if digits.len() == 2 * PART_BYTES && look(rt, path)? == Found::Folder => {
-                self.add_folder(path, digits)
+            Some(digits) if digits.len() != 2 * PART_BYTES => Ok(()),
+            Some(digits) if look(rt, path)? == Found::Folder => self.add_folder(path, digits),
+            Some(_) => {
+                self.listed.is_whole = false;
+                Ok(())
             }
-            Some(_) => Ok(()),
         }
     }
 }
@@ -121,33 +135,36 @@ fn list_all<R: Files + Alloc + Clone + Drop>(
     Ok(())
 }
 
-/// The names whose path in the folder is that of a file, whatever stands there, but for levels that aren't plain folders.
+/// The names that a folder holds.
 pub fn list<R: Files + Alloc + Clone + Drop>(
     rt: &R,
     alloc: Global,
     folder: &str,
     folders: Folders,
-) -> Result<BTreeSet<String>, Trouble> {
+) -> Result<Listed, Trouble> {
     let mut lists = Lists {
         alloc,
-        names: BTreeSet::new(alloc),
+        listed: Listed {
+            names: BTreeMap::new(alloc),
+            is_whole: true,
+        },
         parts: Vec::new(alloc),
         front: Vec::new(alloc),
     };
-    let listed = match push_part(alloc, &mut lists.parts, folder, Vec::new(alloc)) {
+    let done = match push_part(alloc, &mut lists.parts, folder, Vec::new(alloc)) {
         Ok(()) => list_all(rt, &mut lists, folders),
         Err(trouble) => Err(trouble),
     };
     let Lists {
         alloc: _,
-        names,
+        listed,
         parts,
         front,
     } = lists;
     drop(parts);
     drop(front);
-    match listed {
-        Ok(()) => Ok(names),
+    match done {
+        Ok(()) => Ok(listed),
         Err(trouble) => Err(trouble),
     }
 }

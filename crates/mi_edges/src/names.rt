@@ -22,12 +22,9 @@ fn digit_of(value: u8) -> char {
     }
 }
 
-/// Adds the path of a name.
-pub fn push_path(path: &mut String, name: &[u8]) -> Result<(), AllocError> {
-    for (i, byte) in name.iter().enumerate() {
-        if i > 0 && i % PART_BYTES == 0 {
-            path.push_str("+/")?;
-        }
+/// Adds the digits of bytes.
+pub fn push_digits(path: &mut String, bytes: &[u8]) -> Result<(), AllocError> {
+    for byte in bytes {
         path.push(digit_of(*byte >> 4))?;
         path.push(digit_of(*byte & 15))?;
     }

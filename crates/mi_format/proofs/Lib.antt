@@ -1,6 +1,8 @@
 mod TokenLemmas
 mod MarkLemmas
 mod KeptLemmas
+mod NameLemmas
+mod BoundLemmas
 mod OneScan
 pub mod Grammar
 mod PartLemmas

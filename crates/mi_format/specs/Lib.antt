@@ -7,5 +7,6 @@ pub mod Answers
 pub mod Scan
 pub mod State
 pub mod Bare
+pub mod Bounds
 pub mod Kept
 pub mod Marks

@@ -1,50 +1,64 @@
 //! Expanding formatted text in one scan.
 
 ghost use Rattle.std.specs.Prelude.{◌≡◌, ◌≤◌, ℕ, List, IfOk, OnOk, IsErrOf};
-ghost use Rattle.mi_format.specs.Kept.{kept};
+ghost use Rattle.mi_text.specs.Lookups.{Lookups};
+ghost use Rattle.mi_format.specs.Bounds.{AreShort};
+ghost use Rattle.mi_format.specs.Kept.{kept, in_limit, IsRoom};
 ghost use Rattle.mi_format.specs.Expansion.{IsExpansion, IsTooDeep, expand_of, expanded, expanded_within};
 ghost use Rattle.mi_format.specs.Answers.{Expands, ExpandsWithin};
 
+use crate::bounded::BoundedEnv;
 use crate::depth::is_too_deep;
 use crate::error::{FormatError, FormatFault, LimitError, LimitFault};
+use crate::part::{Held, Room};
 use crate::scan::Scan;
 use crate::tokens::next_token;
 use mi_text::{Env, NoMemory, Text};
 use std::alloc::Global;
 
 // The text, where it has no more bytes than the limit.
-fn within(limit: usize, text: Option<Text>) -> Option<Text>
-    ensures { (most : ℕ) (value : List ℕ) → limit ≤ most → text ≡ kept most value → result ≡ kept limit value }
+fn within(limit: usize, text: Held) -> Option<Text>
+    ensures { (most : ℕ) (value : List ℕ) → limit ≤ most → text ≡ kept most value → result ≡ in_limit limit value }
 {
     match text {
-        Some(text) if text.len() <= limit => Some(text),
-        Some(_) | None => None,
+        Held::Whole(text) if text.len() <= limit => Some(text),
+        Held::Whole(_) | Held::Longer(_) => None,
     }
 }
 
-// The value of a text by its whole groups, and None where it has more bytes than the limit. No text in the making is kept
-// past the limit and the bytes of the text together: in a brace it may still vanish, and a name of more bytes is want of
-// memory.
+// The value of a text by its whole groups, and None where it has more bytes than the limit. A text that is longer than is
+// kept may still vanish, in a brace or as a name that isn't held.
 fn value_within<E: Env>(
     alloc: Global,
     text: &str,
     env: &E,
     limit: usize,
+    room: Room,
 ) -> Result<Option<Text>, NoMemory>
-    ensures { IfOk result (λ v. v ≡ kept limit (expand_of (E.lookups env.now) text.now)) }
+    requires limit { limit ≤ room.most }
+    requires room { IsRoom (E.lookups env.now) room }
+    ensures { IfOk result (λ v. v ≡ in_limit limit (expand_of (E.lookups env.now) text.now)) }
 {
-    let most = limit.saturating_add(text.len());
     let mut scan = Scan::new(alloc);
     let mut rest = text;
     while let Some((token, behind)) = next_token(rest) {
         rest = behind;
-        scan = scan.step(alloc, most, env, token)?;
+        scan = scan.step(alloc, room, env, token)?;
         if scan.is_past(limit) {
             return Ok(None);
         }
     }
-    let value = scan.end(most)?;
+    let value = scan.end(room.most)?;
     Ok(within(limit, value))
+}
+
+// What is kept for a limit: texts as long as the limit and the formatted text together, and each name that is held.
+fn room_within(text: &str, limit: usize, bound: usize) -> Room
+    ensures limit { limit ≤ result.most }
+    ensures names { (L : Lookups) → AreShort L bound → IsRoom L result }
+{
+    let most = limit.saturating_add(text.len()).max(bound).max(1);
+    Room { most, names: true }
 }
 
 /// The expansion of a formatted text (Formatted).
@@ -67,8 +81,12 @@ pub fn expand<E: Env>(alloc: Global, text: &str, env: &E) -> Result<Text, Format
     if deep {
         return Err(FormatError::Fault(FormatFault::TooDeep));
     }
-    // No text in memory has more bytes than a usize counts.
-    let kept = value_within(alloc, text, env, usize::MAX)?;
+    // No text in memory has more bytes than a usize counts, so each is kept.
+    let room = Room {
+        most: usize::MAX,
+        names: false,
+    };
+    let kept = value_within(alloc, text, env, usize::MAX, room)?;
     match kept {
         Some(value) => Ok(value),
         None => Err(FormatError::NoMemory),
@@ -78,8 +96,9 @@ pub fn expand<E: Env>(alloc: Global, text: &str, env: &E) -> Result<Text, Format
 /// The expansion of a formatted text (Formatted) where it has at most `limit` bytes.
 ///
 /// Refused with `TooDeep` as by `expand`, else with `TooLong` exactly where the expansion has more bytes than the limit. It
-/// ends as soon as the text outside of all groups does.
-pub fn expand_within<E: Env>(
+/// ends as soon as the text outside of all groups does. Its memory is bounded by the text, the limit and the longest name
+/// that is held, however long the values are.
+pub fn expand_within<E: BoundedEnv>(
     alloc: Global,
     text: &str,
     env: &E,
@@ -91,7 +110,8 @@ pub fn expand_within<E: Env>(
     if deep {
         return Err(LimitError::Fault(LimitFault::TooDeep));
     }
-    let kept = value_within(alloc, text, env, limit)?;
+    let room = room_within(text, limit, env.name_bound());
+    let kept = value_within(alloc, text, env, limit, room)?;
     match kept {
         Some(value) => Ok(value),
         None => Err(LimitError::Fault(LimitFault::TooLong)),

@@ -2,12 +2,14 @@
 //! Formatted; how braces, nested marks, lone marks and unknown names count is this project's own).
 #![tactic(auto)]
 
+mod bounded;
 mod depth;
 mod error;
 mod escape;
 mod expansion;
 mod kept;
 mod laws;
+mod look;
 mod naming;
 mod part;
 mod scan;
@@ -15,6 +17,7 @@ mod steps;
 mod token;
 mod tokens;
 
+pub use bounded::BoundedEnv;
 pub use error::{FormatError, FormatFault, LimitError, LimitFault};
 pub use expansion::{expand, expand_within};
 pub use laws::expansion_is_by_whole_groups;

@@ -6,13 +6,13 @@ ghost use Rattle.mi_format.specs.declared.token.Token.TheVariants.{Open, Close};
 ghost use Rattle.mi_format.specs.Tokens.{open_of, close_of};
 ghost use Rattle.mi_format.specs.Scan.{State, start, step, closed};
 ghost use Rattle.mi_format.specs.State.{Part, parts, plain};
-ghost use Rattle.mi_format.specs.Kept.{kept, kept_state, kept_beside, is_past};
+ghost use Rattle.mi_format.specs.Kept.{kept, kept_state, kept_beside, is_past, IsRoom};
 ghost use Rattle.mi_format.specs.Marks.{frames_of, state_of};
 
-use crate::part::Kept;
+use crate::part::{Held, Kept, Room};
 use crate::scan::{OpenMark, Scan};
 use crate::token::{Kind, Token};
-use mi_text::{Env, NoMemory, Text};
+use mi_text::{Env, NoMemory};
 use std::alloc::Global;
 
 const fn open_char(kind: Kind) -> char
@@ -68,19 +68,19 @@ impl Scan {
         Ok(Scan { marks, current })
     }
 
-    fn close<E: Env>(self, most: usize, env: &E, kind: Kind) -> Result<Scan, NoMemory>
-        ensures { (full : State Part) → state_of self ≡ kept_state most full
-            → IfOk result (λ s. state_of s ≡ kept_state most (step (parts (E.lookups env.now)) full (Close kind))) }
+    fn close<E: Env>(self, room: Room, env: &E, kind: Kind) -> Result<Scan, NoMemory>
+        ensures { (full : State Part) → IsRoom (E.lookups env.now) room → state_of self ≡ kept_state room.most full
+            → IfOk result (λ s. state_of s ≡ kept_state room.most (step (parts (E.lookups env.now)) full (Close kind))) }
     {
         let Scan { mut marks, current } = self;
         let Some(mark) = marks.pop() else {
-            return Scan { marks, current }.text(most, close_char(kind));
+            return Scan { marks, current }.text(room.most, close_char(kind));
         };
         if mark.kind != kind {
             marks.push(mark)?;
-            return Scan { marks, current }.text(most, close_char(kind));
+            return Scan { marks, current }.text(room.most, close_char(kind));
         }
-        let current = mark.before.with_group(most, env, kind, &current)?;
+        let current = mark.before.with_group(room, env, kind, &current)?;
         Ok(Scan { marks, current })
     }
 
@@ -88,18 +88,18 @@ impl Scan {
     pub fn step<E: Env>(
         self,
         alloc: Global,
-        most: usize,
+        room: Room,
         env: &E,
         token: Token,
     ) -> Result<Scan, NoMemory>
-        ensures { (full : State Part) → state_of self ≡ kept_state most full
-            → IfOk result (λ s. state_of s ≡ kept_state most (step (parts (E.lookups env.now)) full token)) }
+        ensures { (full : State Part) → IsRoom (E.lookups env.now) room → state_of self ≡ kept_state room.most full
+            → IfOk result (λ s. state_of s ≡ kept_state room.most (step (parts (E.lookups env.now)) full token)) }
     {
         match token {
-            Token::Char(ch) => self.text(most, ch),
-            Token::Escape(ch) => self.text(most, ch),
+            Token::Char(ch) => self.text(room.most, ch),
+            Token::Escape(ch) => self.text(room.most, ch),
             Token::Open(kind) => self.open(alloc, kind),
-            Token::Close(kind) => self.close(most, env, kind),
+            Token::Close(kind) => self.close(room, env, kind),
         }
     }
 
@@ -111,13 +111,13 @@ impl Scan {
             return false;
         }
         match &self.current.text {
-            Some(text) => text.len() > limit,
-            None => true,
+            Held::Whole(text) => text.len() > limit,
+            Held::Longer(_) => true,
         }
     }
 
     /// The text at the end, where open marks are text.
-    pub fn end(self, most: usize) -> Result<Option<Text>, NoMemory>
+    pub fn end(self, most: usize) -> Result<Held, NoMemory>
         ensures { (L : Lookups) (full : State Part) → state_of self ≡ kept_state most full
             → IfOk result (λ t. t ≡ kept most (closed (parts L) full.frames full.current).text) }
     {

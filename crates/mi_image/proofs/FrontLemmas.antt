@@ -43,7 +43,7 @@ digits_up a b c d x y z w r s lb lc ld ly lz lw up =
 below_ten : (n : ℕ) → n % 10 < 10
 below_ten n = omega arith
 
-lengths_up : (root n m : ℕ) (r s : List ℕ) → n < 10000 → m < 10000 → is_le (name_cmp (value_front root n r) (value_front root m s)) ≡ true → n ≤ m
+pub lengths_up : (root n m : ℕ) (r s : List ℕ) → n < 10000 → m < 10000 → is_le (name_cmp (value_front root n r) (value_front root m s)) ≡ true → n ≤ m
 lengths_up root n m r s small_n small_m up =
     let behind : is_le (name_cmp (four_digits n ++ r) (four_digits m ++ s)) ≡ true =
     ap (λ (o : Ordering). is_le (ordering_then o (name_cmp (four_digits n ++ r) (four_digits m ++ s)))) (sym (tied_itself nat_cmp_total (digit root))) ∙ up in

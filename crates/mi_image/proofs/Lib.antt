@@ -1,5 +1,7 @@
+pub mod EffectLemmas
 pub mod FrontLemmas
 pub mod ItemLemmas
+pub mod LengthLemmas
 pub mod ListLemmas
 pub mod LookLemmas
 pub mod LookupLemmas

@@ -16,31 +16,30 @@ use Rattle.std.proofs.lemmas.List.{length-append, map-append}
 use Rattle.std.proofs.lemmas.Slice.Eq.{bytes_eq-Decides}
 use Rattle.mi_text.specs.Fold.{folded}
 use Rattle.mi_text.specs.Guid.{guid_text}
-use Rattle.mi_text.specs.Path.{is_folder_path}
 use Rattle.mi_text.specs.Maps.{Name, Map, name_cmp}
 use Rattle.mi_text.proofs.ByteLemmas.{both}
-use Rattle.mi_text.proofs.MapLemmas.{same_itself, entries-map_values}
+use Rattle.mi_text.proofs.MapLemmas.{same_itself, entries-map_values, keys-map_values}
 use Rattle.mi_base.specs.declared.entry.Client.{Client}
 use Rattle.mi_base.specs.declared.entry.RegValue.{RegValue}
 use Rattle.mi_base.specs.declared.entry.ValueKey.{ValueKey}
 use Rattle.mi_base.specs.declared.entry.Entry.{Entry}
 use Rattle.mi_base.specs.declared.entry.Entry.TheVariants as entry
 use Rattle.mi_base.specs.Limits.{fits, is_key}
-use Rattle.mi_base.specs.Names.{file_name, value_name, client_name, product_name}
-use Rattle.mi_base.specs.Machine.{Machine, as_client, as_product}
+use Rattle.mi_base.specs.Names.{value_name, client_name, product_name}
+use Rattle.mi_base.specs.Machine.{as_client, as_product}
 use Rattle.mi_image.specs.declared.item.Item.{Item}
 use Rattle.mi_image.specs.declared.item.Item.TheVariants.{Head, Whole}
-use Rattle.mi_image.specs.Items.{Items, pair_of, items_of, entry_over, machine_over, MayStand, AreRight}
-use Rattle.mi_image.specs.Lists.{picked, products_of, clients_of, clients_with, with_component, file_below, files_under, value_below, values_under}
+use Rattle.mi_image.specs.Items.{Items, Boxed, unboxed, items_of, entry_over, machine_over, MayStand, AreRight}
+use Rattle.mi_image.specs.Lists.{picked, products_of, clients_of, clients_with, with_component, is_in_keys, value_below, values_under}
 use Rattle.mi_image.specs.Fronts.{value_front, begins_within}
-use Rattle.mi_image.specs.Picks.{product_in, client_in, client_with, file_in, value_in}
-use Rattle.mi_image.proofs.ItemLemmas.{entries-items}
+use Rattle.mi_image.specs.Picks.{product_in, client_in, client_with, value_in}
+use Rattle.mi_image.proofs.ItemLemmas.{pair_of, entries-items}
 use Rattle.mi_image.proofs.LookupLemmas.{by_item}
 use Rattle.mi_image.proofs.PrefixLemmas.{starts_append, starts_is}
 use Rattle.mi_image.proofs.FrontLemmas.{one_length, begins_at_key, begins_below_key}
 use Rattle.mi_image.proofs.ScanLemmas.{head_first, apart}
 
-true_of : (b : Bool) → T b → b ≡ true
+pub true_of : (b : Bool) → T b → b ≡ true
 true_of true t = refl
 true_of false t = absurd t
 
@@ -164,51 +163,6 @@ clients_with_are held files items component front is right = list_is held files 
     by_client q i None none may = inl (ap (with_component component) none)
     by_client q i (Some c) some may = ⊎_elim (λ none. inl (ap (with_component component) some ∙ none)) (λ here. inr here) (by_component q c (client_at q i may c some) (eqb c.component.number component) refl)
 
--- ---- files
-
-file_is : (path : List ℕ) → file_name path ≡ codes "f/" ++ folded path
-unfolding file_name
-file_is path = refl
-
-pub files_are : (held files : Map (List ℕ)) (items : Items) (folder front : List ℕ) → is_folder_path folder ≡ true → front ≡ codes "f/" ++ folded folder → AreRight items
-    → filter_map file_in (map (λ e. e.1) (filter (λ e. starts_with nat_eq e.0 front) (entries items))) ≡ files_under (machine_over held files items) folder
-unfolding files_under
-files_are held files items folder front is_folder is right = list_is held files items (λ e. starts_with nat_eq e.0 front) file_in (file_below folder) right picks
-  where
-    picks : (q : Name) (i : Item) → MayStand q i → cond (starts_with nat_eq q front) (file_in i) None ≡ file_below folder (entry_over held files i)
-    picks q (Head h content) may =
-        ap (λ b. cond b (Some h.shown) None) (ap (λ (n : Name). starts_with nat_eq n front) (sym may.named ∙ file_is h.shown) ∙ ap (starts_with nat_eq (codes "f/" ++ folded h.shown)) is)
-        ∙ ap (λ b. cond (b && starts_with nat_eq (folded h.shown) (folded folder)) (Some h.shown) None) (sym is_folder)
-    picks q (Whole (entry.File f)) may = let clash : false ≡ true = may.split in absurd cc
-    picks q (Whole (entry.Folder t)) may = no_other (starts_with nat_eq q front)
-    picks q (Whole (entry.Value k v)) may = no_other (starts_with nat_eq q front)
-    picks q (Whole (entry.Key r t)) may = no_other (starts_with nat_eq q front)
-    picks q (Whole (entry.Shortcut s)) may = no_other (starts_with nat_eq q front)
-    picks q (Whole (entry.Variable v)) may = no_other (starts_with nat_eq q front)
-    picks q (Whole (entry.Client c)) may = no_other (starts_with nat_eq q front)
-    picks q (Whole (entry.Product p)) may = no_other (starts_with nat_eq q front)
-    picks q (Whole (entry.System p t)) may = no_other (starts_with nat_eq q front)
-
--- below what isn't a folder there is none
-pub no_files : (m : Machine) (folder : List ℕ) → is_folder_path folder ≡ false → [] ≡ files_under m folder
-unfolding files_under
-no_files m folder no_folder = by_entries (entries m)
-  where
-    below : (e : Entry) → file_below folder e ≡ None
-    below (entry.File f) = ap (λ b. cond (b && starts_with nat_eq (folded f.shown) (folded folder)) (Some f.shown) None) no_folder
-    below (entry.Folder t) = refl
-    below (entry.Value k v) = refl
-    below (entry.Key r t) = refl
-    below (entry.Shortcut s) = refl
-    below (entry.Variable v) = refl
-    below (entry.Client c) = refl
-    below (entry.Product p) = refl
-    below (entry.System p t) = refl
-
-    by_entries : (es : List (Name × Entry)) → [] ≡ filter_map (λ e. file_below folder e.1) es
-    by_entries [] = refl
-    by_entries (e ∷ es) = by_entries es ∙ ap (λ o. cons_option o (filter_map (λ e. file_below folder e.1) es)) (sym (below e.1))
-
 -- ---- values
 
 value_root : (k : ValueKey) (v : RegValue) → fits (entry.Value k v) ≡ true → k.root < 4
@@ -219,17 +173,17 @@ value_folded : (k : ValueKey) (v : RegValue) → fits (entry.Value k v) ≡ true
 unfolding fits
 value_folded k v fit = (bytes_eq-Decides (folded k.key) k.key).0 (both _ _ (both _ _ (both _ _ fit).0).0).1
 
-value_short : (k : ValueKey) (v : RegValue) → fits (entry.Value k v) ≡ true → length k.key ≤ 500
+pub value_short : (k : ValueKey) (v : RegValue) → fits (entry.Value k v) ≡ true → length k.key ≤ 500
 unfolding fits is_key
 value_short k v fit = leb-true (length k.key) 500 (both _ _ (both _ _ (both _ _ (both _ _ (both _ _ (both _ _ fit).0).0).0).1).0).0
 
 -- how the name of a value begins, and how it goes on
-value_begins : (k : ValueKey) (v : RegValue) (q : Name) → MayStand q (Whole (entry.Value k v)) → q ≡ value_front k.root (length k.key) (k.key ++ folded k.shown)
+pub value_begins : (k : ValueKey) (v : RegValue) (q : Name) → MayStand q (Whole (entry.Value k v)) → q ≡ value_front k.root (length k.key) (k.key ++ folded k.shown)
 unfolding value_name
 value_begins k v q may = sym may.named ∙ ap (λ (key : List ℕ). value_front k.root (length key) (key ++ folded k.shown)) (value_folded k v may.right)
 
 -- the value of a key, or of a key below it, stands at a name that begins so
-value_there : (k : ValueKey) (v : RegValue) (q : Name) (key front : List ℕ) → MayStand q (Whole (entry.Value k v)) → front ≡ key ++ 92 ∷ [] → (bytes_eq k.key key || starts_with nat_eq k.key front) ≡ true → begins_within k.root key front (500 - length key) q ≡ true
+value_there : (k : ValueKey) (v : RegValue) (q : Name) (key front : List ℕ) → MayStand q (Whole (entry.Value k v)) → front ≡ key ++ 92 ∷ [] → is_in_keys key front k.key ≡ true → begins_within k.root key front (500 - length key) q ≡ true
 value_there k v q key front may front_is inside = elim (bytes_eq k.key key) as (λ b. bytes_eq k.key key ≡ b → (b || starts_with nat_eq k.key front) ≡ true → begins_within k.root key front (500 - length key) q ≡ true) [
   | true ↦ λ b h. begins_at_key k.root key front (folded k.shown) (500 - length key) q (value_begins k v q may ∙ ap (λ (own : List ℕ). value_front k.root (length own) (own ++ folded k.shown)) ((bytes_eq-Decides k.key key).0 b))
   | false ↦ λ b h. longer (starts_is k.key front h)
@@ -252,15 +206,15 @@ values_are held files items root key fold_key front key_is front_is right = list
     same : (i : Item) → value_in root fold_key front i ≡ value_in root (folded key) (folded key ++ 92 ∷ []) i
     same i = ap (λ (k : List ℕ). value_in root k front i) key_is ∙ ap (λ (f : List ℕ). value_in root (folded key) f i) (front_is ∙ ap (λ (k : List ℕ). k ++ 92 ∷ []) key_is)
 
-    by_key : (q : Name) (k : ValueKey) (v : RegValue) → MayStand q (Whole (entry.Value k v)) → min root 9 ≡ k.root → (b : Bool) → (bytes_eq k.key fold_key || starts_with nat_eq k.key front) ≡ b → (cond b (Some k) None ≡ None) ⊎ (begins q ≡ true)
+    by_key : (q : Name) (k : ValueKey) (v : RegValue) → MayStand q (Whole (entry.Value k v)) → min root 9 ≡ k.root → (b : Bool) → is_in_keys fold_key front k.key ≡ b → (cond b (Some k) None ≡ None) ⊎ (begins q ≡ true)
     by_key q k v may low true inside = inr (subst (λ (n : ℕ). begins_within n fold_key front (500 - length fold_key) q ≡ true) (sym low) (value_there k v q fold_key front may front_is inside))
     by_key q k v may low false outside = inl refl
 
-    by_root : (q : Name) (k : ValueKey) (v : RegValue) → MayStand q (Whole (entry.Value k v)) → (b : Bool) → eqb k.root root ≡ b → (cond (b && (bytes_eq k.key fold_key || starts_with nat_eq k.key front)) (Some k) None ≡ None) ⊎ (begins q ≡ true)
+    by_root : (q : Name) (k : ValueKey) (v : RegValue) → MayStand q (Whole (entry.Value k v)) → (b : Bool) → eqb k.root root ≡ b → (cond (b && is_in_keys fold_key front k.key) (Some k) None ≡ None) ⊎ (begins q ≡ true)
     by_root q k v may true is =
         let number : k.root ≡ root = eqb-true k.root root is in
         let low : min root 9 ≡ k.root = omega (arith, number, value_root k v may.right) in
-        by_key q k v may low (bytes_eq k.key fold_key || starts_with nat_eq k.key front) refl
+        by_key q k v may low (is_in_keys fold_key front k.key) refl
     by_root q k v may false other = inl refl
 
     picks : (q : Name) (i : Item) → MayStand q i → cond (begins q) (value_in root fold_key front i) None ≡ value_below root key (entry_over held files i)
@@ -279,22 +233,38 @@ values_are held files items root key fold_key front key_is front_is right = list
 
 -- ---- what is found of a tree
 
-paired : (front : List ℕ) (es : List (Vec ℕ Global × Item)) → map (λ e. e.1) (filter (λ e. starts_with nat_eq e.0.items front) es) ≡ map (λ e. e.1) (filter (λ e. starts_with nat_eq e.0 front) (map pair_of es))
+paired : (front : List ℕ) (es : List (Vec ℕ Global × Boxed)) → map (λ e. unboxed e.1) (filter (λ e. starts_with nat_eq e.0.items front) es) ≡ map (λ e. e.1) (filter (λ e. starts_with nat_eq e.0 front) (map pair_of es))
 paired front [] = refl
-paired front (e ∷ es) = elim (starts_with nat_eq e.0.items front) as (λ b. map (λ e. e.1) (cond b (e ∷ filter (λ e. starts_with nat_eq e.0.items front) es) (filter (λ e. starts_with nat_eq e.0.items front) es)) ≡ map (λ e. e.1) (cond b (pair_of e ∷ filter (λ e. starts_with nat_eq e.0 front) (map pair_of es)) (filter (λ e. starts_with nat_eq e.0 front) (map pair_of es)))) [
-  | true ↦ ap (λ (is : List Item). e.1 ∷ is) (paired front es)
+paired front (e ∷ es) = elim (starts_with nat_eq e.0.items front) as (λ b. map (λ e. unboxed e.1) (cond b (e ∷ filter (λ e. starts_with nat_eq e.0.items front) es) (filter (λ e. starts_with nat_eq e.0.items front) es)) ≡ map (λ e. e.1) (cond b (pair_of e ∷ filter (λ e. starts_with nat_eq e.0 front) (map pair_of es)) (filter (λ e. starts_with nat_eq e.0 front) (map pair_of es)))) [
+  | true ↦ ap (λ (is : List Item). unboxed e.1 ∷ is) (paired front es)
   | false ↦ paired front es
 ]
 
-ok_both : {X E : Type 0} → (r : Result X E) (P Q R : X → Type 0) → ((x : X) → P x → Q x → R x) → IfOk r P → IfOk r Q → IfOk r R
+pub ok_both : {X E : Type 0} → (r : Result X E) (P Q R : X → Type 0) → ((x : X) → P x → Q x → R x) → IfOk r P → IfOk r Q → IfOk r R
 ok_both (Ok x) P Q R h p q = h x p q
 ok_both (Err e) P Q R h p q = tt
 
-pub found_in : {E : Type 0} → (r : Result (Vec (Bor Item) Global) E) (m : BTreeMap (Vec ℕ Global) Item) (image : Items) (front : List ℕ) → items_of m.entries ≡ image
-    → IfOk r (λ found. map (λ i. i.now) found.items ≡ map (λ e. e.1) (filter (λ e. starts_with nat_eq e.0.items front) m.entries)) → IfOk r (λ _. tree.IsOrdered (λ a b. slice_cmp nat_cmp a.items b.items) m)
+pub found_in : {E : Type 0} → (r : Result (Vec (Bor Item) Global) E) (m : BTreeMap (Vec ℕ Global) Boxed) (image : Items) (front : List ℕ) → items_of m.entries ≡ image
+    → IfOk r (λ found. map (λ i. i.now) found.items ≡ map (λ e. unboxed e.1) (filter (λ e. starts_with nat_eq e.0.items front) m.entries)) → IfOk r (λ _. tree.IsOrdered (λ a b. slice_cmp nat_cmp a.items b.items) m)
     → IfOk r (λ found. map (λ i. i.now) found.items ≡ map (λ e. e.1) (filter (λ e. starts_with nat_eq e.0 front) (entries image)))
 found_in r m image front is found ordered = ok_both r _ _ _ (λ v at sorted. at ∙ paired front m.entries
     ∙ ap (λ es. map (λ (e : Name × Item). e.1) (filter (λ e. starts_with nat_eq e.0 front) es)) (sym (entries-items m sorted) ∙ ap entries is)) found ordered
+
+named : (front : List ℕ) (es : List (Vec ℕ Global × Boxed)) → map (λ e. e.0.items) (filter (λ e. starts_with nat_eq e.0.items front) es) ≡ filter (λ q. starts_with nat_eq q front) (map (λ e. e.0) (map pair_of es))
+named front [] = refl
+named front (e ∷ es) = elim (starts_with nat_eq e.0.items front) as (λ b. map (λ e. e.0.items) (cond b (e ∷ filter (λ e. starts_with nat_eq e.0.items front) es) (filter (λ e. starts_with nat_eq e.0.items front) es)) ≡ cond b (e.0.items ∷ filter (λ q. starts_with nat_eq q front) (map (λ e. e.0) (map pair_of es))) (filter (λ q. starts_with nat_eq q front) (map (λ e. e.0) (map pair_of es)))) [
+  | true ↦ ap (λ (qs : List Name). e.0.items ∷ qs) (named front es)
+  | false ↦ named front es
+]
+
+-- the names that are found in a tree are those of the machine
+pub names_in : {E : Type 0} → (held files : Map (List ℕ)) (r : Result (Vec (Bor (List ℕ)) Global) E) (m : BTreeMap (Vec ℕ Global) Boxed) (image : Items) (front : List ℕ) → items_of m.entries ≡ image
+    → IfOk r (λ found. map (λ n. n.now) found.items ≡ map (λ e. e.0.items) (filter (λ e. starts_with nat_eq e.0.items front) m.entries)) → IfOk r (λ _. tree.IsOrdered (λ a b. slice_cmp nat_cmp a.items b.items) m)
+    → IfOk r (λ found. map (λ n. n.now) found.items ≡ filter (λ q. starts_with nat_eq q front) (fin.keys (machine_over held files image)))
+unfolding machine_over
+names_in held files r m image front is found ordered = ok_both r _ _ _ (λ v at sorted. at ∙ named front m.entries
+    ∙ ap (λ (es : List (Name × Item)). filter (λ q. starts_with nat_eq q front) (map (λ e. e.0) es)) (sym (entries-items m sorted) ∙ ap entries is)
+    ∙ sym (ap (filter (λ q. starts_with nat_eq q front)) (keys-map_values (entry_over held files) image))) found ordered
 
 -- ---- what is found length by length
 

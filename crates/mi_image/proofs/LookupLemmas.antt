@@ -112,11 +112,11 @@ no_value root key name large = no_root _ (inr refl) (omega arith)
 
 pub file_over : (held files : Map (List ℕ)) (items : Items) (q : Name) (h : FileHead) (content : Content) → get items q ≡ Some (Head h content) → AreThere held files items → Some h ≡ option_map head_of (as_file (get (machine_over held files items) q))
 file_over held files items q h content at there =
-    let long : length (content_bytes held files content) ≡ h.length = there q (Head h content) at in
+    let long : length (content_bytes held files (file_name h.shown) content) ≡ h.length = there q (Head h content) at in
     ap (λ k. Some (record h { length = k })) (sym long) ∙ sym (ap (λ o. option_map head_of (as_file o)) (get_over held files items q ∙ ap (option_map (entry_over held files)) at))
 
-pub content_over : (held files : Map (List ℕ)) (items : Items) (q : Name) (h : FileHead) (content : Content) → get items q ≡ Some (Head h content) → Some (content_bytes held files content) ≡ option_map (λ (f : FileEntry). f.bytes) (as_file (get (machine_over held files items) q))
-content_over held files items q h content at = sym (ap (λ o. option_map (λ (f : FileEntry). f.bytes) (as_file o)) (get_over held files items q ∙ ap (option_map (entry_over held files)) at))
+pub content_over : (held files : Map (List ℕ)) (items : Items) (q : Name) (h : FileHead) (content : Content) → AreRight items → get items q ≡ Some (Head h content) → Some (content_bytes held files q content) ≡ option_map (λ (f : FileEntry). f.bytes) (as_file (get (machine_over held files items) q))
+content_over held files items q h content right at = ap (λ (n : Name). Some (content_bytes held files n content)) (sym (right q (Head h content) at).named) ∙ sym (ap (λ o. option_map (λ (f : FileEntry). f.bytes) (as_file o)) (get_over held files items q ∙ ap (option_map (entry_over held files)) at))
 
 pub nothing_over : (held files : Map (List ℕ)) (items : Items) (q : Name) → get items q ≡ None → as_file (get (machine_over held files items) q) ≡ None
 nothing_over held files items q at = ap as_file (get_over held files items q ∙ ap (option_map (entry_over held files)) at)

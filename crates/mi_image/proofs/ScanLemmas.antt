@@ -12,13 +12,15 @@ use Rattle.mi_text.proofs.MapLemmas.{names_total, from_same, same_itself, same, 
 use Rattle.mi_text.proofs.NextLemmas.{next-first, next-none, none_read, one_read, all_read, next-held}
 use Rattle.mi_base.specs.declared.entry.Entry.{Entry}
 use Rattle.mi_base.specs.declared.entry.Entry.TheVariants as entry
-use Rattle.mi_base.specs.Spelling.{head_of}
+use Rattle.mi_base.specs.declared.entry.FileEntry.{FileEntry}
+use Rattle.mi_base.specs.Names.{file_name}
+use Rattle.mi_base.specs.Spelling.{name_of, head_of}
 use Rattle.mi_base.specs.SpelledMaps.{is_area, spelled_at, is_bad, or_name, spelled_map}
 use Rattle.mi_base.specs.Records.{with_bytes}
 use Rattle.mi_base.specs.Machine.{Machine, read_entry, machine_of}
 use Rattle.mi_base.proofs.SpelledLemmas.{none_bad}
-use Rattle.mi_base.proofs.MachineLemmas.{entry_same}
-use Rattle.mi_image.specs.declared.item.Content.TheVariants.{Held}
+use Rattle.mi_base.proofs.MachineLemmas.{entry_same, machine_is}
+use Rattle.mi_image.specs.declared.item.Content.TheVariants.{Own}
 use Rattle.mi_image.specs.declared.item.Item.{Item}
 use Rattle.mi_image.specs.declared.item.Item.TheVariants.{Head, Whole}
 use Rattle.mi_image.specs.Items.{Items, bytes_of_file, bytes_or_none, entry_over, machine_over, HasLength, ImageOf}
@@ -78,23 +80,23 @@ first_of p m k x at fails passes = first_found p (entries m) k x (true_of _ (ent
 -- ---- what the map says
 
 unheld : (d : Map (List ℕ)) (q : Name) → get d q ≡ None → item_at d q ≡ None
-unheld d q at = ap (λ (o : Option (List ℕ)). option_map (scanned_item q) (cond (is_area q) None (option_and_then (read_entry q) o))) at ∙ either (is_area q)
+unheld d q at = ap (λ (o : Option (List ℕ)). option_map scanned_item (cond (is_area q) None (option_and_then (read_entry q) o))) at ∙ either (is_area q)
   where
-    either : (b : Bool) → option_map (scanned_item q) (cond b None None) ≡ None
+    either : (b : Bool) → option_map scanned_item (cond b None None) ≡ None
     either true = refl
     either false = refl
 
 held_item : (d : Map (List ℕ)) (q : Name) (bytes : List ℕ) → get d q ≡ Some bytes → is_area q ≡ false → item_at d q ≡ item_read q bytes
-held_item d q bytes at free = ap (λ (o : Option (List ℕ)). option_map (scanned_item q) (cond (is_area q) None (option_and_then (read_entry q) o))) at ∙ ap (λ b. option_map (scanned_item q) (cond b None (read_entry q bytes))) free
+held_item d q bytes at free = ap (λ (o : Option (List ℕ)). option_map scanned_item (cond (is_area q) None (option_and_then (read_entry q) o))) at ∙ ap (λ b. option_map scanned_item (cond b None (read_entry q bytes))) free
 
 area_item : (d : Map (List ℕ)) (q : Name) → is_area q ≡ true → item_at d q ≡ None
-area_item d q area = ap (λ b. option_map (scanned_item q) (cond b None (option_and_then (read_entry q) (get d q)))) area
+area_item d q area = ap (λ b. option_map scanned_item (cond b None (option_and_then (read_entry q) (get d q)))) area
 
-no_item : (q : Name) (o : Option Entry) → option_map (scanned_item q) o ≡ None → is_none o ≡ true
+no_item : (q : Name) (o : Option Entry) → option_map scanned_item o ≡ None → is_none o ≡ true
 no_item q None is = refl
 no_item q (Some e) is = absurd cc
 
-one_item : (q : Name) (o : Option Entry) (i : Item) → option_map (scanned_item q) o ≡ Some i → is_none o ≡ false
+one_item : (q : Name) (o : Option Entry) (i : Item) → option_map scanned_item o ≡ Some i → is_none o ≡ false
 one_item q None i is = absurd cc
 one_item q (Some e) i is = refl
 
@@ -184,31 +186,38 @@ all_good d after image next so_far =
     ap (λ o. or_name read_entry o (tabulated (spelled_at read_entry d) (keys d)))
     (none_bad (is_bad read_entry) d (λ q b at. so_far.good q b at (next-none d after q b next at)))
 
-over : (d files : Map (List ℕ)) (q : Name) (o : Option Entry) → spelled_at read_entry d q ≡ o → option_map (entry_over d files) (option_map (scanned_item q) o) ≡ o
-over d files q None at = refl
-over d files q (Some (entry.File f)) at = ap (λ (o : Option Entry). Some (entry.File (with_bytes (head_of f) (bytes_of_file o)))) at
-over d files q (Some (entry.Folder t)) at = refl
-over d files q (Some (entry.Value k v)) at = refl
-over d files q (Some (entry.Key r t)) at = refl
-over d files q (Some (entry.Shortcut s)) at = refl
-over d files q (Some (entry.Variable v)) at = refl
-over d files q (Some (entry.Client c)) at = refl
-over d files q (Some (entry.Product p)) at = refl
-over d files q (Some (entry.System p t)) at = refl
+-- what a name spells stands at its own name
+abbrev OwnName : Map (List ℕ) → Name → Type 0
+OwnName d q = (e : Entry) → spelled_at read_entry d q ≡ Some e → name_of e ≡ q
 
-has_length : (d files : Map (List ℕ)) (q : Name) (o : Option Entry) (i : Item) → spelled_at read_entry d q ≡ o → option_map (scanned_item q) o ≡ Some i → HasLength d files i
-has_length d files q None i at is = absurd cc
-has_length d files q (Some (entry.File f)) i at is =
-    let item : Head (head_of f) (Held q) ≡ i = cc in
-    subst (HasLength d files) item (ap (λ (o : Option Entry). length (bytes_of_file o)) at)
-has_length d files q (Some (entry.Folder t)) i at is = let item : Whole (entry.Folder t) ≡ i = cc in subst (HasLength d files) item tt
-has_length d files q (Some (entry.Value k v)) i at is = let item : Whole (entry.Value k v) ≡ i = cc in subst (HasLength d files) item tt
-has_length d files q (Some (entry.Key r t)) i at is = let item : Whole (entry.Key r t) ≡ i = cc in subst (HasLength d files) item tt
-has_length d files q (Some (entry.Shortcut s)) i at is = let item : Whole (entry.Shortcut s) ≡ i = cc in subst (HasLength d files) item tt
-has_length d files q (Some (entry.Variable v)) i at is = let item : Whole (entry.Variable v) ≡ i = cc in subst (HasLength d files) item tt
-has_length d files q (Some (entry.Client c)) i at is = let item : Whole (entry.Client c) ≡ i = cc in subst (HasLength d files) item tt
-has_length d files q (Some (entry.Product p)) i at is = let item : Whole (entry.Product p) ≡ i = cc in subst (HasLength d files) item tt
-has_length d files q (Some (entry.System p t)) i at is = let item : Whole (entry.System p t) ≡ i = cc in subst (HasLength d files) item tt
+own_bytes : (d : Map (List ℕ)) (q : Name) (f : FileEntry) → OwnName d q → spelled_at read_entry d q ≡ Some (entry.File f) → bytes_of_file (spelled_at read_entry d (file_name f.shown)) ≡ f.bytes
+own_bytes d q f own at = ap (λ (n : Name). bytes_of_file (spelled_at read_entry d n)) (own (entry.File f) at) ∙ ap bytes_of_file at
+
+over : (d files : Map (List ℕ)) (q : Name) (o : Option Entry) → OwnName d q → spelled_at read_entry d q ≡ o → option_map (entry_over d files) (option_map scanned_item o) ≡ o
+over d files q None own at = refl
+over d files q (Some (entry.File f)) own at = ap (λ (bytes : List ℕ). Some (entry.File (with_bytes (head_of f) bytes))) (own_bytes d q f own at)
+over d files q (Some (entry.Folder t)) own at = refl
+over d files q (Some (entry.Value k v)) own at = refl
+over d files q (Some (entry.Key r t)) own at = refl
+over d files q (Some (entry.Shortcut s)) own at = refl
+over d files q (Some (entry.Variable v)) own at = refl
+over d files q (Some (entry.Client c)) own at = refl
+over d files q (Some (entry.Product p)) own at = refl
+over d files q (Some (entry.System p t)) own at = refl
+
+has_length : (d files : Map (List ℕ)) (q : Name) (o : Option Entry) (i : Item) → OwnName d q → spelled_at read_entry d q ≡ o → option_map scanned_item o ≡ Some i → HasLength d files i
+has_length d files q None i own at is = absurd cc
+has_length d files q (Some (entry.File f)) i own at is =
+    let item : Head (head_of f) Own ≡ i = cc in
+    subst (HasLength d files) item (ap length (own_bytes d q f own at))
+has_length d files q (Some (entry.Folder t)) i own at is = let item : Whole (entry.Folder t) ≡ i = cc in subst (HasLength d files) item tt
+has_length d files q (Some (entry.Value k v)) i own at is = let item : Whole (entry.Value k v) ≡ i = cc in subst (HasLength d files) item tt
+has_length d files q (Some (entry.Key r t)) i own at is = let item : Whole (entry.Key r t) ≡ i = cc in subst (HasLength d files) item tt
+has_length d files q (Some (entry.Shortcut s)) i own at is = let item : Whole (entry.Shortcut s) ≡ i = cc in subst (HasLength d files) item tt
+has_length d files q (Some (entry.Variable v)) i own at is = let item : Whole (entry.Variable v) ≡ i = cc in subst (HasLength d files) item tt
+has_length d files q (Some (entry.Client c)) i own at is = let item : Whole (entry.Client c) ≡ i = cc in subst (HasLength d files) item tt
+has_length d files q (Some (entry.Product p)) i own at is = let item : Whole (entry.Product p) ≡ i = cc in subst (HasLength d files) item tt
+has_length d files q (Some (entry.System p t)) i own at is = let item : Whole (entry.System p t) ≡ i = cc in subst (HasLength d files) item tt
 
 image_is : (d files : Map (List ℕ)) (m : Machine) (image : Items) → machine_of d ≡ Ok m → ((q : Name) → get image q ≡ item_at d q) → ImageOf d files image m
 unfolding machine_over
@@ -216,10 +225,13 @@ image_is d files m image is at = record {
   stands = same _ _ (λ q.
       get-map_values (entry_over d files) image q
       ∙ ap (option_map (entry_over d files)) (at q)
-      ∙ over d files q (spelled_at read_entry d q) refl
+      ∙ over d files q (spelled_at read_entry d q) (own q) refl
       ∙ sym (entry_same d m is q));
-  there = λ q i here. has_length d files q (spelled_at read_entry d q) i refl (sym (at q) ∙ here);
+  there = λ q i here. has_length d files q (spelled_at read_entry d q) i (own q) refl (sym (at q) ∙ here);
 }
+  where
+    own : (q : Name) → OwnName d q
+    own q e at = (machine_is d m is q e (entry_same d m is q ∙ at)).0
 
 -- where no name comes next, the image stands for the machine
 pub image_read : (d files : Map (List ℕ)) (after : Option Name) (image : Items) → next_name d after ≡ None → ReadUpTo d after image → IsOkAnd (machine_of d) (ImageOf d files image)

@@ -20,8 +20,8 @@ use Rattle.mi_base.specs.Machine.{system_at}
 use Rattle.mi_base.specs.System.{is_system_property, has_system, default_system, value_named, system_read}
 use Rattle.mi_image.specs.declared.item.Item.{Item}
 use Rattle.mi_image.specs.declared.item.Item.TheVariants.{Head, Whole}
-use Rattle.mi_image.specs.Items.{Items, pair_of, items_of, item_name, entry_over, machine_over, MayStand, AreRight}
-use Rattle.mi_image.proofs.ItemLemmas.{Key, key_cmp, entries-items}
+use Rattle.mi_image.specs.Items.{Items, Boxed, unboxed, items_of, item_name, entry_over, machine_over, MayStand, AreRight}
+use Rattle.mi_image.proofs.ItemLemmas.{Key, key_cmp, pair_of, entries-items}
 use Rattle.mi_image.proofs.ListLemmas.{each_right}
 use Rattle.mi_image.proofs.LookupLemmas.{letter, first_letter}
 use Rattle.mi_image.proofs.PrefixLemmas.{starts_is}
@@ -96,22 +96,22 @@ any_last (k ∷ ks) l sorted kind =
       | false ↦ λ b. any_last ks l (sorted_tail key_cmp k (ks ++ l ∷ []) sorted) kind
     ] refl
 
-abbrev keys_of : List (Key × Item) → List Key
+abbrev keys_of : List (Key × Boxed) → List Key
 keys_of es = map (λ e. e.0) es
 
-any_names : (es : List (Key × Item)) → list_any is_system_property (map (λ e. e.0) (map pair_of es)) ≡ list_any holds_system (keys_of es)
+any_names : (es : List (Key × Boxed)) → list_any is_system_property (map (λ e. e.0) (map pair_of es)) ≡ list_any holds_system (keys_of es)
 any_names [] = refl
 any_names (e ∷ es) = ap (λ b. holds_system e.0 || b) (any_names es)
 
-each_kind : (es : List (Key × Item)) → AllByRecursion (λ (e : Name × Item). MayStand e.0 e.1) (map pair_of es) → AllByRecursion (λ k. HasKind k.items) (keys_of es)
+each_kind : (es : List (Key × Boxed)) → AllByRecursion (λ (e : Name × Item). MayStand e.0 e.1) (map pair_of es) → AllByRecursion (λ k. HasKind k.items) (keys_of es)
 each_kind [] all = tt
-each_kind (e ∷ es) all = (has_kind e.0.items e.1 all.0, each_kind es all.1)
+each_kind (e ∷ es) all = (has_kind e.0.items (unboxed e.1) all.0, each_kind es all.1)
 
-any_held : (m : BTreeMap Key Item) (image : Items) → items_of m.entries ≡ image → tree.IsOrdered key_cmp m → list_any is_system_property (keys image) ≡ list_any holds_system (keys_of m.entries)
+any_held : (m : BTreeMap Key Boxed) (image : Items) → items_of m.entries ≡ image → tree.IsOrdered key_cmp m → list_any is_system_property (keys image) ≡ list_any holds_system (keys_of m.entries)
 any_held m image is ordered = ap (λ (items : Items). list_any is_system_property (keys items)) (sym is) ∙ ap (λ (es : List (Name × Item)). list_any is_system_property (map (λ e. e.0) es)) (entries-items m ordered) ∙ any_names m.entries
 
 -- a property of the system is held where the last name is of one
-pub held_at_last : (m : BTreeMap Key Item) (image : Items) (front : List Key) (l : Key) → items_of m.entries ≡ image → AreRight image → tree.IsOrdered key_cmp m → keys_of m.entries ≡ front ++ l ∷ [] → is_system_property l.items ≡ list_any is_system_property (keys image)
+pub held_at_last : (m : BTreeMap Key Boxed) (image : Items) (front : List Key) (l : Key) → items_of m.entries ≡ image → AreRight image → tree.IsOrdered key_cmp m → keys_of m.entries ≡ front ++ l ∷ [] → is_system_property l.items ≡ list_any is_system_property (keys image)
 held_at_last m image front l is right ordered at =
     let kinds : AllByRecursion (λ (k : Key). HasKind k.items) (keys_of m.entries) =
     each_kind m.entries (subst (λ (es : List (Name × Item)). AllByRecursion (λ e. MayStand e.0 e.1) es) (ap entries (sym is) ∙ entries-items m ordered) (each_right image right)) in
@@ -119,7 +119,7 @@ held_at_last m image front l is right ordered at =
     sym (any_held m image is ordered ∙ ap (list_any holds_system) at ∙ any_last front l (subst (IsStrictlySortedBy key_cmp) at ordered) kind)
 
 -- none is where there is no name
-pub none_held : (m : BTreeMap Key Item) (image : Items) → items_of m.entries ≡ image → tree.IsOrdered key_cmp m → keys_of m.entries ≡ [] → false ≡ list_any is_system_property (keys image)
+pub none_held : (m : BTreeMap Key Boxed) (image : Items) → items_of m.entries ≡ image → tree.IsOrdered key_cmp m → keys_of m.entries ≡ [] → false ≡ list_any is_system_property (keys image)
 none_held m image is ordered none = sym (any_held m image is ordered ∙ ap (list_any holds_system) none)
 
 -- ---- what is read

@@ -23,7 +23,7 @@ leading p [] = []
 leading p (x ∷ xs) = cond (p x) (x ∷ leading p xs) []
 
 -- a text doesn't stand above what begins with it
-front_first : (p r : List ℕ) → is_le (name_cmp p (p ++ r)) ≡ true
+pub front_first : (p r : List ℕ) → is_le (name_cmp p (p ++ r)) ≡ true
 front_first [] [] = refl
 front_first [] (y ∷ r) = refl
 front_first (x ∷ p) r = ap (λ o. is_le (ordering_then o (name_cmp p (p ++ r)))) (tied_itself nat_cmp_total x) ∙ front_first p r
@@ -35,7 +35,7 @@ same_head x y p a same is = ap (λ b. b && bytes_eq p a) (itself x y same) ∙ i
     itself x y e = eq-eqb x y e
 
 -- what stands between a text and a longer one begins with it
-between : (p a r : List ℕ) → is_le (name_cmp p a) ≡ true → name_cmp a (p ++ r) ≡ Less → starts_with nat_eq a p ≡ true
+pub between : (p a r : List ℕ) → is_le (name_cmp p a) ≡ true → name_cmp a (p ++ r) ≡ Less → starts_with nat_eq a p ≡ true
 between [] a r low high = refl
 between (x ∷ p) [] r low high = absurd cc
 between (x ∷ p) (y ∷ a) r low high = by_order (λ same high. same_head x y p (take (length p) a) (nat_cmp-IsAntisymmetric x y same) (between p a r (ap (λ o. is_le (ordering_then o (name_cmp p a))) (sym same) ∙ low) high)) (nat_cmp x y) refl low high
@@ -100,22 +100,25 @@ module _ {K X : Type 0} (name : K → List ℕ) (p : List ℕ) where
     ] refl
   ] refl
 
-  -- nothing is found at first
-  pub found_first : (found : List (Bor X)) (iter es : List (K × X)) (from : List ℕ) → found ≡ [] → iter ≡ filter (λ e. is_le (name_cmp from (name e.0)) && not false) es → from ≡ p → IsStrictlySortedBy (by_name name) (keys es)
-      → map (λ i. i.now) found ++ map (λ e. e.1) (leading begins iter) ≡ map (λ e. e.1) (filter begins es)
-  found_first found iter es from none is same sorted =
-      let here : iter ≡ filter is_from es = is ∙ ap (λ (f : List ℕ). filter (λ (e : K × X). is_le (name_cmp f (name e.0)) && not false) es) same in
-      ap (λ (f : List (Bor X)). map (λ i. i.now) f ++ map (λ (e : K × X). e.1) (leading begins iter)) none
-      ∙ ap (λ (es : List (K × X)). map (λ (e : K × X). e.1) (leading begins es)) here
-      ∙ ap (map (λ (e : K × X). e.1)) (sought es sorted)
+  -- what is told of each entry that is found
+  module _ {Y : Type 0} (told : K × X → Y) where
+    -- nothing is found at first
+    pub found_first : (found : List (Bor Y)) (iter es : List (K × X)) (from : List ℕ) → found ≡ [] → iter ≡ filter (λ e. is_le (name_cmp from (name e.0)) && not false) es → from ≡ p → IsStrictlySortedBy (by_name name) (keys es)
+        → map (λ i. i.now) found ++ map told (leading begins iter) ≡ map told (filter begins es)
+    found_first found iter es from none is same sorted =
+        let here : iter ≡ filter is_from es = is ∙ ap (λ (f : List ℕ). filter (λ (e : K × X). is_le (name_cmp f (name e.0)) && not false) es) same in
+        ap (λ (f : List (Bor Y)). map (λ i. i.now) f ++ map told (leading begins iter)) none
+        ∙ ap (λ (es : List (K × X)). map told (leading begins es)) here
+        ∙ ap (map told) (sought es sorted)
 
-  -- one more is found
-  pub found_more : (found new : List (Bor X)) (iter rest : List (K × X)) (all : List X) (k : K) (i : Bor X) → iter ≡ (k, i.now) ∷ rest → starts_with nat_eq (name k) p ≡ true → new ≡ found ++ i ∷ []
-      → map (λ i. i.now) found ++ map (λ e. e.1) (leading begins iter) ≡ all → map (λ i. i.now) new ++ map (λ e. e.1) (leading begins rest) ≡ all
-  found_more found new iter rest all k i is front more so_far =
-      let step : leading begins iter ≡ (k, i.now) ∷ leading begins rest = ap (leading begins) is ∙ ap (λ (b : Bool). cond b ((k, i.now) ∷ leading begins rest) []) front in
-      ap (λ (f : List (Bor X)). map (λ i. i.now) f ++ map (λ (e : K × X). e.1) (leading begins rest)) more
-      ∙ ap (λ (f : List X). f ++ map (λ (e : K × X). e.1) (leading begins rest)) (map-append (λ (b : Bor X). b.now) found (i ∷ []))
-      ∙ append_assoc (map (λ (b : Bor X). b.now) found) (i.now ∷ []) (map (λ (e : K × X). e.1) (leading begins rest))
-      ∙ sym (ap (λ (es : List (K × X)). map (λ (b : Bor X). b.now) found ++ map (λ (e : K × X). e.1) es) step)
-      ∙ so_far
+    -- one more is found
+    pub found_more : (found new : List (Bor Y)) (iter rest : List (K × X)) (all : List Y) (k : K) (x : X) (y : Bor Y) → iter ≡ (k, x) ∷ rest → y.now ≡ told (k, x) → starts_with nat_eq (name k) p ≡ true → new ≡ found ++ y ∷ []
+        → map (λ i. i.now) found ++ map told (leading begins iter) ≡ all → map (λ i. i.now) new ++ map told (leading begins rest) ≡ all
+    found_more found new iter rest all k x y is tells front more so_far =
+        let step : leading begins iter ≡ (k, x) ∷ leading begins rest = ap (leading begins) is ∙ ap (λ (b : Bool). cond b ((k, x) ∷ leading begins rest) []) front in
+        ap (λ (f : List (Bor Y)). map (λ i. i.now) f ++ map told (leading begins rest)) more
+        ∙ ap (λ (f : List Y). f ++ map told (leading begins rest)) (map-append (λ (b : Bor Y). b.now) found (y ∷ []))
+        ∙ append_assoc (map (λ (b : Bor Y). b.now) found) (y.now ∷ []) (map told (leading begins rest))
+        ∙ ap (λ (v : Y). map (λ (b : Bor Y). b.now) found ++ v ∷ map told (leading begins rest)) tells
+        ∙ sym (ap (λ (es : List (K × X)). map (λ (b : Bor Y). b.now) found ++ map told es) step)
+        ∙ so_far

@@ -1,4 +1,5 @@
 pub mod Faults
+pub mod Firsts
 pub mod Fronts
 pub mod Items
 pub mod Lists

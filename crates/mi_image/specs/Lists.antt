@@ -1,16 +1,18 @@
 -- The lists of a machine, in byte order of the volume's names.
-use Rattle.std.specs.Prelude.{ℕ, ◌==◌, ◌&&◌, ◌||◌, Bool, if◌then◌else◌, List, [], ◌∷◌, ◌++◌, nat_eq, Option, Some, None}
+use Rattle.std.specs.Prelude.{ℕ, ◌==◌, ◌&&◌, ◌||◌, Bool, if◌then◌else◌, List, [], ◌∷◌, ◌++◌, nat_eq, Option, Some, None, option_map}
 use Rattle.std.specs.List.{starts_with, filter_map}
 use Rattle.std.specs.Str.{bytes_eq}
 use Rattle.std.specs.FinMap.{entries}
 use Rattle.mi_text.specs.Fold.{folded}
 use Rattle.mi_text.specs.Path.{is_folder_path}
+use Rattle.mi_base.specs.declared.entry.FileEntry.{FileEntry}
+use Rattle.mi_base.specs.declared.entry.Shortcut.{Shortcut}
 use Rattle.mi_base.specs.declared.entry.Client.{Client}
 use Rattle.mi_base.specs.declared.entry.Product.{Product}
 use Rattle.mi_base.specs.declared.entry.ValueKey.{ValueKey}
 use Rattle.mi_base.specs.declared.entry.Entry.{Entry}
 use Rattle.mi_base.specs.declared.entry.Entry.TheVariants as entry
-use Rattle.mi_base.specs.Machine.{Machine, as_client, as_product}
+use Rattle.mi_base.specs.Machine.{Machine, as_file, as_folder, as_shortcut, as_client, as_product}
 
 -- what is picked of the entries, in order
 abbrev pub picked : {Y : Type 0} → (Entry → Option Y) → Machine → List Y
@@ -36,17 +38,36 @@ clients_with m component = picked (λ e. with_component component (as_client (So
 abbrev pub is_below : List ℕ → List ℕ → Bool
 is_below folder path = is_folder_path folder && starts_with nat_eq (folded path) (folded folder)
 
-abbrev pub file_below : List ℕ → Entry → Option (List ℕ)
-file_below folder (entry.File f) = if is_below folder f.shown then Some f.shown else None
-file_below folder other = None
+-- the path, where it is in this folder or below it
+abbrev pub path_below : List ℕ → Option (List ℕ) → Option (List ℕ)
+path_below folder None = None
+path_below folder (Some path) = if is_below folder path then Some path else None
+
+abbrev pub shown_file : Option Entry → Option (List ℕ)
+shown_file e = option_map (λ (f : FileEntry). f.shown) (as_file e)
+
+abbrev pub shown_shortcut : Option Entry → Option (List ℕ)
+shown_shortcut e = option_map (λ (s : Shortcut). s.shown) (as_shortcut e)
 
 -- the shown paths of the files below a folder (File table)
 unfoldable pub files_under : Machine → List ℕ → List (List ℕ)
-files_under m folder = picked (file_below folder) m
+files_under m folder = picked (λ e. path_below folder (shown_file (Some e))) m
+
+-- the shown paths of the recorded folders below a folder, and of the folder itself (CreateFolder table)
+unfoldable pub folders_under : Machine → List ℕ → List (List ℕ)
+folders_under m folder = picked (λ e. path_below folder (as_folder (Some e))) m
+
+-- the shown paths of the shortcuts below a folder (Shortcut table)
+unfoldable pub shortcuts_under : Machine → List ℕ → List (List ℕ)
+shortcuts_under m folder = picked (λ e. path_below folder (shown_shortcut (Some e))) m
+
+-- the folded key is this one, or begins so
+abbrev pub is_in_keys : List ℕ → List ℕ → List ℕ → Bool
+is_in_keys key front own = bytes_eq own key || starts_with nat_eq own front
 
 -- the value stands in this key, or in a key that begins so; keys are folded
 abbrev pub value_in_keys : ℕ → List ℕ → List ℕ → Entry → Option ValueKey
-value_in_keys root key front (entry.Value k v) = if (k.root == root) && (bytes_eq k.key key || starts_with nat_eq k.key front) then Some k else None
+value_in_keys root key front (entry.Value k v) = if (k.root == root) && is_in_keys key front k.key then Some k else None
 value_in_keys root key front other = None
 
 -- in this key, or in a key below it, in whichever case
@@ -57,18 +78,11 @@ value_below root key e = value_in_keys root (folded key) (folded key ++ 92 ∷ [
 unfoldable pub values_under : Machine → ℕ → List ℕ → List ValueKey
 values_under m root key = picked (value_below root key) m
 
-abbrev pub folder_below : List ℕ → Entry → Option (List ℕ)
-folder_below folder (entry.Folder shown) = if is_below folder shown then Some shown else None
-folder_below folder other = None
+-- this key, or a key below it, in whichever case
+abbrev pub key_below : ℕ → List ℕ → Entry → Option (List ℕ)
+key_below root key (entry.Key own shown) = if (own == root) && is_in_keys (folded key) (folded key ++ 92 ∷ []) (folded shown) then Some shown else None
+key_below root key other = None
 
--- the shown paths of the recorded folders below a folder, and of the folder itself (CreateFolder table)
-unfoldable pub folders_under : Machine → List ℕ → List (List ℕ)
-folders_under m folder = picked (folder_below folder) m
-
-abbrev pub shortcut_below : List ℕ → Entry → Option (List ℕ)
-shortcut_below folder (entry.Shortcut s) = if is_below folder s.shown then Some s.shown else None
-shortcut_below folder other = None
-
--- the shown paths of the shortcuts below a folder (Shortcut table)
-unfoldable pub shortcuts_under : Machine → List ℕ → List (List ℕ)
-shortcuts_under m folder = picked (shortcut_below folder) m
+-- the keys below a key, and the key itself, as they are shown (Registry table)
+unfoldable pub keys_under : Machine → ℕ → List ℕ → List (List ℕ)
+keys_under m root key = picked (key_below root key) m

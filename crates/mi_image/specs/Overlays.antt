@@ -4,7 +4,8 @@ use Rattle.std.specs.declared.alloc.Global.{Global}
 use Rattle.std.specs.FinMap.{get, keys, from_entries}
 use Rattle.mi_text.specs.Maps.{Map, tabulated}
 use Rattle.mi_image.specs.declared.item.Item.{Item}
-use Rattle.mi_image.specs.Items.{Items}
+use Rattle.mi_base.specs.Machine.{Machine}
+use Rattle.mi_image.specs.Items.{Items, machine_over}
 
 -- what stood at the names that were changed, or that nothing did
 abbrev pub Stood : Type 0
@@ -27,3 +28,10 @@ former_items o = o.0
 
 abbrev pub present_items : Overlaid → Items
 present_items o = o.1
+
+-- the machines that they stand for, over the map that was scanned and the source's files
+abbrev pub former_machine : Map (List ℕ) → Map (List ℕ) → Overlaid → Machine
+former_machine held files o = machine_over held files (former_items o)
+
+abbrev pub present_machine : Map (List ℕ) → Map (List ℕ) → Overlaid → Machine
+present_machine held files o = machine_over held files (present_items o)

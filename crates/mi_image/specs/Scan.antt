@@ -8,25 +8,25 @@ use Rattle.mi_base.specs.declared.entry.Entry.TheVariants as entry
 use Rattle.mi_base.specs.Spelling.{head_of}
 use Rattle.mi_base.specs.SpelledMaps.{spelled_at, is_bad}
 use Rattle.mi_base.specs.Machine.{read_entry}
-use Rattle.mi_image.specs.declared.item.Content.TheVariants.{Held}
+use Rattle.mi_image.specs.declared.item.Content.TheVariants.{Own}
 use Rattle.mi_image.specs.declared.item.Item.{Item}
 use Rattle.mi_image.specs.declared.item.Item.TheVariants.{Head, Whole}
 use Rattle.mi_image.specs.declared.fault.ImageError.{ImageError}
 use Rattle.mi_image.specs.declared.fault.ImageError.TheVariants.{NoMemory, Fault, BadImage}
 use Rattle.mi_image.specs.Items.{Items}
 
--- the item of an entry that is held under this name
-abbrev pub scanned_item : Name → Entry → Item
-scanned_item name (entry.File f) = Head (head_of f) (Held name)
-scanned_item name e = Whole e
+-- the item of an entry that is held under its own name
+abbrev pub scanned_item : Entry → Item
+scanned_item (entry.File f) = Head (head_of f) Own
+scanned_item e = Whole e
 
 -- the item that a name and its record spell
 abbrev pub item_read : Name → List ℕ → Option Item
-item_read name bytes = option_map (scanned_item name) (read_entry name bytes)
+item_read name bytes = option_map scanned_item (read_entry name bytes)
 
 -- the item that is held under a name
 abbrev pub item_at : Map (List ℕ) → Name → Option Item
-item_at held name = option_map (scanned_item name) (spelled_at read_entry held name)
+item_at held name = option_map scanned_item (spelled_at read_entry held name)
 
 -- an answer is the item that the name and this record spell, or says that they spell none
 abbrev pub Tells : Name → List ℕ → Result Item ImageError → Type 0

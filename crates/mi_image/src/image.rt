@@ -1,26 +1,32 @@
 //! The image of a machine.
 
-ghost use Rattle.std.specs.Prelude.{◌≡◌, List, ℕ, IfOk, OnOk, OnErr, map, filter, nat_eq};
-ghost use Rattle.std.specs.Option.{option_copied};
+ghost use Rattle.std.specs.Prelude.{◌≡◌, List, ℕ, Some, false, IfSome, IfNone, IfOk, OnOk, OnErr, map, filter, nat_eq};
+ghost use Rattle.std.specs.Option.{option_copied, option_map};
 ghost use Rattle.std.specs.List.{list_any, starts_with};
 ghost use Rattle.std.specs.FinMap as tree;
+ghost use Rattle.std.specs.Ordering.{is_le};
+ghost use Rattle.mi_text.specs.Maps.{Map, name_cmp};
 ghost use Rattle.mi_base.specs.System.{is_system_property};
-ghost use Rattle.mi_image.specs.Items.{MayStand, AreRight};
+ghost use Rattle.mi_image.specs.Items.{unboxed, machine_over, MayStand, AreRight};
+ghost use Rattle.mi_image.specs.declared.item.Item as item_value;
+ghost use Rattle.mi_image.specs.Firsts.{IsFirstOf};
 ghost use Rattle.mi_image.specs.Lookups.{IsComposed};
 
 use crate::buffer::NameBuffer;
 use crate::item::Item;
-use crate::under::items_under;
+use crate::under::{items_under, names_under};
 use mi_base::{Name, NoMemory};
 use std::alloc::Global;
 use std::collections::BTreeMap;
 use std::marker::Model;
+use std::ops::Bound;
 
 /// What a machine is, without the bytes of its files: of each file its head and where its bytes are, and
-/// every other entry whole (this project's own). It is kept by the names of the volume, in byte order.
+/// every other entry whole (this project's own). It is kept by the names of the volume, in byte order; items are boxed,
+/// since nodes of the tree have room for more than they hold.
 #[derive(Drop)]
 pub struct Image {
-    items: BTreeMap<Vec<u8>, Item>,
+    items: BTreeMap<Vec<u8>, Box<Item>>,
 }
 
 impl Model for Image {
@@ -36,6 +42,26 @@ impl Model for Image {
     ghost view = { λ a. items_of a.items.entries };
 
     ghost invariant = { λ a. AreRight (items_of a.items.entries) };
+}
+
+// The item in its box.
+fn lent(item: Option<&Box<Item>>) -> Option<&Item>
+    ensures { option_copied result ≡ option_map unboxed (option_copied item.entry) }
+{
+    match item {
+        Some(item) => Some(item.as_ref()),
+        None => None,
+    }
+}
+
+// The item out of its box.
+fn taken_out(was: Option<Box<Item>>) -> Option<Item>
+    ensures { result ≡ option_map unboxed was }
+{
+    match was {
+        Some(item) => Some(Box::into_inner(item)),
+        None => None,
+    }
 }
 
 impl Image {
@@ -54,7 +80,7 @@ impl Image {
         ensures right { AreRight self.now }
     {
         let items = &self.items;
-        items.get(name?.as_slice())
+        lent(items.get(name?.as_slice()))
     }
 
     /// Whether a property of the system is held, which takes no memory: their names are the last.
@@ -75,6 +101,26 @@ impl Image {
         items_under(alloc, &self.items, front)
     }
 
+    /// The names that begin with some bytes, in byte order, lent (this project's own). One search and what is listed.
+    pub fn names(&self, alloc: Global, front: &[u8]) -> Result<Vec<&[u8]>, NoMemory>
+        ensures { (held files : Map (List ℕ)) → IfOk result (λ names. map (λ n. n.now) names.items ≡ filter (λ q. starts_with nat_eq q front.now) (tree.keys (machine_over held files self.now))) }
+    {
+        names_under(alloc, &self.items, front)
+    }
+
+    /// What stands at the first name that isn't below these bytes. No memory.
+    pub(crate) fn first_from(&self, from: &Vec<u8>) -> Option<(&Vec<u8>, &Item)>
+        ensures none { IfNone result ((q : List ℕ) (i : item_value.Item) → tree.get self.now q ≡ Some i → is_le (name_cmp from.now.items q) ≡ false) }
+        ensures first { IfSome result (λ e. IsFirstOf self.now from.now.items e.0.now.items e.1.now) }
+        ensures right { AreRight self.now }
+    {
+        let items = &self.items;
+        let (name, item) = items
+            .range((Bound::Included(from), Bound::Unbounded))
+            .next()?;
+        Some((name, item.as_ref()))
+    }
+
     /// Sets what stands at a name.
     pub(crate) fn put(&mut self, alloc: Global, name: &Name, item: Item) -> Result<(), NoMemory>
         requires { MayStand name.now item }
@@ -82,7 +128,7 @@ impl Image {
         ensures err { OnErr result (self.new ≡ self.old) }
     {
         match Vec::from_slice(alloc, name.as_bytes()) {
-            Ok(key) => self.put_at(key, item),
+            Ok(key) => self.put_at(alloc, key, item),
             Err(_) => {
                 drop(item);
                 Err(NoMemory)
@@ -90,25 +136,38 @@ impl Image {
         }
     }
 
-    fn put_at(&mut self, key: Vec<u8>, item: Item) -> Result<(), NoMemory>
+    fn put_at(&mut self, alloc: Global, key: Vec<u8>, item: Item) -> Result<(), NoMemory>
         requires { MayStand key.items item }
         ensures ok { OnOk result (self.new ≡ tree.insert self.old key.items item) }
         ensures err { OnErr result (self.new ≡ self.old) }
     {
-        let former = self.exchange(key, item)?;
+        let former = self.exchange(alloc, key, item)?;
         drop(former);
         Ok(())
     }
 
     /// Sets what stands at a name, and hands out what stood there.
-    pub(crate) fn exchange(&mut self, key: Vec<u8>, item: Item) -> Result<Option<Item>, NoMemory>
+    pub(crate) fn exchange(
+        &mut self,
+        alloc: Global,
+        key: Vec<u8>,
+        item: Item,
+    ) -> Result<Option<Item>, NoMemory>
         requires { MayStand key.items item }
         ensures value { IfOk result (λ was. was ≡ tree.get self.old key.items) }
         ensures ok { OnOk result (self.new ≡ tree.insert self.old key.items item) }
         ensures err { OnErr result (self.new ≡ self.old) }
     {
-        let was = self.items.insert(key, item)?;
-        Ok(was)
+        match Box::new(alloc, item) {
+            Ok(item) => {
+                let was = self.items.insert(key, item)?;
+                Ok(taken_out(was))
+            }
+            Err(_) => {
+                drop(key);
+                Err(NoMemory)
+            }
+        }
     }
 
     /// Takes away what stands at a name, and hands it out. No memory.
@@ -116,7 +175,8 @@ impl Image {
         ensures value { result ≡ tree.get self.old name.now }
         ensures gone { self.new ≡ tree.remove self.old name.now }
     {
-        self.items.remove(name)
+        let was = self.items.remove(name);
+        taken_out(was)
     }
 
     /// What stands at a name of the volume (this project's own). No memory.
@@ -124,6 +184,6 @@ impl Image {
         ensures value { option_copied result ≡ tree.get self.now name.now }
         ensures right { AreRight self.now }
     {
-        self.items.get(name)
+        lent(self.items.get(name))
     }
 }

@@ -5,13 +5,15 @@ ghost use Rattle.std.specs.Option.{option_copied};
 
 use mi_base::{Entry, FileHead, Name, Text};
 
-/// Where the bytes of an image's file are (this project's own).
+/// Where the bytes of an image's file are, of which there are as many as its head states (this project's own).
 #[derive(Drop)]
 pub enum Content {
+    /// Behind the head, in the record that the scanned volume holds under the file's own name.
+    Own,
     /// Behind the head, in the record that the scanned volume holds under this name.
     Held(Name),
-    /// In the source's file of this path, with so many bytes.
-    Copied(Text, u64),
+    /// In the source's file of this path.
+    Copied(Text),
 }
 
 /// A file without its bytes, or another entry.

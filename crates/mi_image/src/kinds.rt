@@ -27,6 +27,15 @@ pub fn is_key(entry: &Entry) -> bool
     matches!(entry, Entry::Key(_, _))
 }
 
+pub fn as_key(entry: &Entry) -> Option<&Text>
+    ensures { option_copied result ≡ as_key (Some entry.now) }
+{
+    match entry {
+        Entry::Key(_, shown) => Some(shown),
+        _ => None,
+    }
+}
+
 pub fn as_value(entry: &Entry) -> Option<&RegValue>
     ensures { option_copied result ≡ option_map (λ v. v.1) (as_value (Some entry.now)) }
 {

@@ -3,6 +3,7 @@
 
 mod buffer;
 mod copies;
+mod effects;
 mod fault;
 mod former;
 mod image;

@@ -1,18 +1,18 @@
 //! Lists of what an image holds, in byte order of the volume's names. Each costs one search in the ordered names
-//! and what is listed; the values below a key cost one search for each length of a key.
+//! and what is listed; the values below a key cost two searches for each length of a key that is held.
 
-ghost use Rattle.std.specs.Prelude.{◌≡◌, ◌<◌, ◌-◌, List, ℕ, IfOk, filter, length, map};
+ghost use Rattle.std.specs.Prelude.{◌≡◌, ◌<◌, ◌≤◌, ◌-◌, List, ℕ, IfSome, IfOk, filter, length, map};
 ghost use Rattle.mi_text.specs.Maps.{Map};
 ghost use Rattle.std.specs.FinMap.{entries};
-ghost use Rattle.mi_image.specs.Fronts.{begins_within};
+ghost use Rattle.mi_image.specs.Fronts.{value_front, begins_within, NoneBegins};
 ghost use Rattle.mi_image.specs.Items.{machine_over, AreRight};
-ghost use Rattle.mi_image.specs.Lists.{products_of, clients_of, clients_with, files_under, values_under};
+ghost use Rattle.mi_image.specs.Lists.{products_of, clients_of, clients_with, values_under};
 
 use crate::image::Image;
 use crate::item::Item;
 use crate::names::value_front;
-use crate::pick::{ClientsOf, EachClient, EachFile, EachProduct, ValuesIn, pick_all};
-use mi_base::{Client, Guid, NoMemory, PathText, Product, Text, ValueKey, fold};
+use crate::pick::{ClientsOf, EachClient, EachProduct, ValuesIn, key_length, pick_all};
+use mi_base::{Client, Guid, NoMemory, Product, Text, ValueKey, fold};
 use std::alloc::Global;
 
 /// The length of the longest registry key, in bytes.
@@ -45,22 +45,29 @@ impl Image {
         pick_all(alloc, items.as_slice(), &ClientsOf(component))
     }
 
-    /// The paths of the files in a folder and in the folders below it, as they are shown (File table). Below the
-    /// path of a file there is none.
-    pub fn files_below(&self, alloc: Global, folder: &PathText) -> Result<Vec<PathText>, NoMemory>
-        ensures { (held files : Map (List ℕ)) → IfOk result (λ paths. paths.items ≡ files_under (machine_over held files self.now) folder.now) }
+    // The least length of a key, from `size` on, of the values of this root that are held, or none; at the lengths
+    // between no name of such a value begins with `front`.
+    fn next_length(
+        &self,
+        alloc: Global,
+        root: u8,
+        size: usize,
+        front: &str,
+    ) -> Result<Option<usize>, NoMemory>
+        requires root { root < 10 }
+        requires size { size < 10000 }
+        ensures next { IfOk result (λ next. IfSome next (λ n. (size ≤ n) × (n ≤ 500))) }
+        ensures none { (k : ℕ) → size ≤ k → k < 10000 → IfOk result (λ next. IfSome next (λ n. k < n) → NoneBegins self.now (value_front root k front.now)) }
     {
-        if !folder.is_folder() {
-            return Ok(Vec::new(alloc));
+        let from = value_front(alloc, root, size, front)?;
+        match self.first_from(&from) {
+            Some((_, item)) => Ok(key_length(item, root)),
+            None => Ok(None),
         }
-        let mut front = Text::copy_of(alloc, "f/")?;
-        front.push_str(fold(alloc, folder.as_str())?.as_str())?;
-        let items = self.under(alloc, front.as_bytes())?;
-        pick_all(alloc, items.as_slice(), &EachFile)
     }
 
     // What stands at the names of the values of a key, and of the keys that are longer and begin with `front`. A
-    // value's name begins with the length of its key, so each length is a search of its own.
+    // value's name begins with the length of its key, so each length that is held is a search of its own.
     fn under_key(
         &self,
         alloc: Global,
@@ -74,10 +81,15 @@ impl Image {
     {
         let name = value_front(alloc, root, key.len(), key)?;
         let mut found = self.under(alloc, name.as_slice())?;
-        for more in 0..KEY_LIMIT.saturating_sub(key.len()) {
-            let name = value_front(alloc, root, key.len() + more + 1, front)?;
+        if key.len() >= KEY_LIMIT {
+            return Ok(found);
+        }
+        let mut last = key.len();
+        while let Some(size) = self.next_length(alloc, root, last + 1, front)? {
+            let name = value_front(alloc, root, size, front)?;
             let items = self.under(alloc, name.as_slice())?;
             found.extend_from_slice(items.as_slice())?;
+            last = size;
         }
         Ok(found)
     }

@@ -5,10 +5,11 @@ ghost use Rattle.std.specs.Prelude.{◌≡◌, List, ℕ, Bool, is_some};
 ghost use Rattle.std.specs.Option.{option_copied, option_map};
 ghost use Rattle.std.specs.FinMap.{get};
 ghost use Rattle.mi_text.specs.Maps.{Map};
+ghost use Rattle.mi_base.specs.Names.{file_name};
 ghost use Rattle.mi_base.specs.Spelling.{head_of};
 ghost use Rattle.mi_base.specs.Machine.{file_at, folder_at, value_at, key_at, shortcut_at, variable_at, client_at, product_at};
 ghost use Rattle.mi_image.specs.Items.{content_bytes, machine_over, AreThere};
-ghost use Rattle.mi_image.specs.Lookups.{IsComposed, whole_of};
+ghost use Rattle.mi_image.specs.Lookups.{IsComposed, head_in, whole_of};
 
 use crate::buffer::NameBuffer;
 use crate::image::Image;
@@ -33,7 +34,8 @@ impl Image {
 
     /// What is known of a file beside its bytes (File table).
     pub fn file(&self, path: &PathText) -> Option<&FileHead>
-        ensures { (held files : Map (List ℕ)) → AreThere held files self.now → option_copied result ≡ option_map head_of (file_at (machine_over held files self.now) path.now) }
+        ensures value { (held files : Map (List ℕ)) → AreThere held files self.now → option_copied result ≡ option_map head_of (file_at (machine_over held files self.now) path.now) }
+        ensures head { option_copied result ≡ head_in (get self.now (file_name path.now)) }
     {
         match self.at(file_name(path))? {
             Item::Head(head, _) => Some(head),
@@ -43,7 +45,7 @@ impl Image {
 
     /// Where the bytes of a file are (this project's own).
     pub fn content(&self, path: &PathText) -> Option<&Content>
-        ensures { (held files : Map (List ℕ)) → option_map (content_bytes held files) (option_copied result) ≡ option_map (λ f. f.bytes) (file_at (machine_over held files self.now) path.now) }
+        ensures { (held files : Map (List ℕ)) → option_map (content_bytes held files (file_name path.now)) (option_copied result) ≡ option_map (λ f. f.bytes) (file_at (machine_over held files self.now) path.now) }
     {
         match self.at(file_name(path))? {
             Item::Head(_, content) => Some(content),

@@ -3,7 +3,7 @@
 ghost use Rattle.std.specs.Prelude.{◌≡◌, ◌<◌, ◌+◌, ◌++◌, ◌∷◌, codes, length, IfOk, MatchOption};
 ghost use Rattle.mi_text.specs.Fold.{folded};
 ghost use Rattle.mi_base.specs.Names.{four_digits, file_name, folder_name, key_name, value_name, shortcut_name, variable_name, client_name, product_name, system_name};
-ghost use Rattle.mi_image.specs.Fronts.{value_front};
+ghost use Rattle.mi_image.specs.Fronts.{key_front, value_front};
 ghost use Rattle.mi_image.specs.Lookups.{IsComposed};
 
 use crate::buffer::NameBuffer;
@@ -51,6 +51,16 @@ pub fn key_name(root: u8, key: &str) -> Option<NameBuffer>
         return None;
     }
     folded_behind(&[b'k', b'/', b'0' + root], key)
+}
+
+/// How the names of the keys begin that begin so.
+pub fn key_front(alloc: Global, root: u8, front: &str) -> Result<Vec<u8>, NoMemory>
+    requires { root < 10 }
+    ensures { IfOk result (λ name. name.items ≡ key_front root front.now) }
+{
+    let mut name = Vec::from_slice(alloc, &[b'k', b'/', digit(usize::from(root))])?;
+    name.extend_from_slice(front.as_bytes())?;
+    Ok(name)
 }
 
 #[tactic(auto, unfolding(mi_base::specs::Names::variable_name))]

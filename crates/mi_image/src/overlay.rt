@@ -37,6 +37,7 @@ impl Model for Overlay {
 // Sets what stands at a name that wasn't changed yet: it is marked first, so that what stood there is noted without
 // memory.
 fn put_first(
+    alloc: Global,
     image: &mut Image,
     former: &mut Former,
     keys: (Vec<u8>, Vec<u8>, Vec<u8>),
@@ -60,7 +61,7 @@ fn put_first(
             return Err(NoMemory);
         }
     }
-    match image.exchange(key, item) {
+    match image.exchange(alloc, key, item) {
         Ok(was) => {
             former.fill(name, was);
             Ok(())
@@ -160,7 +161,7 @@ impl Overlay {
             return self.image.put(alloc, name, item);
         }
         match three_of(alloc, name.as_bytes()) {
-            Ok(keys) => put_first(&mut self.image, &mut self.former, keys, item),
+            Ok(keys) => put_first(alloc, &mut self.image, &mut self.former, keys, item),
             Err(_) => {
                 drop(item);
                 Err(NoMemory)
@@ -169,7 +170,7 @@ impl Overlay {
     }
 
     /// Takes away what stands at a name, if anything does. Where memory is refused nothing is changed.
-    pub fn take(&mut self, alloc: Global, name: &Name) -> Result<(), NoMemory>
+    pub(crate) fn remove(&mut self, alloc: Global, name: &Name) -> Result<(), NoMemory>
         ensures ok { OnOk result (present_items self.new ≡ tree.remove (present_items self.old) name.now) }
         ensures err { OnErr result (present_items self.new ≡ present_items self.old) }
         ensures former { former_items self.new ≡ former_items self.old }

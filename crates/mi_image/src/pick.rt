@@ -3,12 +3,12 @@
 ghost use Rattle.std.specs.Prelude.{◌≡◌, ◌||◌, nat_eq, IfOk, map};
 ghost use Rattle.std.specs.List.{filter_map, starts_with};
 ghost use Rattle.std.specs.Str.{bytes_eq};
-ghost use Rattle.mi_image.specs.Picks.{product_in, client_in, client_with, file_in, folder_in, shortcut_in, value_in};
+ghost use Rattle.mi_image.specs.Picks.{product_in, client_in, client_with, file_in, folder_in, key_in, key_length, shortcut_in, value_in};
 
 use crate::copies::{copy_client, copy_product, copy_value_key};
 use crate::item::Item;
-use crate::kinds::{as_client, as_folder, as_product, as_shortcut};
-use mi_base::{Client, Entry, Guid, NoMemory, PathText, Product, ValueKey};
+use crate::kinds::{as_client, as_folder, as_key, as_product, as_shortcut};
+use mi_base::{Client, Entry, Guid, NoMemory, PathText, Product, Text, ValueKey};
 use std::alloc::Global;
 
 /// What is picked of one item.
@@ -133,6 +133,21 @@ impl Pick<PathText> for EachShortcut {
     }
 }
 
+/// Each key, as it is shown.
+#[derive(Drop)]
+pub struct EachKey;
+
+impl Pick<Text> for EachKey {
+    ghost picks = { λ _ i. key_in i };
+
+    fn pick(&self, alloc: Global, item: &Item) -> Result<Option<Text>, NoMemory> {
+        match item.whole().and_then(as_key) {
+            Some(shown) => Ok(Some(Text::copy_of(alloc, shown.as_str())?)),
+            None => Ok(None),
+        }
+    }
+}
+
 /// Where each value stands whose key is this one or begins so.
 #[derive(Drop)]
 pub struct ValuesIn<'a> {
@@ -154,6 +169,16 @@ impl Pick<ValueKey> for ValuesIn<'_> {
             }
             _ => Ok(None),
         }
+    }
+}
+
+/// The length of the key of a value of this root.
+pub fn key_length(item: &Item, root: u8) -> Option<usize>
+    ensures { result ≡ key_length root item.now }
+{
+    match item {
+        Item::Whole(Entry::Value(key, _)) if key.root == root => Some(key.key.len()),
+        _ => None,
     }
 }
 

@@ -1,6 +1,6 @@
 //! Reading what a volume holds under one name.
 
-ghost use Rattle.std.specs.Prelude.{◌≡◌, ◌≤◌, List, ℕ, IfOk, IsErrOf, length, take, codes, min, true, false, nat_eq};
+ghost use Rattle.std.specs.Prelude.{◌≡◌, ◌≤◌, ◌||◌, List, ℕ, IfOk, IsErrOf, length, take, codes, min, true, false, nat_eq};
 ghost use Rattle.std.specs.List.{starts_with};
 ghost use Rattle.std.specs.FinMap.{get};
 ghost use Rattle.mi_text.specs.Bytes.{AreBytes};
@@ -18,6 +18,9 @@ use std::alloc::Global;
 
 /// The length of the longest head of a file, in bytes.
 const HEAD_LIMIT: u64 = 131_364;
+
+/// The length of the longest record of a folder or of a key, in bytes.
+const SHOWN_LIMIT: u64 = 504;
 
 /// Whether a name begins with some bytes.
 pub fn begins(name: &Name, front: &[u8]) -> bool
@@ -60,11 +63,10 @@ fn head_item(alloc: Global, name: &Name, front: &[u8], size: u64) -> Result<Item
     ensures right { IfOk result (MayStand name.now) }
     ensures no_fault { ¬ IsErrOf result ImageError.Fault }
 {
-    let held = name.copy(alloc)?;
     match dec_file_head(alloc, name.as_str(), front, size) {
-        Ok(head) => Ok(Item::Head(head, Content::Held(held))),
+        Ok(head) => Ok(Item::Head(head, Content::Own)),
         Err(RecError::NoMemory) => Err(ImageError::NoMemory),
-        Err(RecError::Fault(_)) => Err(ImageError::BadImage(held)),
+        Err(RecError::Fault(_)) => Err(ImageError::BadImage(name.copy(alloc)?)),
     }
 }
 
@@ -104,7 +106,14 @@ fn read_head<V: Volume>(
     head_item(alloc, name, front.as_slice(), size)
 }
 
-/// The item of another entry, whose record has `size` bytes.
+/// Whether a name is of a folder or of a key, whose record is the shown path or key alone.
+fn is_shown_alone(name: &Name) -> bool
+    ensures { result ≡ (starts_with nat_eq name.now (codes "d/") || starts_with nat_eq name.now (codes "k/")) }
+{
+    begins(name, b"d/") || begins(name, b"k/")
+}
+
+/// The item of another entry, whose record has `size` bytes; one that is longer than any of its kind isn't read.
 fn read_record<V: Volume>(
     alloc: Global,
     vol: &mut V,
@@ -118,6 +127,9 @@ fn read_record<V: Volume>(
     ensures passes { Passes (V.state vol.old) (V.state vol.new) }
     ensures fault { IsErrOf result ImageError.Fault → Rose (V.state vol.old) (V.state vol.new) }
 {
+    if size > SHOWN_LIMIT && is_shown_alone(name) {
+        return Err(ImageError::BadImage(name.copy(alloc)?));
+    }
     let bytes = read_front(alloc, vol, name, size as usize)?;
     record_item(alloc, name, bytes.as_slice())
 }

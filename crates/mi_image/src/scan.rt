@@ -38,8 +38,7 @@ fn add_name<V: Volume>(
 }
 
 impl Image {
-    /// The image of what a volume holds. Names are read, records are read in pieces of at most 65,536 bytes,
-    /// and of a file no more than its head. `BadImage` comes for the first name, in byte order, that isn't
+    /// The image of what a volume holds. `BadImage` comes for the first name, in byte order, that isn't
     /// spelled; names of the rollback area are no part of the machine. `Fault` comes only where the count of
     /// the volume rose. Nothing is changed (this project's own).
     pub fn scan<V: Volume>(alloc: Global, vol: &mut V) -> Result<Image, ImageError>

@@ -5,7 +5,7 @@ use crate::times::say;
 use crate::words::FormattedCall;
 use mi_format::{expand, expand_within};
 use mi_text::PlainEnv;
-use std::alloc::Global;
+use std::alloc::{AllocError, Global};
 use std::io;
 use std::rt::Clock;
 use std::time::Instant;
@@ -15,6 +15,9 @@ const PIECE: &str = "Part [A] of {[A][B]} in [[N]] and [\\[]rest; ";
 
 /// What a text is made of that passes its limit: a brace that may still vanish.
 const LARGE_PIECE: &str = "{[A]}";
+
+/// What a name that is longer than any that is held is made of.
+const NAME_PIECE: &str = "[A]";
 
 /// How many bytes the value of a name has in a text that passes its limit.
 const LARGE_VALUE: usize = 1_000_000;
@@ -34,10 +37,12 @@ fn value_length(alloc: Global, call: FormattedCall, text: &str, env: &PlainEnv) 
             Ok(value) => value.len(),
             Err(_) => 0,
         },
-        FormattedCall::ExpandPast => match expand_within(alloc, text, env, LIMIT) {
-            Ok(value) => value.len(),
-            Err(_) => 0,
-        },
+        FormattedCall::ExpandPast | FormattedCall::ExpandName => {
+            match expand_within(alloc, text, env, LIMIT) {
+                Ok(value) => value.len(),
+                Err(_) => 0,
+            }
+        }
     }
 }
 
@@ -66,6 +71,27 @@ fn time_pieces<R: Print + Eprint + Clock>(
     }
 }
 
+// How many bytes the value of a name has.
+const fn width_of(call: FormattedCall) -> usize {
+    match call {
+        FormattedCall::ExpandPast | FormattedCall::ExpandName => LARGE_VALUE,
+        FormattedCall::Make | FormattedCall::Expand | FormattedCall::ExpandWithin => 1,
+    }
+}
+
+fn text_of(alloc: Global, call: FormattedCall, pieces: usize) -> Result<String, AllocError> {
+    match call {
+        FormattedCall::ExpandPast => LARGE_PIECE.repeat(alloc, pieces),
+        FormattedCall::ExpandName => {
+            let name = NAME_PIECE.repeat(alloc, pieces)?;
+            format!(in alloc; "[{name}]")
+        }
+        FormattedCall::Make | FormattedCall::Expand | FormattedCall::ExpandWithin => {
+            PIECE.repeat(alloc, pieces)
+        }
+    }
+}
+
 /// Makes a text of so many pieces, and does with it what is asked.
 pub fn time_formatted<R: Print + Eprint + Clock>(
     rt: &R,
@@ -73,11 +99,7 @@ pub fn time_formatted<R: Print + Eprint + Clock>(
     call: FormattedCall,
     pieces: usize,
 ) -> io::Result<()> {
-    let (piece, width) = match call {
-        FormattedCall::ExpandPast => (LARGE_PIECE, LARGE_VALUE),
-        FormattedCall::Make | FormattedCall::Expand | FormattedCall::ExpandWithin => (PIECE, 1),
-    };
-    let text = piece.repeat(alloc, pieces)?;
-    let value = "x".repeat(alloc, width)?;
+    let value = "x".repeat(alloc, width_of(call))?;
+    let text = text_of(alloc, call, pieces)?;
     time_pieces(rt, alloc, call, text.as_str(), value.as_str())
 }

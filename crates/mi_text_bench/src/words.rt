@@ -11,6 +11,8 @@ pub enum FormattedCall {
     ExpandWithin,
     /// It is expanded within a limit that it passes by far.
     ExpandPast,
+    /// It is one name of that size, and is expanded within the limit.
+    ExpandName,
 }
 
 /// What is done with a text that is a list, and an old list.
@@ -35,6 +37,15 @@ pub enum ConditionCall {
     Read,
     /// It is read, and its value is taken, of which alone the time is told.
     Value,
+}
+
+/// What is done with an old and a new file of many languages.
+#[derive(Clone, Copy)]
+pub enum VersionCall {
+    /// Nothing, so that their memory is told apart from that of the calls.
+    Make,
+    /// It is asked whether the new one is written over the old one.
+    Replaces,
 }
 
 /// How the rows of a Directory table hang together.
@@ -77,6 +88,11 @@ pub enum Request {
         call: ConditionCall,
         pieces: usize,
     },
+    /// Files of so many languages.
+    Version {
+        call: VersionCall,
+        languages: u16,
+    },
     /// A Directory table of so many rows.
     Directory {
         call: DirectoryCall,
@@ -91,6 +107,7 @@ fn formatted_call(word: &str) -> Option<FormattedCall> {
         "expand" => Some(FormattedCall::Expand),
         "expand_within" => Some(FormattedCall::ExpandWithin),
         "expand_past" => Some(FormattedCall::ExpandPast),
+        "expand_name" => Some(FormattedCall::ExpandName),
         _ => None,
     }
 }
@@ -110,6 +127,14 @@ fn condition_call(word: &str) -> Option<ConditionCall> {
         "expand_condition" => Some(ConditionCall::Expand),
         "read_condition" => Some(ConditionCall::Read),
         "condition_value" => Some(ConditionCall::Value),
+        _ => None,
+    }
+}
+
+fn version_call(word: &str) -> Option<VersionCall> {
+    match word {
+        "make_languages" => Some(VersionCall::Make),
+        "replaces" => Some(VersionCall::Replaces),
         _ => None,
     }
 }
@@ -149,11 +174,15 @@ fn text_request(word: &str, number: usize) -> Option<Request> {
             pieces: number,
         });
     }
-    let call = registry_call(word)?;
-    Some(Request::Registry {
-        call,
-        items: number,
-    })
+    if let Some(call) = registry_call(word) {
+        return Some(Request::Registry {
+            call,
+            items: number,
+        });
+    }
+    let call = version_call(word)?;
+    let languages = u16::try_from(number).ok()?;
+    Some(Request::Version { call, languages })
 }
 
 /// The request that the words are, if they are one.

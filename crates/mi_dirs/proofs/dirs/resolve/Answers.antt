@@ -9,7 +9,7 @@ use Rattle.mi_dirs.specs.Places.{Place, first_row, parent_at}
 use Rattle.mi_dirs.specs.Rows.{given, places_of, resolved}
 use Rattle.mi_dirs.specs.Faults.{row_number, judged, IsEndless}
 use Rattle.mi_dirs.specs.Answers.{IfCycle}
-use Rattle.mi_dirs.specs.Sources.{sources_in}
+use Rattle.mi_dirs.specs.Sources.{sources_in, AreAbove}
 use Rattle.mi_dirs.specs.Views.{places_in}
 use Rattle.mi_dirs.proofs.ResolveLemmas.{seen_rows, row_order, row_ends, row_endless, cycle_is, cycle_endless, faults_on, fault_is, dirs_order, dirs_ends, targets_in, places_made, fault_found, keeps}
 use Rattle.mi_dirs.proofs.dirs.resolve.Goals as goal
@@ -51,6 +51,18 @@ targets_of-requires-clause-ends c =
     let g = given c.args.rows.now c.args.props.now c.args.remembered.now c.args.folder.now c.args.short in
     subst (λ (rs : List Dir). (row : ℕ) → row < length rs → ends_in (parent_at (places_in rs [])) (suc (length rs)) row ≡ true) (sym c.deref-3.ensures.value) (dirs_ends g c.in_ok-dirs.dirs.items c.in_ok-dirs.ensures.dirs (row_ends c.args.rows.now c.in_ok-parents.parents.items c.deref.result.now c.deref.ensures.value c.in_ok-parents.ensures c.in_ok-order.ensures.ends))
 
+pub rows_above-requires-clause-order : goal.rows_above-requires-clause-order
+rows_above-requires-clause-order c =
+    let g = given c.args.rows.now c.args.props.now c.args.remembered.now c.args.folder.now c.args.short in
+    let ds = c.in_ok-dirs.dirs.items in
+    subst (λ (rs : List Dir). IsOrder (parent_at (places_in rs [])) (length rs) c.deref-7.result.now) (sym c.deref-6.ensures.value)
+    (subst (λ (o : List ℕ). IsOrder (parent_at (places_in ds [])) (length ds) o) (sym c.deref-7.ensures.value) (dirs_order g ds c.in_ok-dirs.ensures.dirs c.in_ok-order.order.items (row_order c.args.rows.now c.in_ok-parents.parents.items c.deref.result.now c.deref.ensures.value c.in_ok-parents.ensures c.in_ok-order.order.items c.in_ok-order.ensures.order)))
+
+pub rows_above-requires-clause-ends : goal.rows_above-requires-clause-ends
+rows_above-requires-clause-ends c =
+    let g = given c.args.rows.now c.args.props.now c.args.remembered.now c.args.folder.now c.args.short in
+    subst (λ (rs : List Dir). (row : ℕ) → row < length rs → ends_in (parent_at (places_in rs [])) (suc (length rs)) row ≡ true) (sym c.deref-6.ensures.value) (dirs_ends g c.in_ok-dirs.dirs.items c.in_ok-dirs.ensures.dirs (row_ends c.args.rows.now c.in_ok-parents.parents.items c.deref.result.now c.deref.ensures.value c.in_ok-parents.ensures c.in_ok-order.ensures.ends))
+
 pub returns-in-Some-clause-resolved : goal.returns-in-Some-clause-resolved
 returns-in-Some-clause-resolved c =
     let g = given c.args.rows.now c.args.props.now c.args.remembered.now c.args.folder.now c.args.short in
@@ -70,11 +82,13 @@ invariant_of-result c =
     let folder = c.in_ok-folder.folder in
     let ss = sources_in folder ds in
     let found = c.in_ok-targets.targets.items in
-    let targets = targets_in c.deref-3.result.now ds ss c.len.result found c.deref-3.ensures.value (c.len.ensures ∙ c.in_ok-dirs.dirs.ok.0) c.in_ok-targets.ensures.size c.in_ok-targets.ensures.targets in
-    keeps g ds ss c.in_ok-index.index c.in_ok-order.order.items found c.in_ok-dirs.ensures.dirs (places_made g ds c.in_ok-dirs.ensures.dirs folder c.in_ok-folder.ensures c.in_ok-dirs.ensures.sources) c.in_ok-index.ensures
-    (row_order c.args.rows.now c.in_ok-parents.parents.items c.deref.result.now c.deref.ensures.value c.in_ok-parents.ensures c.in_ok-order.order.items c.in_ok-order.ensures.order)
-    (row_ends c.args.rows.now c.in_ok-parents.parents.items c.deref.result.now c.deref.ensures.value c.in_ok-parents.ensures c.in_ok-order.ensures.ends)
-    c.in_ok-dirs.ensures.folders c.in_ok-targets.ensures.folders targets.0 targets.1 (sym (c.in_default.ensures ∙ ap (first_row is_none) c.deref-5.ensures.value))
+    let targets = targets_in c.deref-3.result.now ds ss c.len.result found c.deref-3.ensures.value (c.len.ensures ∙ c.in_ok-dirs.dirs.ok.0) c.in_ok-targets.ensures.size c.in_ok-targets.ensures.targets in (
+      keeps g ds ss c.in_ok-index.index c.in_ok-order.order.items found c.in_ok-dirs.ensures.dirs (places_made g ds c.in_ok-dirs.ensures.dirs folder c.in_ok-folder.ensures c.in_ok-dirs.ensures.sources) c.in_ok-index.ensures
+          (row_order c.args.rows.now c.in_ok-parents.parents.items c.deref.result.now c.deref.ensures.value c.in_ok-parents.ensures c.in_ok-order.order.items c.in_ok-order.ensures.order)
+          (row_ends c.args.rows.now c.in_ok-parents.parents.items c.deref.result.now c.deref.ensures.value c.in_ok-parents.ensures c.in_ok-order.ensures.ends)
+          c.in_ok-dirs.ensures.folders c.in_ok-targets.ensures.folders targets.0 targets.1 (sym (c.in_default.ensures ∙ ap (first_row is_none) c.deref-5.ensures.value)),
+      subst (λ (rs : List Dir). AreAbove rs c.in_ok-above.above.items) c.deref-6.ensures.value c.in_ok-above.ensures,
+    )
 
 pub returns-clause-resolved : goal.returns-clause-resolved
 returns-clause-resolved c =

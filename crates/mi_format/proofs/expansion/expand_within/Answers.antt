@@ -1,7 +1,7 @@
 -- The marks come first, then the length of the value.
 use Rattle.std.proofs.Common.{sym, ◌∙◌}
 use Rattle.mi_format.specs.Expansion.{expand_of}
-use Rattle.mi_format.proofs.ValueLemmas.{kept_is, none_is}
+use Rattle.mi_format.proofs.ValueLemmas.{limit_is, none_is}
 use Rattle.mi_format.proofs.LawLemmas.{limit_deep, limit_long, limit_value}
 use Rattle.mi_format.proofs.expansion.expand_within.Goals as goal
 
@@ -11,7 +11,7 @@ returns-then-deep g c = limit_deep c.args.limit (g.E.Env.lookups c.args.env.now)
 pub returns-in-Some : goal.returns-in-Some
 returns-in-Some g c =
     let L = g.E.Env.lookups c.args.env.now in
-    let is = kept_is c.args.limit c.in-Some.value (expand_of L c.args.text.now) (sym c.in-Some.is ∙ c.in_ok-kept.ensures) in
+    let is = limit_is c.args.limit c.in-Some.value (expand_of L c.args.text.now) (sym c.in-Some.is ∙ c.in_ok-kept.ensures) in
     limit_value c.args.limit L c.args.text.now c.in-Some.value (sym c.in_ok-deep.ensures ∙ c.if-deep.false) is.0 is.1
 
 pub returns-in-None : goal.returns-in-None

@@ -13,13 +13,13 @@ returns-in-Some-get-clause-known c =
     let sources = sources_in c.self.inside.folder rows in
     let dir = c.args.dir.now in
     let row = c.in-Some.row.now in
-    let is : row_of (places_in rows sources) dir ≡ Some row = sym (c.in-Some.ensures.value ∙ c.self.invariant.index dir) in
-    let lt : row < length rows = row_below rows sources c.self.inside.index c.self.inside.order.items c.self.inside.targets.items c.self.invariant dir row is in
+    let is : row_of (places_in rows sources) dir ≡ Some row = sym (c.in-Some.ensures.value ∙ c.self.invariant.0.index dir) in
+    let lt : row < length rows = row_below rows sources c.self.inside.index c.self.inside.order.items c.self.inside.targets.items c.self.invariant.0 dir row is in
     let there : c.in-Some-get.target.now ≡ target_at (places_in rows sources) row =
     some_same (sym (ap (λ (ts : List (Option (List ℕ))). slice_get ts row) (sym c.deref.ensures.value)
     ∙ slice_get_read c.deref.result.now (length c.deref.result.now) row c.in-Some-get.target.now refl c.in-Some-get.ensures.lookup.3.0 c.in-Some-get.ensures.lookup.1)
-    ∙ c.self.invariant.targets row lt) in
-    let has = has_a_target rows sources c.self.inside.index c.self.inside.order.items c.self.inside.targets.items c.self.invariant row lt in
+    ∙ c.self.invariant.0.targets row lt) in
+    let has = has_a_target rows sources c.self.inside.index c.self.inside.order.items c.self.inside.targets.items c.self.invariant.0 row lt in
     ((λ _. ap is_some (ap (λ (ps : List Place). row_of ps dir) (sym c.self.view_is) ∙ is)), (λ _. c.as_ref.ensures.variant ∙ ap is_some there ∙ not_none (target_at (places_in rows sources) row) has))
 
 pub returns-in-None-clause-target : goal.returns-in-None-clause-target
@@ -28,9 +28,9 @@ returns-in-None-clause-target c =
     let sources = sources_in c.self.inside.folder rows in
     let dir = c.args.dir.now in
     let row = c.in-Some.row.now in
-    let is : row_of (places_in rows sources) dir ≡ Some row = sym (c.in-Some.ensures.value ∙ c.self.invariant.index dir) in
-    let lt : row < length rows = row_below rows sources c.self.inside.index c.self.inside.order.items c.self.inside.targets.items c.self.invariant dir row is in
-    absurd (omega (arith, c.in-None.ensures.lookup.3, c.self.invariant.size, ap length c.deref.ensures.value))
+    let is : row_of (places_in rows sources) dir ≡ Some row = sym (c.in-Some.ensures.value ∙ c.self.invariant.0.index dir) in
+    let lt : row < length rows = row_below rows sources c.self.inside.index c.self.inside.order.items c.self.inside.targets.items c.self.invariant.0 dir row is in
+    absurd (omega (arith, c.in-None.ensures.lookup.3, c.self.invariant.0.size, ap length c.deref.ensures.value))
 
 pub returns-in-None-clause-known : goal.returns-in-None-clause-known
 returns-in-None-clause-known c =
@@ -38,6 +38,6 @@ returns-in-None-clause-known c =
     let sources = sources_in c.self.inside.folder rows in
     let dir = c.args.dir.now in
     let row = c.in-Some.row.now in
-    let is : row_of (places_in rows sources) dir ≡ Some row = sym (c.in-Some.ensures.value ∙ c.self.invariant.index dir) in
-    let lt : row < length rows = row_below rows sources c.self.inside.index c.self.inside.order.items c.self.inside.targets.items c.self.invariant dir row is in
-    absurd (omega (arith, c.in-None.ensures.lookup.3, c.self.invariant.size, ap length c.deref.ensures.value))
+    let is : row_of (places_in rows sources) dir ≡ Some row = sym (c.in-Some.ensures.value ∙ c.self.invariant.0.index dir) in
+    let lt : row < length rows = row_below rows sources c.self.inside.index c.self.inside.order.items c.self.inside.targets.items c.self.invariant.0 dir row is in
+    absurd (omega (arith, c.in-None.ensures.lookup.3, c.self.invariant.0.size, ap length c.deref.ensures.value))

@@ -1,7 +1,8 @@
 use Rattle.std.proofs.Common.{◌≡◌, ap, subst, sym, ◌∙◌}
 use Rattle.std.specs.Option.{option_copied}
 use Rattle.std.specs.FinMap as map
-use Rattle.mi_image.specs.Items.{AreRight}
+use Rattle.std.specs.Prelude.{option_map}
+use Rattle.mi_image.specs.Items.{AreRight, unboxed}
 use Rattle.mi_image.specs.Lookups.{IsComposed}
 use Rattle.mi_image.proofs.ItemLemmas.{get-items}
 use Rattle.mi_image.proofs.LookupLemmas.{none_there}
@@ -10,7 +11,7 @@ use Rattle.mi_image.proofs.image.Image.at.Goals as goal
 pub returns-clause-value : goal.returns-clause-value
 returns-clause-value c q composed =
     let named : c.as_slice.result.now ≡ q = c.as_slice.ensures ∙ subst (IsComposed q) c.in_ok-name.was composed in
-    c.get.ensures.value ∙ sym (get-items c.self.inside.items.entries c.as_slice.result.now) ∙ ap (λ m. map.get m c.as_slice.result.now) c.self.view_is ∙ ap (map.get c.args.self.now) named
+    c.lent.ensures ∙ ap (option_map unboxed) c.get.ensures.value ∙ sym (get-items c.self.inside.items.entries c.as_slice.result.now) ∙ ap (λ m. map.get m c.as_slice.result.now) c.self.view_is ∙ ap (map.get c.args.self.now) named
 
 pub returns-clause-right : goal.returns-clause-right
 returns-clause-right c = subst (λ m. AreRight m) c.self.view_is c.self.invariant

@@ -1,0 +1,2 @@
+mod AreaSteps
+mod NotedLemmas

@@ -1,0 +1,6 @@
+mod OrderLemmas
+mod StandardLemmas
+mod CustomLemmas
+mod RowLemmas
+mod WalkLemmas
+pub mod LoopLemmas

@@ -1,0 +1,9 @@
+pub mod Orders
+pub mod Meaning
+pub mod Walks
+pub mod Stages
+pub mod Stops
+pub mod Standards
+pub mod Customs
+pub mod Turns
+pub mod Seats

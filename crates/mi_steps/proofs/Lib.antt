@@ -1,0 +1,7 @@
+pub mod ApplyLemmas
+pub mod FileLemmas
+pub mod FollowLemmas
+pub mod PlaceLemmas
+pub mod PruneLemmas
+pub mod RowLemmas
+pub mod StepLemmas

@@ -1,0 +1,5 @@
+pub mod Applied
+pub mod Follows
+pub mod Makes
+pub mod Rows
+pub mod Trees
