@@ -1,5 +1,5 @@
 -- What of a package isn't built.
-use Rattle.std.proofs.Common.{◌≡◌, ℕ, suc, min, ◌+◌, ◌^◌, ◌<◌, Bool, true, false, ◌&&◌, List, [], ◌∷◌, ◌++◌, length, map, take, drop, codes, Option, Some, None, Ok, Err, refl, sym, ap, ◌∙◌, arith}
+use Rattle.std.proofs.Common.{◌≡◌, ℕ, suc, min, ◌+◌, ◌^◌, ◌<◌, Bool, true, false, ◌&&◌, List, [], ◌∷◌, ◌++◌, length, take, drop, codes, Option, Some, None, Ok, Err, refl, sym, ap, ◌∙◌, arith}
 use Rattle.std.specs.Prelude.{◌==◌, is_some, if◌then◌else◌, option_map}
 use Rattle.std.specs.List.{filter_map, list_all}
 use Rattle.std.proofs.lemmas.Bool.Decides.{nat_tests}
@@ -19,6 +19,7 @@ use Rattle.mi_schema.specs.Checks.{first_fault}
 use Rattle.mi_schema.specs.Lawful.{IsLawful}
 use Rattle.mi_schema.specs.Rows.{◌or_else◌}
 use Rattle.mi_schema.specs.RowsOf.{rows_in, behind}
+use Rattle.mi_schema.proofs.LawfulLaws.{of_tables}
 use Rattle.mi_schema.proofs.PackageLaws.{tables_small}
 use Rattle.mi_model.specs.Built.{Row, written_by}
 use Rattle.mi_model.specs.Collected.{collected}
@@ -173,7 +174,7 @@ module _ (p : Package) (found : List RegistryRow) (from : found ≡ values p.reg
   values_are = from
 
   pub few_values : IsLawful p → length found < 2 ^ 32
-  few_values lawful = let few = (tables_small p lawful).registry in let long = ap length from ∙ length-map p.registry.entries (λ e. e.1) in omega (arith, few, long)
+  few_values lawful = let t = of_tables p lawful in let few = (tables_small p t.content t.right_tables t.is.rows).registry in let long = ap length from ∙ length-map p.registry.entries (λ e. e.1) in omega (arith, few, long)
 
   -- the first row that isn't built
   pub first_is : (before behind : Option Fault) (unbuilt : Option ℕ) → before ≡ first_fault unbuilt_fault (take 7 (unbuilt_rows (rows_in p))) → behind ≡ first_fault unbuilt_fault (drop 8 (unbuilt_rows (rows_in p))) → unbuilt ≡ first_unbuilt 1 found

@@ -7,7 +7,9 @@ pub mod ConditionFaults
 pub mod ConditionLaws
 pub mod DifferLemmas
 pub mod FitLemmas
+pub mod FolderLemmas
 pub mod KeyLemmas
+pub mod LawfulLaws
 pub mod ListLemmas
 pub mod LoadLemmas
 pub mod NumberLaws

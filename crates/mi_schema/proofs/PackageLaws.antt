@@ -36,7 +36,7 @@ use Rattle.mi_schema.specs.Source.{has_attributes, is_source_compressed, has_sho
 use Rattle.mi_schema.specs.TableRows.{Rows}
 use Rattle.mi_schema.specs.Conditions.{IsCondition}
 use Rattle.mi_schema.specs.Laws.{IsKeyOf, IsWithin, HasOtherCode, HasProperty, KeysStand, KeysApart, ReferencesStand, ParentsEnd, PropertiesStand, ValuesStand, SourceStands, TablesSmall, key_paths}
-use Rattle.mi_schema.specs.Lawful.{IsLawful}
+use Rattle.mi_schema.specs.Lawful.{IsOfTables}
 use Rattle.mi_schema.specs.Package.{HoldsAll}
 use Rattle.mi_schema.specs.Rows.{keys_of as keys_of_rows}
 use Rattle.mi_schema.specs.Tables.{required_properties, component, condition, create_folder, custom_action, directory, duplicate_file, environment, feature, feature_components, file, install_execute_sequence, launch_condition, msi_file_hash, property, registry, remove_file, remove_registry, shortcut, summary_information, upgrade}
@@ -245,7 +245,7 @@ key_in keys q (n, lt, is) = key_at keys q n lt is
 
 -- ---- the rows of all tables together
 
-module _ (p : Package) (lawful : IsLawful p) where
+module _ (p : Package) (lawful : IsOfTables p) where
   abbrev rows : Rows
   rows = rows_in p
 

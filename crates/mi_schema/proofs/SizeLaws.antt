@@ -19,7 +19,7 @@ use Rattle.mi_schema.specs.declared.known.Known.TheVariants as known
 use Rattle.mi_schema.specs.declared.package.Package.{Package}
 use Rattle.mi_schema.specs.Checks.{Content, rows_at}
 use Rattle.mi_schema.specs.Laws.{IsShort, AreShort, TextsShort, IsOfText, ConditionsStand, AreNames, ArePatterns, IsFolder, NamesStand, ValuesStand}
-use Rattle.mi_schema.specs.Lawful.{AreRowsOf, IsLawful}
+use Rattle.mi_schema.specs.Lawful.{AreRowsOf, IsOfTables}
 use Rattle.mi_schema.specs.Package.{IsPackage}
 use Rattle.mi_schema.specs.Tables.{Column, Table, component, condition, create_folder, custom_action, directory, duplicate_file, environment, feature, feature_components, file, install_execute_sequence, launch_condition, msi_file_hash, property, registry, remove_file, remove_registry, shortcut, summary_information, upgrade}
 use Rattle.mi_schema.specs.Typed.{some_condition_in}
@@ -163,7 +163,7 @@ folders_of text e = let parts = both_on (is_folder_name (target_part text)) (is_
 
 -- ---- the laws
 
-module _ (p : Package) (lawful : IsLawful p) where
+module _ (p : Package) (lawful : IsOfTables p) where
   abbrev content : Content
   content = lawful.content
 

@@ -5,7 +5,9 @@ use Rattle.mi_schema.specs.Tables.{Table}
 use Rattle.mi_schema.specs.Listed.{tables}
 use Rattle.mi_schema.specs.Values.{Row}
 use Rattle.mi_schema.specs.Rows.{table_fault, table_rows}
-use Rattle.mi_schema.specs.Checks.{Content, package_fault, tables_fault}
+use Rattle.mi_text.specs.Maps.{Name}
+use Rattle.mi_source.specs.Paths.{Files}
+use Rattle.mi_schema.specs.Checks.{Content, content_of, package_fault, tables_fault, load_fault}
 use Rattle.mi_schema.specs.Package.{IsPackage}
 use Rattle.mi_schema.specs.RowsOf.{rows_in}
 
@@ -13,9 +15,16 @@ use Rattle.mi_schema.specs.RowsOf.{rows_in}
 abbrev pub AreRowsOf : Table → List Row → Type 0
 AreRowsOf t rows = (file : Option (List ℕ)) × ((table_fault t file ≡ None) × (table_rows t file ≡ rows))
 
--- a package is lawful where its rows are those of some tables without a fault, which have none together either
-pub record IsLawful (p : Package) : Type 0 where
+-- a package holds the rows of some tables without a fault, which have none together either
+pub record IsOfTables (p : Package) : Type 0 where
   pub content : Content
   pub right_tables : tables_fault content tables ≡ None
   pub is : IsPackage p content
   pub right : package_fault (rows_in p) ≡ None
+
+-- a package is lawful where some files and a folder give it
+pub record IsLawful (p : Package) : Type 0 where
+  pub files : Files
+  pub folder : Name
+  pub right : load_fault files folder ≡ None
+  pub is : IsPackage p (content_of files folder)

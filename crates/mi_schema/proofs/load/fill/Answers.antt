@@ -5,6 +5,7 @@ use Rattle.mi_schema.specs.Checks.{Content, content_of, tables_fault}
 use Rattle.mi_schema.specs.Listed.{tables}
 use Rattle.mi_schema.specs.Package.{IsPackage}
 use Rattle.mi_schema.specs.RowsOf.{rows_of_content}
+use Rattle.mi_schema.proofs.LawfulLaws.{of_folder}
 use Rattle.mi_schema.proofs.PackageLaws.{are_named, tables_small}
 use Rattle.mi_schema.proofs.RowLaws.{rows_in-IsPackage}
 use Rattle.mi_schema.proofs.TopLemmas.{missing_fails, tables_fail, rows_fail, no_fault}
@@ -49,4 +50,4 @@ returns-clause-value g c = λ told.
 pub returns-clause-lawful : goal.returns-clause-lawful
 returns-clause-lawful g c =
     let all = c.in_ok-load_tables.ensures.loaded in
-    record { content = all.found; right_tables = all.right; is = c.name_source.ensures all.found all.holds; right = c.in_ok-check_rows.ensures.0 }
+    of_folder _ (record { content = all.found; right_tables = all.right; is = c.name_source.ensures all.found all.holds; right = c.in_ok-check_rows.ensures.0 })
