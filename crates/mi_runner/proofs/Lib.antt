@@ -1,0 +1,11 @@
+pub mod PieceLemmas
+pub mod StepLemmas
+pub mod SizeLemmas
+pub mod RecordLemmas
+pub mod HeadLemmas
+pub mod AppendLemmas
+pub mod FaultLemmas
+pub mod FileLemmas
+pub mod CarryLemmas
+pub mod SegmentLemmas
+pub mod DropLemmas

@@ -1,0 +1,5 @@
+pub mod Faults
+pub mod Records
+pub mod Sizes
+pub mod Steps
+pub mod Answers
