@@ -1,69 +1,157 @@
 -- What was done before the rest of a run.
-use Rattle.std.proofs.Common.{◌≡◌, inl, inr, ⊎_elim, ℕ, Bool, List, Option, Ok, sym, ap, subst, ◌∙◌}
-use Rattle.std.specs.Prelude.{IsNone}
+use Rattle.std.proofs.Common.{◌≡◌, ◌⊎◌, inl, inr, ⊎_elim, ℕ, ◌≤◌, Bool, List, Option, None, Some, Ok, sym, ap, subst, ◌∙◌, arith}
 use Rattle.mi_text.specs.declared.answers.Settled.{Settled}
 use Rattle.mi_volume.specs.Maps.{Map}
-use Rattle.mi_volume.specs.State.{State, Passes}
-use Rattle.mi_volume.proofs.Moments.{rose_before}
-use Rattle.mi_undo.specs.Keeps.{IsFree}
+use Rattle.mi_volume.specs.State.{State, Passes, Rose, GoesOn}
+use Rattle.mi_volume.proofs.Moments.{rose_before, joined, weaker}
+use Rattle.mi_undo.specs.Stands.{StandsFor}
+use Rattle.mi_undo.specs.Keeps.{IsFree, Each}
+use Rattle.std.specs.Prelude.{IsSome}
 use Rattle.mi_base.specs.declared.answers.Cause.{Cause}
-use Rattle.mi_base.specs.declared.answers.Cause.TheVariants.{BadWords, VolumeFault, BadRollback, SourceFault, Table}
-use Rattle.mi_base.specs.declared.answers.Pause.{Pause}
+use Rattle.mi_base.specs.declared.answers.Cause.TheVariants.{BadWords, VolumeFault, BadRollback, RecoveryFull, BadImage, SourceFault, Table, Launch, ErrorAction}
+use Rattle.mi_base.specs.declared.answers.Place.{Place}
+use Rattle.mi_base.specs.declared.answers.Place.TheVariants.{InRollback, InCommit}
 use Rattle.mi_base.specs.declared.answers.Kind.{Kind}
 use Rattle.mi_base.specs.declared.answers.Kind.TheVariants.{Done, Listed, Recovered, Refused, Suspended, NoMemory}
-use Rattle.mi_model.specs.PlainWords.{Command}
-use Rattle.mi_model.specs.PlainOutcome.{Outcome, map_after}
-use Rattle.mi_engine.specs.Calls.{Fails}
-use Rattle.mi_engine.specs.Ends.{Ends}
-use Rattle.mi_engine.specs.Answers.{IsDone, Caused, MayPause, Cleans, walks, Tells, IsLog}
-use Rattle.mi_engine.specs.Replies.{Serves}
+use Rattle.mi_model.specs.Causes.{BelowCount, IsDone, IsRefused, CausedRefusal, Met, MetAt, Caused}
+use Rattle.mi_model.specs.Leaves.{StandsAfter, MayStand, AtPause, AtExit, Cleans}
+use Rattle.mi_model.specs.Logs.{Tells, IsReport, IsLog}
+use Rattle.mi_model.specs.PackageOutcome.{Outcome}
+use Rattle.mi_model.specs.Words.{Command, walks}
+use Rattle.mi_engine.specs.Answers.{MeetsFull, Suspends}
 use Rattle.mi_engine.specs.Looks.{Looks}
-use Rattle.mi_engine.proofs.EndLemmas.{paused_before, then_ends, looks_go, free_then}
+use Rattle.mi_engine.specs.Replies.{Says, SettledReads, Serves}
+use Rattle.mi_engine.proofs.EndLemmas.{may_commit, below_before, looks_go, free_then}
 
--- ---- counts
+-- ---- the same outcome
 
-none_before : (s t : State) → Passes s t → IsNone s.capacity → IsNone t.capacity
-none_before s t pass none = subst (λ (c : Option ℕ). IsNone c) (sym pass.capacity) none
+done_as : (out out' : Outcome) → out' ≡ out → IsDone out' → IsDone out
+done_as out out' is done = (done.0, sym (ap (λ (x : Outcome). x.end) is) ∙ done.1)
 
-pub fails_before : (s t u : State) → Passes s t → Fails t u → Fails s u
-fails_before s t u pass fails = λ none. rose_before s t u pass (fails (none_before s t pass none))
+refused_as : (out out' : Outcome) → out' ≡ out → (cause : Cause) → IsRefused out' cause → IsRefused out cause
+refused_as out out' is cause refused = sym (ap (λ (x : Outcome). x.end) is) ∙ refused
 
-pub pauses_before : (s t u : State) → Passes s t → (pause : Pause) → MayPause t u pause → MayPause s u pause
-pauses_before s t u pass pause may = λ none. paused_before s.faults t.faults u.faults pause.place pause.begun pause.again pause.why pass.faults (may (none_before s t pass none))
+stands_as : (out out' : Outcome) → out' ≡ out → (d : Map) → StandsAfter out' d → StandsAfter out d
+stands_as out out' is d (m, made, stands) = (m, sym (ap (λ (x : Outcome). x.end) is) ∙ made, stands)
 
--- ---- causes
+module _ (volume told : Type 0) (out out' : Outcome) (of_told : told → volume) (is : volume → out' ≡ out) where
+  -- ---- images
 
-done_as : (o o' : Outcome) → o' ≡ o → IsDone o' → IsDone o
-done_as o o' is done = (done.0, sym is ∙ done.1)
+  pub may_stand_as : (F : Map) (rose rose' : Type 0) (kind : Kind) (d : Map) → (rose' → rose) → MayStand told F out' rose' kind d → MayStand told F out rose kind d
+  may_stand_as F rose rose' kind d f (inl stands) = inl stands
+  may_stand_as F rose rose' kind d f (inr may) = inr (may_commit rose' rose f kind may.0, λ t. stands_as out out' (is (of_told t)) d (may.1 t))
 
-module _ (volume source : Type 0) (o o' : Outcome) (is : volume → o' ≡ o) (fails fails' source_fails : Type 0) (pauses pauses' : Pause → Type 0) (rises : fails' → fails) (lasts : (pause : Pause) → pauses' pause → pauses pause) where
-  pub caused_from : (kind : Kind) → Caused volume source o' fails' source_fails pauses' kind → Caused volume source o fails source_fails pauses kind
-  caused_from Done c = λ v src. done_as o o' (is v) (c v src)
-  caused_from Listed c = λ v. ((c v).0, sym (is v) ∙ (c v).1)
-  caused_from (Recovered settled) c = λ v. sym (is v) ∙ c v
-  caused_from (Refused VolumeFault) c = rises c
-  caused_from (Refused SourceFault) c = c
-  caused_from (Refused (Table fault)) c = λ v src. sym (is v) ∙ c v src
-  caused_from (Refused other) c = λ v. sym (is v) ∙ c v
-  caused_from (Suspended pause) c = (lasts pause c.0, λ v src. done_as o o' (is v) (c.1 v src))
-  caused_from NoMemory c = tt
+  pause_as : (F : Map) (place : Place) (d : Map) → AtPause told F out' place d → AtPause told F out place d
+  pause_as F InRollback d at = at
+  pause_as F InCommit d (inl stands) = inl stands
+  pause_as F InCommit d (inr after) = inr (λ t. stands_as out out' (is (of_told t)) d (after t))
 
--- ---- the log
+  pub exit_as : (F : Map) (kind : Kind) (d : Map) → AtExit told F out' kind d → AtExit told F out kind d
+  exit_as F Done d at = λ t. stands_as out out' (is (of_told t)) d (at t)
+  exit_as F Listed d at = at
+  exit_as F (Recovered settled) d at = at
+  exit_as F (Refused cause) d at = at
+  exit_as F (Suspended pause) d at = pause_as F pause.place d at
+  exit_as F NoMemory d at = at
 
-refusal_as : (found found' : Settled → Type 0) → ((s : Settled) → found' s → found s) → (cause : Cause) (s : Settled) → Tells found' (Refused cause) s → Tells found (Refused cause) s
-refusal_as found found' f (BadWords place) s is = is
-refusal_as found found' f VolumeFault s is = ⊎_elim (λ x. inl (f s x)) (λ x. inr x) is
-refusal_as found found' f (BadRollback name) s is = is
-refusal_as found found' f other s is = f s is
+  pub reads_as : (F : Map) (kind : Kind) (h : Map) → SettledReads told F out' kind h → SettledReads told F out kind h
+  reads_as F Done h reads = λ t. let r = reads t in (r.0, sym (ap (λ (x : Outcome). x.end) (is (of_told t))) ∙ r.1, r.2)
+  reads_as F Listed h reads = reads
+  reads_as F (Recovered settled) h reads = reads
+  reads_as F (Refused cause) h reads = reads
+  reads_as F (Suspended pause) h reads = tt
+  reads_as F NoMemory h reads = tt
 
-module _ (volume : Type 0) (found found' : Settled → Type 0) (f : (s : Settled) → found' s → found s) (says : Bool) (o o' : Outcome) (is : volume → o' ≡ o) (bytes : List ℕ) where
-  pub log_from : (kind : Kind) → IsLog volume found' says o' kind bytes → IsLog volume found says o kind bytes
-  log_from Done log = (log.0, (f log.0 log.1.0, log.1.1))
-  log_from Listed log = λ v. sym (is v) ∙ log v
-  log_from (Recovered settled) log = (log.0, (f log.0 log.1.0, log.1.1))
-  log_from (Refused cause) log = (log.0, (refusal_as found found' f cause log.0 log.1.0, log.1.1))
-  log_from (Suspended pause) log = (log.0, (f log.0 log.1.0, log.1.1))
-  log_from NoMemory log = (log.0, (⊎_elim (λ x. inl (f log.0 x)) (λ x. inr x) log.1.0, log.1.1))
+  -- ---- causes: n is an earlier count than k
+
+  met_as : (fell source_fails : Type 0) (cause : Cause) → Met told out' fell source_fails cause → Met told out fell source_fails cause
+  met_as fell source_fails VolumeFault met = met
+  met_as fell source_fails SourceFault met = met
+  met_as fell source_fails (Table fault) met = λ t. refused_as out out' (is (of_told t)) (Table fault) (met t)
+  met_as fell source_fails (Launch text) met = λ t. refused_as out out' (is (of_told t)) (Launch text) (met t)
+  met_as fell source_fails (ErrorAction action text) met = λ t. refused_as out out' (is (of_told t)) (ErrorAction action text) (met t)
+  met_as fell source_fails other met = absurd met
+
+  met_at_as : (fell source_fails : Type 0) (place : Place) (why : Option Cause) → MetAt place told out' fell source_fails why → MetAt place told out fell source_fails why
+  met_at_as fell source_fails InRollback (Some cause) met = met_as fell source_fails cause met
+  met_at_as fell source_fails InRollback None met = absurd met
+  met_at_as fell source_fails InCommit why met = (met.0, met.1, λ t. done_as out out' (is (of_told t)) (met.2 t))
+
+  module _ (n k m : ℕ) (le : n ≤ k) (fails fails' source_fails : Type 0) (rises : fails' → fails) where
+    refusal_as : (cause : Cause) → CausedRefusal volume told out' fails' source_fails cause → CausedRefusal volume told out fails source_fails cause
+    refusal_as VolumeFault c = rises c
+    refusal_as SourceFault c = c
+    refusal_as (BadRollback name) c = λ v. refused_as out out' (is v) (BadRollback name) (c v)
+    refusal_as (RecoveryFull name) c = λ v. refused_as out out' (is v) (RecoveryFull name) (c v)
+    refusal_as (BadImage name) c = λ v. refused_as out out' (is v) (BadImage name) (c v)
+    refusal_as other c = λ t. refused_as out out' (is (of_told t)) other (c t)
+
+    pub caused_as : (kind : Kind) → Caused k m volume told out' fails' source_fails kind → Caused n m volume told out fails source_fails kind
+    caused_as Done c = λ t. done_as out out' (is (of_told t)) (c t)
+    caused_as Listed c = λ v. ((c v).0, sym (ap (λ (x : Outcome). x.end) (is v)) ∙ (c v).1)
+    caused_as (Recovered settled) c = λ v. sym (ap (λ (x : Outcome). x.end) (is v)) ∙ c v
+    caused_as (Refused cause) c = refusal_as cause c
+    caused_as (Suspended pause) c = record {
+      entry = omega (arith, le, c.entry);
+      between = c.between;
+      exit = c.exit;
+      rose = c.rose;
+      met = met_at_as (BelowCount pause.begun pause.again) source_fails pause.place pause.why c.met;
+    }
+    caused_as NoMemory c = tt
+
+  pub full_as : (s t : State) (kind : Kind) → t.capacity ≡ s.capacity → MeetsFull told t out' kind → MeetsFull told s out kind
+  full_as s t kind same full = record {
+    limited = subst (λ (c : Option ℕ). IsSome c) same full.limited;
+    writes = λ x. done_as out out' (is (of_told x)) (full.writes x);
+    is = full.is;
+  }
+
+  pub suspends_as : (kind : Kind) → Suspends told out' kind → Suspends told out kind
+  suspends_as Done s = tt
+  suspends_as Listed s = tt
+  suspends_as (Recovered settled) s = tt
+  suspends_as (Refused cause) s = tt
+  suspends_as (Suspended pause) s = (s.0, λ t. done_as out out' (is (of_told t)) (s.1 t))
+  suspends_as NoMemory s = tt
+
+  -- ---- the log
+
+  module _ (found found' : Settled → Type 0) (f : (s : Settled) → found' s → found s) (says : Bool) where
+    told_refusal : (cause : Cause) (s : Settled) → Tells found' (Refused cause) s → Tells found (Refused cause) s
+    told_refusal (BadWords place) s tells = tells
+    told_refusal (BadRollback name) s tells = tells
+    told_refusal (RecoveryFull name) s tells = tells
+    told_refusal VolumeFault s tells = ⊎_elim (λ x. inl (f s x)) (λ x. inr x) tells
+    told_refusal other s tells = f s tells
+
+    tells_as : (kind : Kind) (s : Settled) → Tells found' kind s → Tells found kind s
+    tells_as Done s tells = f s tells
+    tells_as Listed s tells = f s tells
+    tells_as (Recovered settled) s tells = f s tells
+    tells_as (Refused cause) s tells = told_refusal cause s tells
+    tells_as (Suspended pause) s tells = f s tells
+    tells_as NoMemory s tells = f s tells
+
+    report_as : (kind : Kind) (log : List ℕ) → IsReport told found' says out' kind 0 log → IsReport told found says out kind 0 log
+    report_as kind log r = record {
+      settled = r.settled;
+      begun = r.begun;
+      tells = tells_as kind r.settled r.tells;
+      begins = λ t. r.begins t ∙ ap (λ (x : Outcome). x.begun) (is (of_told t));
+      is = r.is;
+    }
+
+    log_as : (kind : Kind) (log : List ℕ) → IsLog volume told found' says out' kind 0 log → IsLog volume told found says out kind 0 log
+    log_as Done log l = report_as Done log l
+    log_as Listed log l = λ v. sym (ap (λ (x : Outcome). x.end) (is v)) ∙ l v
+    log_as (Recovered settled) log l = report_as (Recovered settled) log l
+    log_as (Refused cause) log l = report_as (Refused cause) log l
+    log_as (Suspended pause) log l = report_as (Suspended pause) log l
+    log_as NoMemory log l = report_as NoMemory log l
+
+    pub says_as : (kind : Kind) (bytes : List ℕ) → Says (IsLog volume told found' says out' kind 0) kind bytes → Says (IsLog volume told found says out kind 0) kind bytes
+    says_as kind bytes s = record { log = s.log; is = log_as kind s.log s.is; whole = s.whole; front = s.front }
 
 -- ---- what is left
 
@@ -74,25 +162,33 @@ cleans_from s t u pass (Recovered settled) c = c
 cleans_from s t u pass (Refused (BadWords place)) c = c
 cleans_from s t u pass (Refused VolumeFault) c = c
 cleans_from s t u pass (Refused (BadRollback name)) c = c
+cleans_from s t u pass (Refused (RecoveryFull name)) c = c
 cleans_from s t u pass (Refused other) c = free_then s t u pass c
 cleans_from s t u pass (Suspended pause) c = c
 cleans_from s t u pass NoMemory c = c
 
--- before a run that goes on from t the volume was only read
-ends_from : (s t u : State) (A : Map) (kind : Kind) → IsFree s → Looks s t → Passes t u → Ends t.faults t u t.held A kind → Ends s.faults s u s.held A kind
-ends_from s t u A kind free looks pass ends =
-    then_ends s.faults t.faults s t u s.held A kind looks.moments.faults pass.faults (looks_go s t free looks)
-    (subst (λ (F : Map). Ends t.faults t u F A kind) looks.stays.held ends)
+-- what licenses the answer of the rest licenses that of the whole
+pub licensed_from : (volume told : Type 0) (s t u : State) (out out' : Outcome) (source_fails : Type 0) → (told → volume) → (volume → out' ≡ out) → Passes s t → Passes t u → (kind : Kind)
+    → MeetsFull told t out' kind ⊎ Caused t.faults u.faults volume told out' (Rose t u) source_fails kind → MeetsFull told s out kind ⊎ Caused s.faults u.faults volume told out (Rose s u) source_fails kind
+licensed_from volume told s t u out out' source_fails of_told is pass then kind = ⊎_elim
+    (λ full. inl (full_as volume told out out' of_told is s t kind pass.capacity full))
+    (λ c. inr (caused_as volume told out out' of_told is s.faults t.faults u.faults pass.faults (Rose s u) (Rose t u) source_fails (rose_before s t u pass) kind c))
 
-module _ (volume source : Type 0) (s t u : State) (o o' : Outcome) (command : Command) (found : Settled → Type 0) (source_fails : Type 0) where
-  pub serves_from : (kind : Kind) (bytes : List ℕ) → (volume → IsFree s) → (volume → Looks s t) → Passes s t → Passes t u → (volume → o' ≡ o) → Serves volume source t u o' command found source_fails kind bytes → Serves volume source s u o command found source_fails kind bytes
+-- before a run that goes on from t the volume was only read
+module _ (volume told : Type 0) (s t u : State) (out out' : Outcome) (command : Command) (found : Settled → Type 0) (source_fails : Type 0) (of_told : told → volume) where
+  pub serves_from : (kind : Kind) (bytes : List ℕ) → (volume → IsFree s) → (volume → Looks s t) → Passes s t → Passes t u → (volume → out' ≡ out) → Serves volume told t u out' command found source_fails kind bytes → Serves volume told s u out command found source_fails kind bytes
   serves_from kind bytes free looks pass then is serves = record {
-    ends = λ v src.
-        subst (λ (A : Map). Ends s.faults s u s.held A kind) (ap (map_after s.held) (is v))
-        (ends_from s t u (map_after s.held o') kind (free v) (looks v) then
-        (subst (λ (F : Map). Ends t.faults t u t.held (map_after F o') kind) (looks v).stays.held (serves.ends v src)));
+    stops = λ v.
+        joined s t u (MayStand told s.held out (BelowCount s.faults u.faults) kind)
+        (weaker s t (StandsFor s.held) (MayStand told s.held out (BelowCount s.faults u.faults) kind) (λ d standing. inl standing) (looks_go s t (free v) (looks v)))
+        (weaker t u (MayStand told s.held out' (BelowCount t.faults u.faults) kind) (MayStand told s.held out (BelowCount s.faults u.faults) kind)
+        (λ d. may_stand_as volume told out out' of_told is s.held (BelowCount s.faults u.faults) (BelowCount t.faults u.faults) kind d (below_before s.faults t.faults u.faults pass.faults then.faults))
+        (subst (λ (F : Map). GoesOn t u (MayStand told F out' (BelowCount t.faults u.faults) kind)) (looks v).stays.held (serves.stops v)));
+    leaves = λ v d image. exit_as volume told out out' of_told is s.held kind d (subst (λ (F : Map). Each u (AtExit told F out' kind)) (looks v).stays.held (serves.leaves v) d image);
+    reads = λ v. reads_as volume told out out' of_told is s.held kind u.held (subst (λ (F : Map). SettledReads told F out' kind u.held) (looks v).stays.held (serves.reads v));
     cleans = λ v. cleans_from s t u pass kind (serves.cleans v);
-    caused = caused_from volume source o o' is (Fails s u) (Fails t u) source_fails (MayPause s u) (MayPause t u) (fails_before s t u pass) (pauses_before s t u pass) kind serves.caused;
+    caused = licensed_from volume told s t u out out' source_fails of_told is pass then kind serves.caused;
+    suspends = suspends_as volume told out out' of_told is kind serves.suspends;
     answers = serves.answers;
-    log = log_from volume found found (λ s is. is) (walks (Ok command)) o o' is bytes kind serves.log;
+    log = says_as volume told out out' of_told is found found (λ x found_is. found_is) (walks (Ok command)) kind bytes serves.log;
   }

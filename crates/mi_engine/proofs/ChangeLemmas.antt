@@ -304,3 +304,23 @@ laid-push (x ∷ es) e m = laid-push es e (insert m x.0 x.1)
 pub nothing_changes : (rows : List Row) (held : Map (List ℕ)) (es : List (Name × List ℕ)) → es ≡ changes_of held (entries (planned rows held)) → true ≡ (length es == 0) → held ≡ after rows held
 nothing_changes rows held [] is none = sym (laid_none held) ∙ laid_after rows held [] is
 nothing_changes rows held (e ∷ es) is none = absurd (omega (arith, eqb-true (length (e ∷ es)) 0 (sym none)))
+
+-- ---- and where they leave it as it is, no name changes
+
+get_planned_after : (rows : List Row) (held : Map (List ℕ)) (q : Name) (bytes : List ℕ) → get (planned rows held) q ≡ Some bytes → get (after rows held) q ≡ Some bytes
+get_planned_after rows held q bytes is =
+    sym (ap (λ (m : Map (List ℕ)). get m q) (after_overlay rows held (laid (changes_of held (entries (planned rows held))) held) (changes_overlay (planned rows held) held)))
+    ∙ changes_overlay (planned rows held) held q ∙ ap (λ o. or_else o (get held q)) is
+
+none_changes : (held : Map (List ℕ)) (plan : Map (List ℕ)) → ((q : Name) (bytes : List ℕ) → get plan q ≡ Some bytes → get held q ≡ Some bytes) → (es : List (Name × List ℕ)) → AreOf plan es → changes_of held es ≡ []
+none_changes held plan holding [] all = refl
+none_changes held plan holding (e ∷ es) all =
+    ap (λ b. cond (not b) (e ∷ changes_of held es) (changes_of held es)) (ap (λ (o : Option (List ℕ)). holds o e.1) (holding e.0 e.1 all.0) ∙ equal_held e.1 e.1 refl)
+    ∙ none_changes held plan holding es all.1
+
+pub no_change : (rows : List Row) (held : Map (List ℕ)) (es : List (Name × List ℕ)) → es ≡ changes_of held (entries (planned rows held)) → after rows held ≡ held → es ≡ []
+no_change rows held es is stays =
+    is ∙ none_changes held (planned rows held) (λ q bytes planned_is. sym (ap (λ (m : Map (List ℕ)). get m q) stays) ∙ get_planned_after rows held q bytes planned_is) (entries (planned rows held)) (entries_of (planned rows held))
+
+pub changes_clash : (es : List (Name × List ℕ)) → es ≡ [] → false ≡ (length es == 0) → ⊥
+changes_clash es none some = let clash : false ≡ true = some ∙ ap (λ (l : List (Name × List ℕ)). length l == 0) none in cc

@@ -1,5 +1,5 @@
 -- What each exit of a run that writes leaves.
-use Rattle.std.proofs.Common.{◌≡◌, inl, inr, ⊎_elim, ℕ, ◌≤◌, ◌<◌, true, false, List, Option, None, Result, Ok, Err, OnOk, cond, not, refl, sym, ap, subst, ◌∙◌, arith}
+use Rattle.std.proofs.Common.{◌≡◌, inl, inr, ⊎_elim, ℕ, ◌≤◌, ◌<◌, true, false, List, None, Result, Ok, Err, OnOk, cond, not, refl, sym, ap, subst, ◌∙◌, arith}
 use Rattle.std.specs.FinMap.{get}
 use Rattle.mi_text.proofs.MapLemmas.{same}
 use Rattle.mi_volume.specs.Maps.{Map}
@@ -14,17 +14,17 @@ use Rattle.mi_undo.specs.declared.fault.CommitFault.{CommitFault}
 use Rattle.mi_undo.specs.declared.fault.CommitFault.TheVariants as commit
 use Rattle.mi_undo.proofs.StandsLemmas.{get-outside, stands_unmarked}
 use Rattle.mi_undo.proofs.NoteLemmas.{shut_gate}
-use Rattle.mi_base.specs.declared.answers.Cause.{Cause}
 use Rattle.mi_base.specs.declared.answers.Cause.TheVariants.{VolumeFault}
-use Rattle.mi_base.specs.declared.answers.Place.{Place}
-use Rattle.mi_base.specs.declared.answers.Place.TheVariants.{InRollback, InCommit}
 use Rattle.mi_base.specs.declared.answers.Kind.{Kind}
 use Rattle.mi_base.specs.declared.answers.Kind.TheVariants as kind
 use Rattle.mi_engine.specs.declared.stop.Stop.{Stop}
 use Rattle.mi_engine.specs.declared.stop.Stop.TheVariants.{NoMemory, Refuse}
 use Rattle.mi_engine.specs.Calls.{IsVolumeStop}
 use Rattle.mi_engine.specs.Looks.{Looks}
-use Rattle.mi_engine.specs.Ends.{BelowCount, MayCommit, Allowed, AtExit, Reads, Ends, Paused, WriteCaused}
+use Rattle.mi_base.specs.declared.answers.Pause.{Pause}
+use Rattle.mi_model.specs.Causes.{BelowCount}
+use Rattle.mi_model.specs.Leaves.{MayCommit}
+use Rattle.mi_engine.specs.Ends.{Allowed, AtExit, Reads, Ends, WritePaused, WriteCaused}
 use Rattle.mi_engine.specs.Falls.{Falls, AnswersStop, ReadsBack, gone, stuck, unknown}
 
 -- ---- counts
@@ -39,19 +39,18 @@ rose_still n s t u le more last rose = λ under. grind (arith, le, last, under, 
 pub below_before : (n k m : ℕ) → n ≤ k → k ≤ m → BelowCount k m → BelowCount n m
 below_before n k m le more below = λ under. grind (arith, le, more, under, below)
 
-pub paused_before : (n k m : ℕ) (place : Place) (begun again : ℕ) (why : Option Cause) → n ≤ k → Paused k m place begun again why → Paused n m place begun again why
-paused_before n k m InRollback begun again why le p = record { entry = omega (arith, le, p.entry); between = p.between; exit = p.exit; rose = p.rose; met = p.met; fell = p.fell }
-paused_before n k m InCommit begun again why le p = record { entry = omega (arith, le, p.entry); between = p.between; exit = p.exit; rose = p.rose; met = p.met; fell = p.fell }
+pub paused_before : (room : Type 0) (n k m : ℕ) (pause : Pause) → n ≤ k → WritePaused room k m pause → WritePaused room n m pause
+paused_before room n k m pause le p = record { entry = omega (arith, le, p.entry); between = p.between; exit = p.exit; met = p.met; rose = p.rose; fell = p.fell }
 
--- a count from before
-pub caused_before : (n k m : ℕ) (answer : Kind) → n ≤ k → k ≤ m → WriteCaused k m answer → WriteCaused n m answer
-caused_before n k m kind.Done le more c = tt
-caused_before n k m kind.Listed le more c = absurd c
-caused_before n k m (kind.Recovered settled) le more c = absurd c
-caused_before n k m (kind.Refused VolumeFault) le more c = below_before n k m le more c
-caused_before n k m (kind.Refused other) le more c = absurd c
-caused_before n k m (kind.Suspended pause) le more c = paused_before n k m pause.place pause.begun pause.again pause.why le c
-caused_before n k m kind.NoMemory le more c = tt
+-- a count from before, and room that is the same
+pub caused_before : (room : Type 0) (n k m : ℕ) (answer : Kind) → n ≤ k → k ≤ m → WriteCaused room k m answer → WriteCaused room n m answer
+caused_before room n k m kind.Done le more c = tt
+caused_before room n k m kind.Listed le more c = absurd c
+caused_before room n k m (kind.Recovered settled) le more c = absurd c
+caused_before room n k m (kind.Refused VolumeFault) le more c = λ r. below_before n k m le more (c r)
+caused_before room n k m (kind.Refused other) le more c = absurd c
+caused_before room n k m (kind.Suspended pause) le more c = paused_before room n k m pause le c
+caused_before room n k m kind.NoMemory le more c = tt
 
 -- ---- what was done before the rest of a run
 
@@ -127,10 +126,10 @@ gone_ends NoMemory n s t F A go leaves reads = fallen_at n s t F A (StandsFor F)
 gone_ends (Refuse cause) n s t F A go leaves reads = fallen_at n s t F A (StandsFor F) (kind.Refused cause) (λ d is. inl is) (λ d is. is) reads go leaves
 
 -- a stop of a step over a volume
-pub gone_caused : (n m : ℕ) (why : Stop) → IsVolumeStop (BelowCount n m) why → WriteCaused n m (gone why)
-gone_caused n m NoMemory is = tt
-gone_caused n m (Refuse VolumeFault) is = is
-gone_caused n m (Refuse other) is = absurd is
+pub gone_caused : (room : Type 0) (n m : ℕ) (why : Stop) → IsVolumeStop (room → BelowCount n m) why → WriteCaused room n m (gone why)
+gone_caused room n m NoMemory is = tt
+gone_caused room n m (Refuse VolumeFault) is = is
+gone_caused room n m (Refuse other) is = absurd is
 
 -- ---- the commit
 

@@ -10,10 +10,10 @@ use Rattle.mi_base.specs.declared.answers.Cause.TheVariants.{VolumeFault}
 use Rattle.mi_engine.specs.declared.stop.Stop.{Stop}
 use Rattle.mi_engine.specs.declared.stop.Stop.TheVariants.{NoMemory, Refuse}
 use Rattle.mi_engine.specs.Calls.{IsVolumeStop}
-use Rattle.mi_engine.specs.Ends.{BelowCount, WriteCaused, IsWriteKind}
+use Rattle.mi_model.specs.Causes.{BelowCount}
+use Rattle.mi_engine.specs.Ends.{WriteCaused, IsWriteKind}
 use Rattle.mi_engine.specs.Falls.{Falls, AnswersStop, fell, gone, stuck}
 use Rattle.mi_engine.proofs.EndLemmas.{raised}
-use Rattle.mi_engine.proofs.PlanLemmas.{volume_stop}
 
 pub answers : {T : Type 0} (r : Result T BackFault) (why : Stop) (begun again : ℕ) → AnswersStop why begun again (fell r why begun again)
 answers (Ok x) why begun again = inl refl
@@ -55,22 +55,22 @@ fell_kind rose (Err back.Full) why begun again is = stuck_kind why begun again
 
 -- ---- causes: n is the count when the run began to write, a when going back begins, m at the exit
 
-later_gone : (n a m : ℕ) (why : Stop) → n ≤ a → a ≤ m → IsVolumeStop (BelowCount n a) why → WriteCaused n m (gone why)
-later_gone n a m NoMemory le more is = tt
-later_gone n a m (Refuse VolumeFault) le more is = λ under. grind (arith, le, more, under, is)
-later_gone n a m (Refuse other) le more is = absurd is
+later_gone : (room : Type 0) (n a m : ℕ) (why : Stop) → n ≤ a → a ≤ m → IsVolumeStop (room → BelowCount n a) why → WriteCaused room n m (gone why)
+later_gone room n a m NoMemory le more is = tt
+later_gone room n a m (Refuse VolumeFault) le more is = λ r under. let below = is r in grind (arith, le, more, under, below)
+later_gone room n a m (Refuse other) le more is = absurd is
 
-later_stuck : (n a m : ℕ) (why : Stop) → n ≤ a → a ≤ m → IsVolumeStop (BelowCount n a) why → BelowCount a m → WriteCaused n m (stuck why n a)
-later_stuck n a m NoMemory le more is rose = tt
-later_stuck n a m (Refuse VolumeFault) le more is rose = record { entry = omega arith; between = le; exit = more; rose = rose; met = refl; fell = is }
-later_stuck n a m (Refuse other) le more is rose = absurd is
+later_stuck : (room : Type 0) (n a m : ℕ) (why : Stop) → n ≤ a → a ≤ m → IsVolumeStop (room → BelowCount n a) why → (room → BelowCount a m) → WriteCaused room n m (stuck why n a)
+later_stuck room n a m NoMemory le more is rose = tt
+later_stuck room n a m (Refuse VolumeFault) le more is rose = record { entry = omega arith; between = le; exit = more; met = refl; rose = rose; fell = is }
+later_stuck room n a m (Refuse other) le more is rose = absurd is
 
-pub fell_caused : {T told : Type 0} (r : Result T BackFault) (why : Stop) (n : ℕ) (s t : State) → n ≤ s.faults → s.faults ≤ t.faults → IsVolumeStop (IsNone s.capacity → BelowCount n s.faults) why → IsNone s.capacity
-    → (IsErrOf r back.Fault → Rose s t) → (IsErrOf r back.Full → told × IsSome s.capacity) → WriteCaused n t.faults (fell r why n s.faults)
-fell_caused (Ok x) why n s t le more is none fault full = later_gone n s.faults t.faults why le more (volume_stop _ _ why (λ rose. rose none) is)
-fell_caused (Err back.NoMemory) why n s t le more is none fault full = tt
-fell_caused (Err back.Fault) why n s t le more is none fault full = later_stuck n s.faults t.faults why le more (volume_stop _ _ why (λ rose. rose none) is) (raised s t more (fault refl))
-fell_caused (Err back.Full) why n s t le more is none fault full = absurd (not_both s.capacity none (full refl).1)
+pub fell_caused : {T told : Type 0} (r : Result T BackFault) (why : Stop) (n : ℕ) (s t : State) → n ≤ s.faults → s.faults ≤ t.faults → IsVolumeStop (IsNone s.capacity → BelowCount n s.faults) why
+    → (IsErrOf r back.Fault → Rose s t) → (IsErrOf r back.Full → told × IsSome s.capacity) → WriteCaused (IsNone s.capacity) n t.faults (fell r why n s.faults)
+fell_caused (Ok x) why n s t le more is fault full = later_gone (IsNone s.capacity) n s.faults t.faults why le more is
+fell_caused (Err back.NoMemory) why n s t le more is fault full = tt
+fell_caused (Err back.Fault) why n s t le more is fault full = later_stuck (IsNone s.capacity) n s.faults t.faults why le more is (λ none. raised s t more (fault refl))
+fell_caused (Err back.Full) why n s t le more is fault full = later_stuck (IsNone s.capacity) n s.faults t.faults why le more is (λ none. absurd (not_both s.capacity none (full refl).1))
   where
     not_both : (o : Option ℕ) → IsNone o → IsSome o → ⊥
     not_both None a b = cc

@@ -6,6 +6,7 @@ mod EntryLemmas
 mod FallLemmas
 mod LoadLemmas
 mod LookLemmas
+mod MachineLemmas
 mod PieceLemmas
 mod PlanLemmas
 mod QuietLemmas

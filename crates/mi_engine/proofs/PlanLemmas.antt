@@ -36,7 +36,7 @@ or_else_none : {X : Type 0} (a : Option X) → or_else a None ≡ a
 or_else_none None = refl
 or_else_none (Some x) = refl
 
-under-append : {X : Type 0} (q : Name) (xs ys : List (Name × X)) → first_under q (xs ++ ys) ≡ or_else (first_under q xs) (first_under q ys)
+pub under-append : {X : Type 0} (q : Name) (xs ys : List (Name × X)) → first_under q (xs ++ ys) ≡ or_else (first_under q xs) (first_under q ys)
 under-append q [] ys = refl
 under-append q (e ∷ xs) ys =
     elim (same_name q e.0) as (λ b. cond b (Some e.1) (first_under q (xs ++ ys)) ≡ or_else (cond b (Some e.1) (first_under q xs)) (first_under q ys)) [ true ↦ refl | false ↦ under-append q xs ys ]

@@ -1,23 +1,26 @@
 -- Answers of a run that wrote nothing to its settled volume.
-use Rattle.std.proofs.Common.{◌≡◌, ◌⊎◌, inl, inr, ⊎_elim, ℕ, List, Ok, refl, sym, subst}
+use Rattle.std.proofs.Common.{◌≡◌, ◌⊎◌, inl, inr, ⊎_elim, ℕ, Bool, List, Ok, refl, sym, subst, ◌∙◌}
+use Rattle.std.proofs.Math.Seq.{take-length}
+use Rattle.std.specs.Prelude.{length}
 use Rattle.mi_text.specs.declared.answers.Settled.{Settled}
-use Rattle.mi_text.specs.declared.answers.Settled.TheVariants.{Clean}
 use Rattle.mi_volume.specs.Maps.{Map}
-use Rattle.mi_volume.specs.State.{State}
+use Rattle.mi_volume.specs.State.{State, Rose}
 use Rattle.mi_volume.proofs.Moments.{weaker}
 use Rattle.mi_undo.specs.Stands.{StandsFor, outside}
 use Rattle.mi_undo.specs.Keeps.{IsFree}
-use Rattle.mi_base.specs.declared.answers.Cause.TheVariants.{BadWords, VolumeFault, BadRollback}
+use Rattle.mi_base.specs.declared.answers.Cause.TheVariants.{BadWords, VolumeFault, BadRollback, RecoveryFull}
 use Rattle.mi_base.specs.declared.answers.Kind.{Kind}
 use Rattle.mi_base.specs.declared.answers.Kind.TheVariants.{Done, Listed, Recovered, Refused, Suspended, NoMemory}
-use Rattle.mi_model.specs.PlainWords.{Command, Install, Products, Recover}
-use Rattle.mi_model.specs.PlainOutcome.{Outcome, map_after}
-use Rattle.mi_engine.specs.Calls.{Fails}
-use Rattle.mi_engine.specs.Ends.{BelowCount, Allowed, AtExit, Reads, Ends}
-use Rattle.mi_engine.specs.Answers.{AnswersCommand, Caused, MayPause, Cleans, walks, log_of, IsLog}
+use Rattle.mi_model.specs.Causes.{BelowCount, AnswersCommand, Caused}
+use Rattle.mi_model.specs.Leaves.{MayStand, AtExit, Cleans}
+use Rattle.mi_model.specs.Logs.{IsLog}
+use Rattle.mi_model.specs.PackageOutcome.{Outcome}
+use Rattle.mi_model.specs.Words.{Command, Package, Selftest, Clients, Products, Recover, walks}
+use Rattle.mi_engine.specs.Answers.{Suspends}
 use Rattle.mi_engine.specs.declared.reply.Reply.{Reply}
+use Rattle.mi_engine.specs.Ends as ends
 use Rattle.mi_engine.specs.Looks.{Looks}
-use Rattle.mi_engine.specs.Replies.{log_in, Serves}
+use Rattle.mi_engine.specs.Replies.{log_in, log_of, IsFront, Says, SettledReads, Serves}
 use Rattle.mi_engine.proofs.EndLemmas.{free_looks, looks_go, looks_leave, looks_read}
 
 -- an answer behind which the volume is as it was
@@ -31,28 +34,21 @@ IsQuiet NoMemory = Unit {0}
 
 -- ---- the end of such a run
 
-at_exit : (F A : Map) (kind : Kind) → IsQuiet kind → (d : Map) → StandsFor F d → AtExit F A kind d
-at_exit F A Done quiet d is = absurd quiet
-at_exit F A Listed quiet d is = is
-at_exit F A (Recovered settled) quiet d is = is
-at_exit F A (Refused cause) quiet d is = is
-at_exit F A (Suspended pause) quiet d is = absurd quiet
-at_exit F A NoMemory quiet d is = is
+at_exit : (told : Type 0) (F : Map) (out : Outcome) (kind : Kind) → IsQuiet kind → (d : Map) → StandsFor F d → AtExit told F out kind d
+at_exit told F out Done quiet d is = absurd quiet
+at_exit told F out Listed quiet d is = is
+at_exit told F out (Recovered settled) quiet d is = is
+at_exit told F out (Refused cause) quiet d is = is
+at_exit told F out (Suspended pause) quiet d is = absurd quiet
+at_exit told F out NoMemory quiet d is = is
 
-quiet_reads : (F A : Map) (kind : Kind) → IsQuiet kind → (m : Map) → m ≡ F → Reads F A kind m
-quiet_reads F A Done quiet m is = absurd quiet
-quiet_reads F A Listed quiet m is = is
-quiet_reads F A (Recovered settled) quiet m is = is
-quiet_reads F A (Refused cause) quiet m is = is
-quiet_reads F A (Suspended pause) quiet m is = absurd quiet
-quiet_reads F A NoMemory quiet m is = tt
-
-pub quiet_ends : (s t : State) (A : Map) (kind : Kind) → IsQuiet kind → IsFree s → Looks s t → Ends s.faults s t s.held A kind
-quiet_ends s t A kind quiet free looks = record {
-  stops = weaker s t (StandsFor s.held) (Allowed s.held A (BelowCount s.faults t.faults) kind) (λ d is. inl is) (looks_go s t free looks);
-  leaves = λ d image. at_exit s.held A kind quiet d (looks_leave s t free looks d image);
-  reads = quiet_reads s.held A kind quiet (outside t.held) (looks_read s t free looks);
-}
+quiet_reads : (told : Type 0) (F : Map) (out : Outcome) (kind : Kind) → IsQuiet kind → (h : Map) → outside h ≡ F → SettledReads told F out kind h
+quiet_reads told F out Done quiet h is = absurd quiet
+quiet_reads told F out Listed quiet h is = is
+quiet_reads told F out (Recovered settled) quiet h is = is
+quiet_reads told F out (Refused cause) quiet h is = is
+quiet_reads told F out (Suspended pause) quiet h is = absurd quiet
+quiet_reads told F out NoMemory quiet h is = tt
 
 pub quiet_cleans : (s t : State) (kind : Kind) → IsQuiet kind → IsFree t → Cleans s t kind
 quiet_cleans s t Done quiet free = absurd quiet
@@ -61,33 +57,84 @@ quiet_cleans s t (Recovered settled) quiet free = free
 quiet_cleans s t (Refused (BadWords place)) quiet free = tt
 quiet_cleans s t (Refused VolumeFault) quiet free = tt
 quiet_cleans s t (Refused (BadRollback name)) quiet free = tt
+quiet_cleans s t (Refused (RecoveryFull name)) quiet free = tt
 quiet_cleans s t (Refused other) quiet free = inl free
 quiet_cleans s t (Suspended pause) quiet free = absurd quiet
 quiet_cleans s t NoMemory quiet free = tt
 
+quiet_suspends : (told : Type 0) (out : Outcome) (kind : Kind) → IsQuiet kind → Suspends told out kind
+quiet_suspends told out Done quiet = tt
+quiet_suspends told out Listed quiet = tt
+quiet_suspends told out (Recovered settled) quiet = tt
+quiet_suspends told out (Refused cause) quiet = tt
+quiet_suspends told out (Suspended pause) quiet = absurd quiet
+quiet_suspends told out NoMemory quiet = tt
+
 pub answers_memory : (command : Command) → AnswersCommand command NoMemory
-answers_memory (Install folder) = tt
+answers_memory (Package recorded folder words) = tt
+answers_memory (Selftest files words) = tt
+answers_memory Clients = tt
 answers_memory Products = tt
 answers_memory Recover = tt
 
-module _ (volume source : Type 0) (s t : State) (o : Outcome) (command : Command) (found : Settled → Type 0) (source_fails : Type 0) (free : volume → IsFree s) (looks : volume → Looks s t) where
-  pub quiet_serves : (kind : Kind) (bytes : List ℕ) → IsQuiet kind → Caused volume source o (Fails s t) source_fails (MayPause s t) kind → AnswersCommand command kind → IsLog volume found (walks (Ok command)) o kind bytes → Serves volume source s t o command found source_fails kind bytes
+-- what is left by a run that writes and ends so
+ends_exit : (F A : Map) (kind : Kind) → IsQuiet kind → (d : Map) → StandsFor F d → ends.AtExit F A kind d
+ends_exit F A Done quiet d is = absurd quiet
+ends_exit F A Listed quiet d is = is
+ends_exit F A (Recovered settled) quiet d is = is
+ends_exit F A (Refused cause) quiet d is = is
+ends_exit F A (Suspended pause) quiet d is = absurd quiet
+ends_exit F A NoMemory quiet d is = is
+
+ends_reads : (F A : Map) (kind : Kind) → IsQuiet kind → (m : Map) → m ≡ F → ends.Reads F A kind m
+ends_reads F A Done quiet m is = absurd quiet
+ends_reads F A Listed quiet m is = is
+ends_reads F A (Recovered settled) quiet m is = is
+ends_reads F A (Refused cause) quiet m is = is
+ends_reads F A (Suspended pause) quiet m is = absurd quiet
+ends_reads F A NoMemory quiet m is = tt
+
+pub quiet_ends : (s t : State) (A : Map) (kind : Kind) → IsQuiet kind → IsFree s → Looks s t → ends.Ends s.faults s t s.held A kind
+quiet_ends s t A kind quiet free looks = record {
+  stops = weaker s t (StandsFor s.held) (ends.Allowed s.held A (BelowCount s.faults t.faults) kind) (λ d is. inl is) (looks_go s t free looks);
+  leaves = λ d image. ends_exit s.held A kind quiet d (looks_leave s t free looks d image);
+  reads = ends_reads s.held A kind quiet (outside t.held) (looks_read s t free looks);
+}
+
+-- ---- logs
+
+-- a whole log
+pub says_whole : (is_log : List ℕ → Type 0) (kind : Kind) (bytes log : List ℕ) → bytes ≡ log → is_log log → Says is_log kind bytes
+says_whole is_log kind bytes log same is = record { log = log; is = is; whole = λ memory. same; front = (length log, same ∙ sym (take-length log)) }
+
+-- a front of one, where memory was wanted
+pub says_front : (is_log : List ℕ → Type 0) (bytes log : List ℕ) → IsFront log bytes → is_log log → Says is_log NoMemory bytes
+says_front is_log bytes log front is = record { log = log; is = is; whole = λ memory. absurd (memory refl); front = front }
+
+-- the log of want of memory, whatever settling found
+module _ (volume told : Type 0) (found : Settled → Type 0) (says : Bool) (out : Outcome) where
+  pub memory_log : (settled : Settled) → found settled → IsLog volume told found says out NoMemory 0 (log_of says settled NoMemory)
+  memory_log settled is = record { settled = settled; begun = out.begun; tells = is; begins = λ t. refl; is = refl }
+
+module _ (volume told : Type 0) (s t : State) (out : Outcome) (command : Command) (found : Settled → Type 0) (settled : Settled) (is_found : found settled) (source_fails : Type 0) (free : volume → IsFree s) (looks : volume → Looks s t) where
+  pub quiet_serves : (kind : Kind) (bytes : List ℕ) → IsQuiet kind → Caused s.faults t.faults volume told out (Rose s t) source_fails kind → AnswersCommand command kind → Says (IsLog volume told found (walks (Ok command)) out kind 0) kind bytes → Serves volume told s t out command found source_fails kind bytes
   quiet_serves kind bytes quiet caused answers log = record {
-    ends = λ v src. quiet_ends s t (map_after s.held o) kind quiet (free v) (looks v);
+    stops = λ v. weaker s t (StandsFor s.held) (MayStand told s.held out (BelowCount s.faults t.faults) kind) (λ d is. inl is) (looks_go s t (free v) (looks v));
+    leaves = λ v d image. at_exit told s.held out kind quiet d (looks_leave s t (free v) (looks v) d image);
+    reads = λ v. quiet_reads told s.held out kind quiet t.held (looks_read s t (free v) (looks v));
     cleans = λ v. quiet_cleans s t kind quiet (free_looks s t (free v) (looks v));
-    caused = caused;
+    caused = inr caused;
+    suspends = quiet_suspends told out kind quiet;
     answers = answers;
     log = log;
   }
 
-  -- this answer with its log, or want of memory
-  pub replied : (kind : Kind) (bytes : List ℕ) (r : Reply) → Serves volume source s t o command found source_fails kind bytes → ((r.kind ≡ kind) × (log_in r ≡ bytes)) ⊎ ((r.kind ≡ NoMemory) × (log_in r ≡ log_of (walks (Ok command)) Clean NoMemory)) → Serves volume source s t o command found source_fails r.kind (log_in r)
-  replied kind bytes r serves is = ⊎_elim (λ e. at r.kind (log_in r) kind bytes e.0 e.1 serves) (λ e. at r.kind (log_in r) NoMemory (log_of (walks (Ok command)) Clean NoMemory) e.0 e.1 memory) is
+  -- this answer with its log, or want of memory with a front of its own
+  pub replied : (kind : Kind) (log : List ℕ) (r : Reply) → IsQuiet kind → Caused s.faults t.faults volume told out (Rose s t) source_fails kind → AnswersCommand command kind → IsLog volume told found (walks (Ok command)) out kind 0 log → ((r.kind ≡ kind) × (log_in r ≡ log)) ⊎ ((r.kind ≡ NoMemory) × ((x : Settled) → IsFront (log_of (walks (Ok command)) x NoMemory) (log_in r))) → Serves volume told s t out command found source_fails r.kind (log_in r)
+  replied kind log r quiet caused answers is_log is = ⊎_elim
+      (λ e. at kind e.0 (quiet_serves kind (log_in r) quiet caused answers (says_whole (IsLog volume told found (walks (Ok command)) out kind 0) kind (log_in r) log e.1 is_log)))
+      (λ e. at NoMemory e.0 (quiet_serves NoMemory (log_in r) tt tt (answers_memory command) (says_front (IsLog volume told found (walks (Ok command)) out NoMemory 0) (log_in r) (log_of (walks (Ok command)) settled NoMemory) (e.1 settled) (memory_log volume told found (walks (Ok command)) out settled is_found))))
+      is
     where
-      at : (k : Kind) (b : List ℕ) (kind : Kind) (bytes : List ℕ) → k ≡ kind → b ≡ bytes → Serves volume source s t o command found source_fails kind bytes → Serves volume source s t o command found source_fails k b
-      at k b kind bytes is_kind is_log at_kind =
-          subst (λ (x : Kind). Serves volume source s t o command found source_fails x b) (sym is_kind)
-          (subst (λ (x : List ℕ). Serves volume source s t o command found source_fails kind x) (sym is_log) at_kind)
-
-      memory : Serves volume source s t o command found source_fails NoMemory (log_of (walks (Ok command)) Clean NoMemory)
-      memory = quiet_serves NoMemory (log_of (walks (Ok command)) Clean NoMemory) tt tt (answers_memory command) (Clean, (inr refl, refl))
+      at : (k : Kind) → r.kind ≡ k → Serves volume told s t out command found source_fails k (log_in r) → Serves volume told s t out command found source_fails r.kind (log_in r)
+      at k e = subst (λ (x : Kind). Serves volume told s t out command found source_fails x (log_in r)) (sym e)

@@ -1,6 +1,6 @@
 -- What a run leaves on any volume, by how it ends.
-use Rattle.std.proofs.Common.{◌≡◌, ◌⊎◌, inl, inr, ⊎_elim, ℕ, false, true, not, cond, List, Option, None, Result, Ok, Err, refl, sym, ap, subst, ◌∙◌, arith}
-use Rattle.std.specs.Prelude.{IsNone, IsSome}
+use Rattle.std.proofs.Common.{◌≡◌, ◌⊎◌, inl, inr, ⊎_elim, ℕ, false, not, cond, List, Option, Some, None, Result, Ok, Err, refl, sym, ap, subst, ◌∙◌}
+use Rattle.std.specs.Prelude.{IsErr}
 use Rattle.std.specs.FinMap.{get}
 use Rattle.mi_text.specs.declared.answers.Settled.{Settled}
 use Rattle.mi_text.specs.declared.answers.Settled.TheVariants.{Clean}
@@ -9,33 +9,40 @@ use Rattle.mi_volume.specs.Maps.{Map}
 use Rattle.mi_volume.specs.State.{State, GoesOn, Rose, Passes, NothingDirty}
 use Rattle.mi_volume.proofs.Moments.{started, weaker, joined}
 use Rattle.mi_source.specs.Paths.{Files}
-use Rattle.mi_source.specs.Counts as counts
+use Rattle.mi_schema.specs.Checks.{load_fault}
 use Rattle.mi_undo.specs.Names.{is_inside}
 use Rattle.mi_undo.specs.Notes.{Note, note_of}
-use Rattle.mi_undo.specs.Stands.{StandsFor, stands, settled, noted, outside}
+use Rattle.mi_undo.specs.Short.{IsShort}
+use Rattle.mi_undo.specs.Stands.{StandsFor, stands, back_by, settled, noted, outside}
 use Rattle.mi_undo.specs.Keeps.{Each}
 use Rattle.mi_undo.specs.Answers.{IfBad, IfFull}
 use Rattle.mi_undo.specs.declared.fault.UndoError.{UndoError}
 use Rattle.mi_undo.specs.declared.fault.UndoError.TheVariants as undo
 use Rattle.mi_undo.proofs.StandsLemmas.{get-outside, clean_same}
-use Rattle.mi_base.specs.Machine.{machine_of}
+use Rattle.mi_base.specs.Machine.{Machine, machine_of}
+use Rattle.mi_base.specs.declared.answers.Fault.{Fault}
 use Rattle.mi_base.specs.declared.answers.Cause.{Cause}
-use Rattle.mi_base.specs.declared.answers.Cause.TheVariants.{BadWords, VolumeFault, BadRollback, BadImage, SourceFault, Table}
-use Rattle.mi_base.specs.declared.answers.Place.{Place}
-use Rattle.mi_base.specs.declared.answers.Place.TheVariants.{InRollback, InCommit}
+use Rattle.mi_base.specs.declared.answers.Cause.TheVariants.{BadWords, VolumeFault, BadRollback, RecoveryFull}
 use Rattle.mi_base.specs.declared.answers.Kind.{Kind}
 use Rattle.mi_base.specs.declared.answers.Kind.TheVariants.{Done, Listed, Recovered, Refused, Suspended, NoMemory}
+use Rattle.mi_model.specs.Causes.{BelowCount, AnswersCommand, Caused}
+use Rattle.mi_model.specs.Leaves.{MayStand, AtExit, UnnotedStay, ReadsAfter, Cleans}
+use Rattle.mi_model.specs.Logs.{IsLog}
+use Rattle.mi_model.specs.Outcome.{Handed}
+use Rattle.mi_model.specs.PackageOutcome.{Outcome, only, of_loaded}
+use Rattle.mi_model.specs.PackageOutcome as o
+use Rattle.mi_model.specs.PlainOutcome.{of_package, of_command, of_machine, of_former, IsWithoutRoom, WordsComeTo}
+use Rattle.mi_model.specs.Selftest.{selftest_files}
+use Rattle.mi_model.specs.Texts.{Text}
+use Rattle.mi_model.specs.TopCall.{handed}
+use Rattle.mi_model.specs.Words.{Command, Package, Selftest, Clients, Products, Recover, walks}
 use Rattle.mi_engine.specs.declared.reply.Reply.{Reply}
-use Rattle.mi_model.specs.PlainWords.{Command, Install, Products, Recover, Installs}
-use Rattle.mi_model.specs.PlainOutcome.{Outcome, kind_of, map_after, of_machine, of_former, of_words}
-use Rattle.mi_model.specs.PlainOutcome as outcome
-use Rattle.mi_engine.specs.Calls.{Fails}
-use Rattle.mi_engine.specs.Ends.{BelowCount, Allowed, AtExit, Reads, Ends, Paused}
-use Rattle.mi_engine.specs.Answers.{IsBefore, AnswersCommand, AnswersWords, Caused, MayPause, Completes, SameCount, MayStand, UnnotedStay, ReadsAfter, Cleans, walks, log_of, IsLog}
-use Rattle.mi_engine.specs.Endings.{kind_unsettled}
-use Rattle.mi_engine.specs.Replies.{log_in, Replies, Serves, Runs}
-use Rattle.mi_engine.proofs.BeforeLemmas.{fails_before, pauses_before, caused_from, log_from, cleans_from}
-use Rattle.mi_engine.proofs.EndLemmas.{below_before, may_commit}
+use Rattle.mi_engine.specs.Answers.{IsTold, Suspends}
+use Rattle.mi_engine.specs.Endings.{RepliesUnsettled}
+use Rattle.mi_engine.specs.Replies.{log_in, log_of, IsFront, Replies, Says, SettledReads, Serves, IsUndecided, Leaves, Runs}
+use Rattle.mi_engine.proofs.BeforeLemmas.{may_stand_as, exit_as, reads_as, licensed_from, suspends_as, says_as, cleans_from}
+use Rattle.mi_engine.proofs.EndLemmas.{below_before}
+use Rattle.mi_engine.proofs.QuietLemmas.{says_whole, says_front, memory_log, answers_memory}
 
 pub ok_same : (r : Result Map Name) (F H : Map) → r ≡ Ok F → r ≡ Ok H → F ≡ H
 ok_same r F H is was = let both = sym is ∙ was in cc
@@ -48,64 +55,81 @@ get_outer h F is q out = sym (get-outside h q ∙ ap (λ b. cond (not b) (get h 
 
 -- ---- behind a settled volume
 
-reads_after : (d0 F A : Map) (command : Command) (kind : Kind) (h : Map) → Reads F A kind (outside h) → ReadsAfter d0 F A kind h
-reads_after d0 F A command Done h is = is
-reads_after d0 F A command Listed h is = is
-reads_after d0 F A command (Recovered settled) h is = is
-reads_after d0 F A command (Refused (BadWords place)) h is = tt
-reads_after d0 F A command (Refused VolumeFault) h is = λ ns noted q out none. get_outer h F is q out
-reads_after d0 F A command (Refused (BadRollback name)) h is = tt
-reads_after d0 F A command (Refused other) h is = is
-reads_after d0 F A command (Suspended pause) h is = tt
-reads_after d0 F A command NoMemory h is = tt
+reads_after : (told : Type 0) (d0 F : Map) (out : Outcome) (kind : Kind) (h : Map) → SettledReads told F out kind h → ReadsAfter told d0 F out kind h
+reads_after told d0 F out Done h is = is
+reads_after told d0 F out Listed h is = is
+reads_after told d0 F out (Recovered settled) h is = is
+reads_after told d0 F out (Refused (BadWords place)) h is = tt
+reads_after told d0 F out (Refused VolumeFault) h is = λ ns noted q outer none. get_outer h F is q outer
+reads_after told d0 F out (Refused (BadRollback name)) h is = tt
+reads_after told d0 F out (Refused (RecoveryFull name)) h is = tt
+reads_after told d0 F out (Refused other) h is = is
+reads_after told d0 F out (Suspended pause) h is = tt
+reads_after told d0 F out NoMemory h is = tt
 
--- a map after that differs from the former one is that of the outcome
-may_stand : (F : Map) (o o' : Outcome) (rose then : Type 0) (kind : Kind) (d : Map) → o' ≡ o → (rose → then) → Allowed F (map_after F o') rose kind d → MayStand F o then kind d
-may_stand F o (outcome.Done A) rose then kind d is f (inl stands) = inl stands
-may_stand F o (outcome.Done A) rose then kind d is f (inr may) = inr (A, (sym is, may_commit rose then f kind may.0, may.1))
-may_stand F o (outcome.Listed text) rose then kind d is f (inl stands) = inl stands
-may_stand F o (outcome.Listed text) rose then kind d is f (inr may) = inl may.1
-may_stand F o (outcome.Recovered found) rose then kind d is f (inl stands) = inl stands
-may_stand F o (outcome.Recovered found) rose then kind d is f (inr may) = inl may.1
-may_stand F o (outcome.Refused cause) rose then kind d is f (inl stands) = inl stands
-may_stand F o (outcome.Refused cause) rose then kind d is f (inr may) = inl may.1
+-- no action is begun
+package_reached : (files : Files) (folder : Name) (m : Machine) → (of_package files folder m).reached ≡ 0
+package_reached files folder m = at (load_fault files folder) _
+  where
+    at : (fault : Option Fault) (e : o.End) → (of_loaded fault (only e)).reached ≡ 0
+    at (Some fault) e = refl
+    at None e = refl
 
-module _ (volume source : Type 0) (s t u : State) (files : Files) (command : Command) (found : Settled) (source_fails : Type 0) (kind : Kind) (bytes : List ℕ) where
+command_reached : (files : Files) (m : Machine) (found : Settled) (command : Command) → (of_command files m found command).reached ≡ 0
+command_reached files m found (Package recorded folder words) = package_reached files folder m
+command_reached files m found (Selftest n words) = package_reached (selftest_files n) _ m
+command_reached files m found Clients = refl
+command_reached files m found Products = refl
+command_reached files m found Recover = refl
+
+machine_reached : (files : Files) (found : Settled) (command : Command) (r : Result Machine Name) → (of_machine files found command r).reached ≡ 0
+machine_reached files found command (Ok m) = command_reached files m found command
+machine_reached files found command (Err name) = refl
+
+module _ (volume source : Type 0) (s t u : State) (files : Files) (words : List Text) (now : ℕ) (command : Command) (found : Settled) (source_fails : Type 0) (kind : Kind) (bytes : List ℕ) where
   abbrev inner : Outcome
-  inner = of_machine files found t.held command (machine_of t.held)
+  inner = of_machine files found command (machine_of t.held)
 
-  abbrev whole : Outcome
-  whole = of_former files (settled s.held) command (stands s.held)
+  abbrev told : Type 0
+  told = IsTold volume source (Ok command)
 
-  same_outcome : found ≡ settled s.held → stands s.held ≡ Ok t.held → inner ≡ whole
-  same_outcome is value = ap (λ (x : Settled). of_former files x command (Ok t.held)) is ∙ ap (of_former files (settled s.held) command) (sym value)
+  same_outcome : (out : Outcome) → WordsComeTo (handed words files s now) (Ok command) out → (volume → found ≡ settled s.held) → (volume → stands s.held ≡ Ok t.held) → (volume → (name : Name) → ¬ IsShort s.capacity s.held name) → volume → inner ≡ out
+  same_outcome out comes is value room v =
+      ap (λ (x : Settled). of_former files x command (Ok t.held)) (is v) ∙ ap (of_former files (settled s.held) command) (sym (value v))
+      ∙ sym (comes.room (λ name without. room v name without.short))
 
-  pub served_runs : (volume → found ≡ settled s.held) → (volume → stands s.held ≡ Ok t.held) → (volume → NothingDirty s → (F : Map) → StandsFor F s.held → GoesOn s t (StandsFor F)) → Passes s t → Passes t u → Serves volume source t u inner command (λ x. x ≡ found) source_fails kind bytes → Runs volume source s u whole (Ok command) source_fails kind bytes
-  served_runs is value goes pass then serves = record {
-    stops = λ v src clean F stood.
+  pub served_runs : (volume → found ≡ settled s.held) → (volume → stands s.held ≡ Ok t.held) → (volume → (name : Name) → ¬ IsShort s.capacity s.held name) → (volume → NothingDirty s → (F : Map) → StandsFor F s.held → GoesOn s t (StandsFor F)) → Passes s t → Passes t u
+      → Serves volume told t u inner command (λ x. x ≡ found) source_fails kind bytes → (out : Outcome) → WordsComeTo (handed words files s now) (Ok command) out → Runs volume told s u out (Ok command) source_fails kind bytes
+  served_runs is value room goes pass then serves out comes = record {
+    stops = λ v clean F stood.
         let at : t.held ≡ F = ok_same (stands s.held) t.held F (value v) stood in
-        joined s t u (MayStand F whole (BelowCount s.faults u.faults) kind)
-        (weaker s t (StandsFor F) (MayStand F whole (BelowCount s.faults u.faults) kind) (λ d standing. inl standing) (goes v clean F stood))
-        (weaker t u (Allowed F (map_after F inner) (BelowCount t.faults u.faults) kind) (MayStand F whole (BelowCount s.faults u.faults) kind)
-        (λ d. may_stand F whole inner (BelowCount t.faults u.faults) (BelowCount s.faults u.faults) kind d (same_outcome (is v) (value v)) (below_before s.faults t.faults u.faults pass.faults then.faults))
-        (at_former v src F at).stops);
-    leaves = λ v src clean F stood.
+        joined s t u (MayStand told F out (BelowCount s.faults u.faults) kind)
+        (weaker s t (StandsFor F) (MayStand told F out (BelowCount s.faults u.faults) kind) (λ d standing. inl standing) (goes v clean F stood))
+        (weaker t u (MayStand told F inner (BelowCount t.faults u.faults) kind) (MayStand told F out (BelowCount s.faults u.faults) kind)
+        (λ d. may_stand_as volume told out inner (λ x. x.0) same F (BelowCount s.faults u.faults) (BelowCount t.faults u.faults) kind d (below_before s.faults t.faults u.faults pass.faults then.faults))
+        (subst (λ (x : Map). GoesOn t u (MayStand told x inner (BelowCount t.faults u.faults) kind)) at (serves.stops v)));
+    leaves = λ v clean F stood d image.
         let at : t.held ≡ F = ok_same (stands s.held) t.held F (value v) stood in
-        subst (λ (o : Outcome). Each u (AtExit F (map_after F o) kind)) (same_outcome (is v) (value v)) (at_former v src F at).leaves;
-    reads = λ v src F stood.
+        exit_as volume told out inner (λ x. x.0) same F kind d (subst (λ (x : Map). Each u (AtExit told x inner kind)) at (serves.leaves v) d image);
+    reads = λ v F stood.
         let at : t.held ≡ F = ok_same (stands s.held) t.held F (value v) stood in
-        subst (λ (o : Outcome). ReadsAfter s.held F (map_after F o) kind u.held) (same_outcome (is v) (value v))
-        (reads_after s.held F (map_after F inner) command kind u.held (at_former v src F at).reads);
+        reads_after told s.held F out kind u.held (reads_as volume told out inner (λ x. x.0) same F kind u.held (subst (λ (x : Map). SettledReads told x inner kind u.held) at (serves.reads v)));
+    caused = licensed_from volume told s t u out inner source_fails (λ x. x.0) same pass then kind serves.caused;
+    suspends = suspends_as volume told out inner (λ x. x.0) same kind serves.suspends;
+    reached = λ v. inr (ap (λ (x : Outcome). x.reached) (sym (same v)) ∙ machine_reached files found command (machine_of t.held));
+    log = says_as volume told out inner (λ x. x.0) same (λ x. volume → x ≡ settled s.held) (λ x. x ≡ found) (λ x e v. e ∙ is v) (walks (Ok command)) kind bytes serves.log;
+  }
+    where
+      same : volume → inner ≡ out
+      same = same_outcome out comes is value room
+
+  pub served_leaves : (volume → stands s.held ≡ Ok t.held) → Passes s t → Serves volume told t u inner command (λ x. x ≡ found) source_fails kind bytes → Leaves volume s u (Ok command) kind
+  served_leaves value pass serves = record {
     unread = λ v clean bad stood. absurd (not_bad (stands s.held) t.held bad (value v) stood);
     unread_stays = λ v bad stood. absurd (not_bad (stands s.held) t.held bad (value v) stood);
     cleans = λ v. cleans_from s t u pass kind (serves.cleans v);
-    caused = caused_from volume source whole inner (λ v. same_outcome (is v) (value v)) (Fails s u) (Fails t u) source_fails (MayPause s u) (MayPause t u) (fails_before s t u pass) (pauses_before s t u pass) kind serves.caused;
     answers = serves.answers;
-    log = log_from volume (λ x. volume → x ≡ settled s.held) (λ x. x ≡ found) (λ x e v. e ∙ is v) (walks (Ok command)) whole inner (λ v. same_outcome (is v) (value v)) bytes kind serves.log;
   }
-    where
-      at_former : volume → source → (F : Map) → t.held ≡ F → Ends t.faults t u F (map_after F inner) kind
-      at_former v src F at = subst (λ (x : Map). Ends t.faults t u x (map_after x inner) kind) at (serves.ends v src)
 
 -- ---- a volume that isn't settled
 
@@ -118,175 +142,175 @@ pub record Unsettled (volume : Type 0) (s t : State) (e : UndoError) : Type 0 wh
   pub unread_stays : volume → (bad : List ℕ) → stands s.held ≡ Err bad → t.held ≡ s.held
   pub bad : volume → (name : List ℕ) → e ≡ undo.BadRollback name → stands s.held ≡ Err name
   pub fault : e ≡ undo.Fault → Rose s t
-  pub full : (name : List ℕ) → e ≡ undo.Full name → IsSome s.capacity
+  pub full : (name : List ℕ) → e ≡ undo.Full name → IsShort s.capacity s.held name
 
-module _ (volume source : Type 0) (s t : State) (files : Files) (command : Command) (source_fails : Type 0) where
-  abbrev former : Outcome
-  former = of_former files (settled s.held) command (stands s.held)
+-- a refusal while settling
+abbrev pub IsEarly : Cause → Type 0
+IsEarly VolumeFault = Unit {0}
+IsEarly (BadRollback name) = Unit {0}
+IsEarly (RecoveryFull name) = Unit {0}
+IsEarly other = ⊥
 
-  bad_caused : (e : UndoError) → Unsettled volume s t e → Caused volume source former (Fails s t) source_fails (MayPause s t) (kind_unsettled e)
-  bad_caused undo.NoMemory u = tt
-  bad_caused undo.Fault u = λ none. u.fault refl
-  bad_caused (undo.BadRollback name) u = λ v. ap (of_former files (settled s.held) command) (u.bad v name refl)
-  bad_caused (undo.Full name) u = λ none. let clash : true ≡ false = sym (u.full name refl) ∙ none in absurd (cc)
+-- where the area is refused the volume isn't short
+bad_not_short : (capacity : Option ℕ) (d : Map) (bad name : Name) → stands d ≡ Err bad → ¬ IsShort capacity d name
+unfolding stands
+bad_not_short capacity d bad name is short = let clash : Ok (outside _) ≡ Err bad = ap (back_by d) (sym short.read) ∙ is in cc
 
-  bad_answers : (e : UndoError) (c : Command) → AnswersCommand c (kind_unsettled e)
-  bad_answers undo.NoMemory (Install folder) = tt
-  bad_answers undo.NoMemory Products = tt
-  bad_answers undo.NoMemory Recover = tt
-  bad_answers undo.Fault (Install folder) = tt
-  bad_answers undo.Fault Products = tt
-  bad_answers undo.Fault Recover = tt
-  bad_answers (undo.BadRollback name) (Install folder) = tt
-  bad_answers (undo.BadRollback name) Products = tt
-  bad_answers (undo.BadRollback name) Recover = tt
-  bad_answers (undo.Full name) (Install folder) = tt
-  bad_answers (undo.Full name) Products = tt
-  bad_answers (undo.Full name) Recover = tt
+module _ (volume source : Type 0) (s t : State) (files : Files) (words : List Text) (now : ℕ) (command : Command) (source_fails : Type 0) where
+  abbrev asked_told : Type 0
+  asked_told = IsTold volume source (Ok command)
 
-  bad_log : (e : UndoError) (found : Settled → Type 0) → IsLog volume found (walks (Ok command)) former (kind_unsettled e) (log_of (walks (Ok command)) Clean (kind_unsettled e))
-  bad_log undo.NoMemory found = (Clean, (inr refl, refl))
-  bad_log undo.Fault found = (Clean, (inr refl, refl))
-  bad_log (undo.BadRollback name) found = (Clean, (refl, refl))
-  bad_log (undo.Full name) found = (Clean, (inr refl, refl))
+  -- the refusal of a name that is read and bad
+  bad_outcome : (out : Outcome) → WordsComeTo (handed words files s now) (Ok command) out → (name : Name) → stands s.held ≡ Err name → out ≡ only (o.Refused (BadRollback name))
+  bad_outcome out comes name is = comes.room (λ other without. bad_not_short s.capacity s.held name other is without.short) ∙ ap (of_former files (settled s.held) command) is
 
-  bad_exit : (F A : Map) (e : UndoError) (d : Map) → StandsFor F d → AtExit F A (kind_unsettled e) d
-  bad_exit F A undo.NoMemory d is = is
-  bad_exit F A undo.Fault d is = is
-  bad_exit F A (undo.BadRollback name) d is = is
-  bad_exit F A (undo.Full name) d is = is
+  full_outcome : (out : Outcome) → WordsComeTo (handed words files s now) (Ok command) out → (name : Name) → IsShort s.capacity s.held name → out ≡ only (o.Refused (RecoveryFull name))
+  full_outcome out comes name short = comes.short name (record { command = command; asked = refl; short = short })
 
-  bad_reads : (F A : Map) (e : UndoError) → UnnotedStay s.held F t.held → ReadsAfter s.held F A (kind_unsettled e) t.held
-  bad_reads F A undo.NoMemory is = tt
-  bad_reads F A undo.Fault is = is
-  bad_reads F A (undo.BadRollback name) is = tt
-  bad_reads F A (undo.Full name) is = is
+  before_answers : (cause : Cause) → IsEarly cause → (c : Command) → AnswersCommand c (Refused cause)
+  before_answers VolumeFault is (Package recorded folder words) = tt
+  before_answers VolumeFault is (Selftest n words) = tt
+  before_answers VolumeFault is Clients = tt
+  before_answers VolumeFault is Products = tt
+  before_answers VolumeFault is Recover = tt
+  before_answers (BadRollback name) is (Package recorded folder words) = tt
+  before_answers (BadRollback name) is (Selftest n words) = tt
+  before_answers (BadRollback name) is Clients = tt
+  before_answers (BadRollback name) is Products = tt
+  before_answers (BadRollback name) is Recover = tt
+  before_answers (RecoveryFull name) is (Package recorded folder words) = tt
+  before_answers (RecoveryFull name) is (Selftest n words) = tt
+  before_answers (RecoveryFull name) is Clients = tt
+  before_answers (RecoveryFull name) is Products = tt
+  before_answers (RecoveryFull name) is Recover = tt
+  before_answers other is c = absurd is
 
-  bad_cleans : (e : UndoError) → Cleans s t (kind_unsettled e)
-  bad_cleans undo.NoMemory = tt
-  bad_cleans undo.Fault = tt
-  bad_cleans (undo.BadRollback name) = tt
-  bad_cleans (undo.Full name) = tt
-
-  unsettled_at : (e : UndoError) (kind : Kind) (bytes : List ℕ) → Unsettled volume s t e → Caused volume source former (Fails s t) source_fails (MayPause s t) kind → AnswersCommand command kind → IsLog volume (λ x. volume → x ≡ settled s.held) (walks (Ok command)) former kind bytes → ((F A : Map) (d : Map) → StandsFor F d → AtExit F A kind d) → ((F A : Map) → UnnotedStay s.held F t.held → ReadsAfter s.held F A kind t.held) → Cleans s t kind → Runs volume source s t former (Ok command) source_fails kind bytes
-  unsettled_at e kind bytes u caused answers log exit reads cleans = record {
-    stops = λ v src clean F stood. weaker s t (StandsFor F) (MayStand F former (BelowCount s.faults t.faults) kind) (λ d standing. inl standing) (u.goes v clean F stood);
-    leaves = λ v src clean F stood d image. exit F (map_after F former) d (u.leaves v clean F stood d image);
-    reads = λ v src F stood. reads F (map_after F former) (λ ns is q out none. u.others v F ns stood is q out none);
-    unread = u.unread;
-    unread_stays = u.unread_stays;
-    cleans = λ v. cleans;
-    caused = caused;
-    answers = answers;
+  -- one answer of a run whose volume isn't settled
+  unsettled_at : (e : UndoError) (kind : Kind) (bytes : List ℕ) (out : Outcome) → Unsettled volume s t e → Caused s.faults t.faults volume asked_told out (Rose s t) source_fails kind → Suspends asked_told out kind → (volume → IsUndecided kind ⊎ (out.reached ≡ 0))
+      → Says (IsLog volume asked_told (λ x. volume → x ≡ settled s.held) (walks (Ok command)) out kind 0) kind bytes → ((F d : Map) → StandsFor F d → AtExit asked_told F out kind d) → ((F : Map) → UnnotedStay s.held F t.held → ReadsAfter asked_told s.held F out kind t.held) → Runs volume asked_told s t out (Ok command) source_fails kind bytes
+  unsettled_at e kind bytes out u caused suspends reached log exit reads = record {
+    stops = λ v clean F stood. weaker s t (StandsFor F) (MayStand asked_told F out (BelowCount s.faults t.faults) kind) (λ d standing. inl standing) (u.goes v clean F stood);
+    leaves = λ v clean F stood d image. exit F d (u.leaves v clean F stood d image);
+    reads = λ v F stood. reads F (λ ns is q outer none. u.others v F ns stood is q outer none);
+    caused = inr caused;
+    suspends = suspends;
+    reached = reached;
     log = log;
   }
 
-  pub unsettled_runs : (e : UndoError) (r : Reply) → Unsettled volume s t e → Replies (walks (Ok command)) Clean (kind_unsettled e) r → Runs volume source s t former (Ok command) source_fails r.kind (log_in r)
-  unsettled_runs e r u is = ⊎_elim
-      (λ x. at (kind_unsettled e) (log_of (walks (Ok command)) Clean (kind_unsettled e)) x.0 x.1
-      (unsettled_at e (kind_unsettled e) (log_of (walks (Ok command)) Clean (kind_unsettled e)) u (bad_caused e u) (bad_answers e command) (bad_log e (λ x. volume → x ≡ settled s.held)) (λ F A. bad_exit F A e) (λ F A. bad_reads F A e) (bad_cleans e)))
-      (λ x. at NoMemory (log_of (walks (Ok command)) Clean NoMemory) x.0 x.1
-      (unsettled_at e NoMemory (log_of (walks (Ok command)) Clean NoMemory) u tt (bad_answers undo.NoMemory command) (Clean, (inr refl, refl)) (λ F A d standing. standing) (λ F A others. tt) tt))
+  memory_runs : (e : UndoError) (r : Reply) (out : Outcome) → Unsettled volume s t e → r.kind ≡ NoMemory → ((x : Settled) → IsFront (log_of (walks (Ok command)) x NoMemory) (log_in r)) → Runs volume asked_told s t out (Ok command) source_fails r.kind (log_in r)
+  memory_runs e r out u is front = subst (λ (k : Kind). Runs volume asked_told s t out (Ok command) source_fails k (log_in r)) (sym is)
+      (unsettled_at e NoMemory (log_in r) out u tt tt (λ v. inl tt)
+      (says_front (IsLog volume asked_told (λ x. volume → x ≡ settled s.held) (walks (Ok command)) out NoMemory 0) (log_in r) (log_of (walks (Ok command)) (settled s.held) NoMemory) (front (settled s.held)) (memory_log volume asked_told (λ x. volume → x ≡ settled s.held) (walks (Ok command)) out (settled s.held) (λ v. refl)))
+      (λ F d standing. standing) (λ F others. tt))
+
+  early_log : (cause : Cause) → IsEarly cause → (out : Outcome) → IsLog volume asked_told (λ x. volume → x ≡ settled s.held) (walks (Ok command)) out (Refused cause) 0 (log_of (walks (Ok command)) Clean (Refused cause))
+  early_log VolumeFault is out = record { settled = Clean; begun = out.begun; tells = inr refl; begins = λ t. refl; is = refl }
+  early_log (BadRollback name) is out = record { settled = Clean; begun = out.begun; tells = refl; begins = λ t. refl; is = refl }
+  early_log (RecoveryFull name) is out = record { settled = Clean; begun = out.begun; tells = refl; begins = λ t. refl; is = refl }
+  early_log other is out = absurd is
+
+  early_reads : (cause : Cause) → IsEarly cause → (out : Outcome) (F : Map) → UnnotedStay s.held F t.held → ReadsAfter asked_told s.held F out (Refused cause) t.held
+  early_reads VolumeFault is out F others = others
+  early_reads (BadRollback name) is out F others = tt
+  early_reads (RecoveryFull name) is out F others = tt
+  early_reads other is out F others = absurd is
+
+  -- a refusal while settling, with its log, or want of memory
+  early_runs : (e : UndoError) (cause : Cause) (r : Reply) (out : Outcome) → IsEarly cause → Unsettled volume s t e → Caused s.faults t.faults volume asked_told out (Rose s t) source_fails (Refused cause) → (volume → IsUndecided (Refused cause) ⊎ (out.reached ≡ 0)) → Replies (walks (Ok command)) Clean (Refused cause) r
+      → Runs volume asked_told s t out (Ok command) source_fails r.kind (log_in r)
+  early_runs e cause r out early u caused reached is = ⊎_elim
+      (λ x. subst (λ (k : Kind). Runs volume asked_told s t out (Ok command) source_fails k (log_in r)) (sym x.0)
+      (unsettled_at e (Refused cause) (log_in r) out u caused tt reached
+      (says_whole (IsLog volume asked_told (λ y. volume → y ≡ settled s.held) (walks (Ok command)) out (Refused cause) 0) (Refused cause) (log_in r) (log_of (walks (Ok command)) Clean (Refused cause)) x.1 (early_log cause early out))
+      (λ F d standing. standing) (early_reads cause early out)))
+      (λ x. memory_runs e r out u x.0 x.1)
       is
+
+  pub unsettled_runs : (e : UndoError) (r : Reply) → Unsettled volume s t e → RepliesUnsettled (walks (Ok command)) e r → (out : Outcome) → WordsComeTo (handed words files s now) (Ok command) out → Runs volume asked_told s t out (Ok command) source_fails r.kind (log_in r)
+  unsettled_runs undo.NoMemory r u is out comes = memory_runs undo.NoMemory r out u is.0 is.1
+  unsettled_runs undo.Fault r u is out comes = early_runs undo.Fault VolumeFault r out tt u (u.fault refl) (λ v. inl tt) is
+  unsettled_runs (undo.BadRollback name) r u is out comes =
+      early_runs (undo.BadRollback name) (BadRollback name) r out tt u (λ v. ap (λ (x : Outcome). x.end) (bad_outcome out comes name (u.bad v name refl))) (λ v. inr (ap (λ (x : Outcome). x.reached) (bad_outcome out comes name (u.bad v name refl)))) is
+  unsettled_runs (undo.Full name) r u is out comes =
+      early_runs (undo.Full name) (RecoveryFull name) r out tt u (λ v. ap (λ (x : Outcome). x.end) (full_outcome out comes name (u.full name refl))) (λ v. inr (ap (λ (x : Outcome). x.reached) (full_outcome out comes name (u.full name refl)))) is
+
+  early_leaves : (e : UndoError) (cause : Cause) (r : Reply) → IsEarly cause → Unsettled volume s t e → Replies (walks (Ok command)) Clean (Refused cause) r → Leaves volume s t (Ok command) r.kind
+  early_leaves e cause r early u is = ⊎_elim (λ x. at (Refused cause) x.0 (refused_cleans cause early) (before_answers cause early command)) (λ x. at NoMemory x.0 tt (answers_memory command)) is
     where
-      at : (kind : Kind) (bytes : List ℕ) → r.kind ≡ kind → log_in r ≡ bytes → Runs volume source s t former (Ok command) source_fails kind bytes → Runs volume source s t former (Ok command) source_fails r.kind (log_in r)
-      at kind bytes is_kind is_log runs =
-          subst (λ (x : Kind). Runs volume source s t former (Ok command) source_fails x (log_in r)) (sym is_kind)
-          (subst (λ (x : List ℕ). Runs volume source s t former (Ok command) source_fails kind x) (sym is_log) runs)
+      at : (kind : Kind) → r.kind ≡ kind → Cleans s t kind → AnswersCommand command kind → Leaves volume s t (Ok command) r.kind
+      at kind is cleans answers = subst (λ (k : Kind). Leaves volume s t (Ok command) k) (sym is) (record { unread = u.unread; unread_stays = u.unread_stays; cleans = λ v. cleans; answers = answers })
+
+      refused_cleans : (cause : Cause) → IsEarly cause → Cleans s t (Refused cause)
+      refused_cleans VolumeFault is = tt
+      refused_cleans (BadRollback name) is = tt
+      refused_cleans (RecoveryFull name) is = tt
+      refused_cleans other is = absurd is
+
+  pub unsettled_leaves : (e : UndoError) (r : Reply) → Unsettled volume s t e → RepliesUnsettled (walks (Ok command)) e r → Leaves volume s t (Ok command) r.kind
+  unsettled_leaves undo.NoMemory r u is = subst (λ (k : Kind). Leaves volume s t (Ok command) k) (sym is.0) (record { unread = u.unread; unread_stays = u.unread_stays; cleans = λ v. tt; answers = answers_memory command })
+  unsettled_leaves undo.Fault r u is = early_leaves undo.Fault VolumeFault r tt u is
+  unsettled_leaves (undo.BadRollback name) r u is = early_leaves (undo.BadRollback name) (BadRollback name) r tt u is
+  unsettled_leaves (undo.Full name) r u is = early_leaves (undo.Full name) (RecoveryFull name) r tt u is
 
 -- ---- words that are refused
 
-module _ (volume source : Type 0) (s : State) (source_fails : Type 0) (place : ℕ) where
-  abbrev refused : Outcome
-  refused = outcome.Refused (BadWords place)
+module _ (volume source : Type 0) (s : State) (files : Files) (words : List Text) (now : ℕ) (source_fails : Type 0) (place : ℕ) where
+  abbrev words_told : Type 0
+  words_told = IsTold volume source (Err place)
 
-  words_at : (kind : Kind) (bytes : List ℕ) → Caused volume source refused (Fails s s) source_fails (MayPause s s) kind → AnswersWords (Err place) kind → IsLog volume (λ x. volume → x ≡ settled s.held) false refused kind bytes → ((F A d : Map) → StandsFor F d → AtExit F A kind d) → ((F A : Map) → ReadsAfter s.held F A kind s.held) → Cleans s s kind → Runs volume source s s refused (Err place) source_fails kind bytes
-  words_at kind bytes caused answers log exit reads cleans = record {
-    stops = λ v src clean F stood. started s (MayStand F refused (BelowCount s.faults s.faults) kind);
-    leaves = λ v src clean F stood d image. exit F F d (subst (λ (m : Map). StandsFor F m) (sym (clean_same s s.held refl clean d image)) stood);
-    reads = λ v src F stood. reads F F;
-    unread = λ v clean bad stood. started s (λ d. d ≡ s.held);
-    unread_stays = λ v bad stood. refl;
-    cleans = λ v. cleans;
-    caused = caused;
-    answers = answers;
+  words_at : (kind : Kind) (bytes : List ℕ) (out : Outcome) → Caused s.faults s.faults volume words_told out (Rose s s) source_fails kind → Suspends words_told out kind → (volume → IsUndecided kind ⊎ (out.reached ≡ 0)) → Says (IsLog volume words_told (λ x. volume → x ≡ settled s.held) false out kind 0) kind bytes
+      → ((F d : Map) → StandsFor F d → AtExit words_told F out kind d) → ((F : Map) → ReadsAfter words_told s.held F out kind s.held) → Runs volume words_told s s out (Err place) source_fails kind bytes
+  words_at kind bytes out caused suspends reached log exit reads = record {
+    stops = λ v clean F stood. started s (MayStand words_told F out (BelowCount s.faults s.faults) kind);
+    leaves = λ v clean F stood d image. exit F d (ap stands (clean_same s s.held refl clean d image) ∙ stood);
+    reads = λ v F stood. reads F;
+    caused = inr caused;
+    suspends = suspends;
+    reached = reached;
     log = log;
   }
 
-  pub words_runs : (r : Reply) → Replies false Clean (Refused (BadWords place)) r → Runs volume source s s refused (Err place) source_fails r.kind (log_in r)
-  words_runs r is = ⊎_elim
-      (λ x. at (Refused (BadWords place)) (log_of false Clean (Refused (BadWords place))) x.0 x.1
-      (words_at (Refused (BadWords place)) (log_of false Clean (Refused (BadWords place))) (λ v. refl) (inl refl) (Clean, (refl, refl)) (λ F A d standing. standing) (λ F A. tt) tt))
-      (λ x. at NoMemory (log_of false Clean NoMemory) x.0 x.1
-      (words_at NoMemory (log_of false Clean NoMemory) tt (inr refl) (Clean, (inr refl, refl)) (λ F A d standing. standing) (λ F A. tt) tt))
+  pub words_runs : (r : Reply) → Replies false Clean (Refused (BadWords place)) r → (out : Outcome) → WordsComeTo (handed words files s now) (Err place) out → Runs volume words_told s s out (Err place) source_fails r.kind (log_in r)
+  words_runs r is out comes = ⊎_elim
+      (λ x. at (Refused (BadWords place)) x.0
+      (words_at (Refused (BadWords place)) (log_in r) out (λ t. ap (λ (y : Outcome). y.end) refused) tt (λ v. inr (ap (λ (y : Outcome). y.reached) refused))
+      (says_whole (IsLog volume words_told (λ y. volume → y ≡ settled s.held) false out (Refused (BadWords place)) 0) (Refused (BadWords place)) (log_in r) (log_of false Clean (Refused (BadWords place))) x.1 (record { settled = Clean; begun = out.begun; tells = refl; begins = λ t. refl; is = refl }))
+      (λ F d standing. standing) (λ F. tt)))
+      (λ x. at NoMemory x.0
+      (words_at NoMemory (log_in r) out tt tt (λ v. inl tt)
+      (says_front (IsLog volume words_told (λ y. volume → y ≡ settled s.held) false out NoMemory 0) (log_in r) (log_of false (settled s.held) NoMemory) (x.1 (settled s.held)) (memory_log volume words_told (λ y. volume → y ≡ settled s.held) false out (settled s.held) (λ v. refl)))
+      (λ F d standing. standing) (λ F. tt)))
       is
     where
-      at : (kind : Kind) (bytes : List ℕ) → r.kind ≡ kind → log_in r ≡ bytes → Runs volume source s s refused (Err place) source_fails kind bytes → Runs volume source s s refused (Err place) source_fails r.kind (log_in r)
-      at kind bytes is_kind is_log runs =
-          subst (λ (x : Kind). Runs volume source s s refused (Err place) source_fails x (log_in r)) (sym is_kind)
-          (subst (λ (x : List ℕ). Runs volume source s s refused (Err place) source_fails kind x) (sym is_log) runs)
+      no_command : (name : Name) → ¬ IsWithoutRoom (handed words files s now) (Err place) name
+      no_command name without = let clash : Err place ≡ Ok without.command = without.asked in cc
 
--- the same, of the words
-pub of_read_words : (volume source : Type 0) (s u : State) (files : Files) (words words' : Result Command ℕ) (source_fails : Type 0) (kind : Kind) (bytes : List ℕ) → words ≡ words' → Runs volume source s u (of_words files s.held words') words' source_fails kind bytes → Runs volume source s u (of_words files s.held words) words source_fails kind bytes
-of_read_words volume source s u files words words' source_fails kind bytes is runs = subst (λ (w : Result Command ℕ). Runs volume source s u (of_words files s.held w) w source_fails kind bytes) (sym is) runs
+      refused : out ≡ only (o.Refused (BadWords place))
+      refused = comes.room no_command
 
--- ---- completeness
+      at : (kind : Kind) → r.kind ≡ kind → Runs volume words_told s s out (Err place) source_fails kind (log_in r) → Runs volume words_told s s out (Err place) source_fails r.kind (log_in r)
+      at kind is runs = subst (λ (k : Kind). Runs volume words_told s s out (Err place) source_fails k (log_in r)) (sym is) runs
 
-paused_rose : (n m : ℕ) (place : Place) (begun again : ℕ) (why : Option Cause) → Paused n m place begun again why → SameCount n m → ⊥
-paused_rose n m InRollback begun again why p same = grind (arith, p.entry, p.between, p.exit, p.rose, same.0, same.1)
-paused_rose n m InCommit begun again why p same = grind (arith, p.entry, p.between, p.exit, p.rose, same.0, same.1)
+  pub words_leave : (r : Reply) → Replies false Clean (Refused (BadWords place)) r → Leaves volume s s (Err place) r.kind
+  words_leave r is = ⊎_elim (λ x. at (Refused (BadWords place)) x.0 tt (inl refl)) (λ x. at NoMemory x.0 tt (inr refl)) is
+    where
+      at : (kind : Kind) → r.kind ≡ kind → Cleans s s kind → (kind ≡ Refused (BadWords place)) ⊎ (kind ≡ NoMemory) → Leaves volume s s (Err place) r.kind
+      at kind is cleans answers = subst (λ (k : Kind). Leaves volume s s (Err place) k) (sym is) (record {
+        unread = λ v clean bad stood. started s (λ d. d ≡ s.held);
+        unread_stays = λ v bad stood. refl;
+        cleans = λ v. cleans;
+        answers = answers;
+      })
 
-fault_rose : (s u : State) → Rose s u → SameCount s.faults u.faults → ⊥
-fault_rose s u rose same = grind (arith, rose.rose, same.0, same.1)
+-- ---- the same, of the words
 
-source_rose : (n m : ℕ) → counts.Rose n m → SameCount n m → ⊥
-source_rose n m rose same = grind (arith, rose.rose, same.0, same.1)
+pub runs_as_read : (volume source : Type 0) (s u : State) (h : Handed) (words words' : Result Command ℕ) (source_fails : Type 0) (kind : Kind) (bytes : List ℕ) → words ≡ words'
+    → ((out : Outcome) → WordsComeTo h words' out → Runs volume (IsTold volume source words') s u out words' source_fails kind bytes) → (out : Outcome) → WordsComeTo h words out → Runs volume (IsTold volume source words) s u out words source_fails kind bytes
+runs_as_read volume source s u h words words' source_fails kind bytes is runs = subst (λ (w : Result Command ℕ). (out : Outcome) → WordsComeTo h w out → Runs volume (IsTold volume source w) s u out w source_fails kind bytes) (sym is) runs
 
--- where no count rose, the answer is the outcome's own or want of memory
-pub completes : (volume source : Type 0) (s u : State) (o : Outcome) (n m : ℕ) (kind : Kind) → volume → source → IsNone s.capacity → SameCount n m → SameCount s.faults u.faults → Caused volume source o (Fails s u) (counts.Rose n m) (MayPause s u) kind → Completes o kind
-completes volume source s u o n m Done v src none is_source is c = inl (sym (ap kind_of (c v src).1))
-completes volume source s u o n m Listed v src none is_source is c = inl (sym (ap kind_of (c v).1))
-completes volume source s u o n m (Recovered settled) v src none is_source is c = inl (sym (ap kind_of (c v)))
-completes volume source s u o n m (Refused VolumeFault) v src none is_source is c = absurd (fault_rose s u (c none) is)
-completes volume source s u o n m (Refused SourceFault) v src none is_source is c = absurd (source_rose n m c is_source)
-completes volume source s u o n m (Refused (Table fault)) v src none is_source is c = inl (sym (ap kind_of (c v src)))
-completes volume source s u o n m (Refused other) v src none is_source is c = inl (sym (ap kind_of (c v)))
-completes volume source s u o n m (Suspended pause) v src none is_source is c = absurd (paused_rose s.faults u.faults pause.place pause.begun pause.again pause.why (c.0 none) is)
-completes volume source s u o n m NoMemory v src none is_source is c = inr refl
-
--- the same of words that ask for no package, over any source
-module _ (volume source : Type 0) (s u : State) (o : Outcome) (n m : ℕ) (told : volume) (none : IsNone s.capacity) (same : SameCount s.faults u.faults) where
-  completes_before : (cause : Cause) → IsBefore cause → Caused volume source o (Fails s u) (counts.Rose n m) (MayPause s u) (Refused cause) → Completes o (Refused cause)
-  completes_before VolumeFault is c = absurd (fault_rose s u (c none) same)
-  completes_before (BadRollback name) is c = inl (sym (ap kind_of (c told)))
-  completes_before (BadImage name) is c = inl (sym (ap kind_of (c told)))
-  completes_before other is c = absurd is
-
-  completes_command : (command : Command) (kind : Kind) → (Installs (Ok command) → ⊥) → AnswersCommand command kind → Caused volume source o (Fails s u) (counts.Rose n m) (MayPause s u) kind → Completes o kind
-  completes_command (Install folder) kind alone is c = absurd (alone tt)
-  completes_command Products Done alone is c = absurd is
-  completes_command Products Listed alone is c = inl (sym (ap kind_of (c told).1))
-  completes_command Products (Recovered settled) alone is c = absurd is
-  completes_command Products (Refused cause) alone is c = completes_before cause is c
-  completes_command Products (Suspended pause) alone is c = absurd is
-  completes_command Products NoMemory alone is c = inr refl
-  completes_command Recover Done alone is c = absurd is
-  completes_command Recover Listed alone is c = absurd is
-  completes_command Recover (Recovered settled) alone is c = inl (sym (ap kind_of (c told)))
-  completes_command Recover (Refused cause) alone is c = completes_before cause is c
-  completes_command Recover (Suspended pause) alone is c = absurd is
-  completes_command Recover NoMemory alone is c = inr refl
-
-  completes_words : (place : ℕ) (kind : Kind) → (kind ≡ Refused (BadWords place)) ⊎ (kind ≡ NoMemory) → Caused volume source o (Fails s u) (counts.Rose n m) (MayPause s u) kind → Completes o kind
-  completes_words place kind (inl is) c = inl (is ∙ sym (ap kind_of (subst (λ (k : Kind). Caused volume source o (Fails s u) (counts.Rose n m) (MayPause s u) k) is c told)))
-  completes_words place kind (inr is) c = inr is
-
-  pub completes_at : (words : Result Command ℕ) (kind : Kind) → (Installs words → ⊥) → AnswersWords words kind → Caused volume source o (Fails s u) (counts.Rose n m) (MayPause s u) kind → Completes o kind
-  completes_at (Ok command) kind alone is c = completes_command command kind alone is c
-  completes_at (Err place) kind alone is c = completes_words place kind is c
-
-pub completes_alone : (volume source : Type 0) (s u : State) (o : Outcome) (n m : ℕ) (words : Result Command ℕ) (kind : Kind) → volume → (Installs words → ⊥) → IsNone s.capacity → SameCount s.faults u.faults → AnswersWords words kind → Caused volume source o (Fails s u) (counts.Rose n m) (MayPause s u) kind → Completes o kind
-completes_alone volume source s u o n m words kind told alone none same is c = completes_at volume source s u o n m told none same words kind alone is c
+pub leaves_as_read : (volume : Type 0) (s u : State) (words words' : Result Command ℕ) (kind : Kind) → words ≡ words' → Leaves volume s u words' kind → Leaves volume s u words kind
+leaves_as_read volume s u words words' kind is leaves = subst (λ (w : Result Command ℕ). Leaves volume s u w kind) (sym is) leaves
 
 -- ---- what settling says by its answer
 
@@ -295,3 +319,6 @@ if_bad e name P is bad = subst (λ (x : UndoError). IfBad {A = Settled} (Err x) 
 
 pub if_full : (e : UndoError) (name : List ℕ) (P : List ℕ → Type 0) → e ≡ undo.Full name → IfFull {A = Settled} (Err e) P → P name
 if_full e name P is full = subst (λ (x : UndoError). IfFull {A = Settled} (Err x) P) is full
+
+pub never_short : {T E : Type 0} (r : Result T E) (x : T) → r ≡ Ok x → IsErr r → ⊥
+never_short r x is err = let clash = subst (λ (y : Result _ _). IsErr y) is err in cc

@@ -1,20 +1,25 @@
 -- The answers of steps that stop a run.
+use Rattle.std.specs.Prelude.{◌≡◌, Bool}
+use Rattle.mi_text.specs.declared.answers.Settled.{Settled}
+use Rattle.mi_text.specs.declared.answers.Settled.TheVariants.{Clean}
 use Rattle.mi_undo.specs.declared.fault.UndoError.{UndoError}
 use Rattle.mi_undo.specs.declared.fault.UndoError.TheVariants as undo
 use Rattle.mi_image.specs.declared.fault.ImageError.{ImageError}
 use Rattle.mi_image.specs.declared.fault.ImageError.TheVariants as scan
-use Rattle.mi_base.specs.declared.answers.Cause.TheVariants.{VolumeFault, BadRollback, BadImage}
+use Rattle.mi_base.specs.declared.answers.Cause.TheVariants.{VolumeFault, BadRollback, RecoveryFull, BadImage}
 use Rattle.mi_base.specs.declared.answers.Kind.{Kind}
 use Rattle.mi_base.specs.declared.answers.Kind.TheVariants.{Refused, NoMemory}
+use Rattle.mi_engine.specs.declared.reply.Reply.{Reply}
 use Rattle.mi_engine.specs.declared.stop.Stop.{Stop}
 use Rattle.mi_engine.specs.declared.stop.Stop.TheVariants as stop
+use Rattle.mi_engine.specs.Replies.{Replies, IsFront, log_of, log_in}
 
--- a volume without room for the former bytes has failed, too
-abbrev pub kind_unsettled : UndoError → Kind
-kind_unsettled undo.NoMemory = NoMemory
-kind_unsettled undo.Fault = Refused VolumeFault
-kind_unsettled (undo.BadRollback name) = Refused (BadRollback name)
-kind_unsettled (undo.Full name) = Refused VolumeFault
+-- the answer of a run that didn't settle its volume, with its log: what settling would have found isn't known
+abbrev pub RepliesUnsettled : Bool → UndoError → Reply → Type 0
+RepliesUnsettled says undo.NoMemory r = (r.kind ≡ NoMemory) × ((found : Settled) → IsFront (log_of says found NoMemory) (log_in r))
+RepliesUnsettled says undo.Fault r = Replies says Clean (Refused VolumeFault) r
+RepliesUnsettled says (undo.BadRollback name) r = Replies says Clean (Refused (BadRollback name)) r
+RepliesUnsettled says (undo.Full name) r = Replies says Clean (Refused (RecoveryFull name)) r
 
 abbrev pub kind_unscanned : ImageError → Kind
 kind_unscanned scan.NoMemory = NoMemory

@@ -1,40 +1,19 @@
--- What a run leaves of the volume, by its answer (Rollback Installation; the volume and its images are this project's own).
-use Rattle.std.specs.Prelude.{◌≡◌, ◌⊎◌, ℕ, ◌-◌, ◌^◌, ◌≤◌, ◌<◌, Option, None, Some}
+-- What a run that writes leaves of the volume, by its answer (Rollback Installation; the volume and its images are this project's own).
+use Rattle.std.specs.Prelude.{◌≡◌, ◌⊎◌, ℕ, ◌≤◌, Some}
 use Rattle.mi_volume.specs.Maps.{Map}
 use Rattle.mi_volume.specs.State.{State, GoesOn}
 use Rattle.mi_undo.specs.Stands.{StandsFor, outside}
 use Rattle.mi_undo.specs.Keeps.{Each, EitherFor}
 use Rattle.mi_base.specs.declared.answers.Cause.{Cause}
 use Rattle.mi_base.specs.declared.answers.Cause.TheVariants.{VolumeFault}
+use Rattle.mi_base.specs.declared.answers.Pause.{Pause}
 use Rattle.mi_base.specs.declared.answers.Place.{Place}
 use Rattle.mi_base.specs.declared.answers.Place.TheVariants.{InRollback, InCommit}
 use Rattle.mi_base.specs.declared.answers.Kind.{Kind}
 use Rattle.mi_base.specs.declared.answers.Kind.TheVariants.{Done, Listed, Recovered, Refused, Suspended, NoMemory}
-
--- the second count is above the first, or the first stands at the last value of its counter
-abbrev pub BelowCount : ℕ → ℕ → Type 0
-BelowCount n m = n < 2 ^ 64 - 1 → n < m
-
-abbrev pub IsVolumeFault : Cause → Type 0
-IsVolumeFault VolumeFault = Unit {0}
-IsVolumeFault other = ⊥
-
--- ---- which answers license an image of the map after
-
--- a run that was suspended had begun its commit write, or may have, where a fault of the volume made it go back
-abbrev pub SuspendedMay : Place → Option Cause → Type 0
-SuspendedMay InCommit why = Unit {0}
-SuspendedMay InRollback None = ⊥
-SuspendedMay InRollback (Some cause) = IsVolumeFault cause
-
--- the answers with which an image may stand for the map after; `rose` says that the count rose in the call
-abbrev pub MayCommit : Type 0 → Kind → Type 0
-MayCommit rose Done = Unit {0}
-MayCommit rose Listed = ⊥
-MayCommit rose (Recovered settled) = ⊥
-MayCommit rose (Refused cause) = IsVolumeFault cause
-MayCommit rose (Suspended pause) = SuspendedMay pause.place pause.why
-MayCommit rose NoMemory = rose
+use Rattle.mi_model.specs.Causes.{BelowCount}
+use Rattle.mi_model.specs.Leaves.{IsVolumeFault, MayCommit}
+use Rattle.mi_engine.specs.Answers.{PausedFor}
 
 -- what an image at a moment since the run began stands for: F, the former map, or A, the map after
 abbrev pub Allowed : Map → Map → Type 0 → Kind → Map → Type 0
@@ -73,48 +52,41 @@ pub record Ends (n : ℕ) (old new : State) (F A : Map) (kind : Kind) : Type 0 w
   -- what reads outside the area give at its end
   pub reads : Reads F A kind (outside new.held)
 
--- ---- causes of the answers of a run that writes: n is the count at the entry, m that at the exit
+-- ---- causes of the answers of a run that writes: n is the count at the entry, m that at the exit; `room` says that
+-- the volume has room for all that is written
 
--- the counts of a run that was suspended in its rollback, and the refusal that it met
-pub record PausedInRollback (n m : ℕ) (begun again : ℕ) (why : Option Cause) : Type 0 where
-  pub entry : n ≤ begun
-  pub between : begun ≤ again
-  pub exit : again ≤ m
-  pub rose : BelowCount again m
-  pub met : why ≡ Some VolumeFault
-  pub fell : BelowCount begun again
+-- what holds of a suspended run: in the rollback where there was room
+abbrev pub WithRoom : Type 0 → Place → Type 0 → Type 0
+WithRoom room InRollback fact = room → fact
+WithRoom room InCommit fact = fact
 
--- the counts of a run of which it isn't known whether its commit holds
-pub record PausedInCommit (n m : ℕ) (begun again : ℕ) (why : Option Cause) : Type 0 where
-  pub entry : n ≤ begun
-  pub between : begun ≤ again
-  pub exit : again ≤ m
-  pub rose : BelowCount again m
-  pub met : why ≡ None
-  pub fell : BelowCount begun again
+-- the counts of a suspended run, and what it met
+pub record WritePaused (room : Type 0) (n m : ℕ) (pause : Pause) : Type 0 where
+  pub entry : n ≤ pause.begun
+  pub between : pause.begun ≤ pause.again
+  pub exit : pause.again ≤ m
+  pub met : PausedFor pause.place pause.why
+  pub rose : WithRoom room pause.place (BelowCount pause.again m)
+  pub fell : WithRoom room pause.place (BelowCount pause.begun pause.again)
 
-abbrev pub Paused : ℕ → ℕ → Place → ℕ → ℕ → Option Cause → Type 0
-Paused n m InRollback = PausedInRollback n m
-Paused n m InCommit = PausedInCommit n m
-
-abbrev pub WriteRefused : ℕ → ℕ → Cause → Type 0
-WriteRefused n m VolumeFault = BelowCount n m
-WriteRefused n m other = ⊥
+abbrev pub WriteRefused : Type 0 → ℕ → ℕ → Cause → Type 0
+WriteRefused room n m VolumeFault = room → BelowCount n m
+WriteRefused room n m other = ⊥
 
 -- what licenses each answer of a run that writes its plan
-abbrev pub WriteCaused : ℕ → ℕ → Kind → Type 0
-WriteCaused n m Done = Unit {0}
-WriteCaused n m Listed = ⊥
-WriteCaused n m (Recovered settled) = ⊥
-WriteCaused n m (Refused cause) = WriteRefused n m cause
-WriteCaused n m (Suspended pause) = Paused n m pause.place pause.begun pause.again pause.why
-WriteCaused n m NoMemory = Unit {0}
+abbrev pub WriteCaused : Type 0 → ℕ → ℕ → Kind → Type 0
+WriteCaused room n m Done = Unit {0}
+WriteCaused room n m Listed = ⊥
+WriteCaused room n m (Recovered settled) = ⊥
+WriteCaused room n m (Refused cause) = WriteRefused room n m cause
+WriteCaused room n m (Suspended pause) = WritePaused room n m pause
+WriteCaused room n m NoMemory = Unit {0}
 
 -- the answers of a run that writes its plan
 abbrev pub IsWriteKind : Kind → Type 0
 IsWriteKind Done = Unit {0}
 IsWriteKind Listed = ⊥
 IsWriteKind (Recovered settled) = ⊥
-IsWriteKind (Refused cause) = IsVolumeFault cause
+IsWriteKind (Refused cause) = IsVolumeFault (Some cause)
 IsWriteKind (Suspended pause) = Unit {0}
 IsWriteKind NoMemory = Unit {0}

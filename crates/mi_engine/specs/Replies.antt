@@ -1,55 +1,103 @@
 -- What a command answers and leaves, with its log.
-use Rattle.std.specs.Prelude.{◌≡◌, ◌⊎◌, ℕ, Bool, false, true, List, ◌++◌, Result, Ok, Err}
+use Rattle.std.specs.Prelude.{◌≡◌, ◌≢◌, ◌⊎◌, ℕ, Bool, false, true, List, [], ◌++◌, take, Result, Ok, Err}
 use Rattle.mi_text.specs.declared.answers.Settled.{Settled}
-use Rattle.mi_text.specs.declared.answers.Settled.TheVariants.{Clean}
 use Rattle.mi_volume.specs.Maps.{Map}
-use Rattle.mi_volume.specs.State.{State, GoesOn, NothingDirty}
-use Rattle.mi_undo.specs.Stands.{StandsFor, stands, settled}
+use Rattle.mi_volume.specs.State.{State, GoesOn, NothingDirty, Rose}
+use Rattle.mi_undo.specs.Stands.{stands, settled, outside}
 use Rattle.mi_undo.specs.Keeps.{Each}
+use Rattle.mi_base.specs.Machine.{Machine, volume_of}
+use Rattle.mi_base.specs.declared.answers.Cause.TheVariants.{VolumeFault}
 use Rattle.mi_base.specs.declared.answers.Kind.{Kind}
-use Rattle.mi_base.specs.declared.answers.Kind.TheVariants.{Listed, NoMemory}
+use Rattle.mi_base.specs.declared.answers.Kind.TheVariants.{Done, Listed, Recovered, Refused, Suspended, NoMemory}
 use Rattle.mi_image.specs.Items.{Items, machine_over}
+use Rattle.mi_model.specs.Causes.{BelowCount, AnswersCommand, AnswersWords, Caused}
+use Rattle.mi_model.specs.Leaves.{MayStand, AtExit, ReadsAfter, Cleans}
 use Rattle.mi_model.specs.Listings.{products_text_of}
+use Rattle.mi_model.specs.Logs.{IsLog}
+use Rattle.mi_model.specs.PackageOutcome.{Outcome}
+use Rattle.mi_model.specs.PackageOutcome as o
+use Rattle.mi_model.specs.Report.{report_of}
+use Rattle.mi_model.specs.Words.{Command, walks}
 use Rattle.mi_engine.specs.declared.reply.Reply.{Reply}
-use Rattle.mi_model.specs.PlainWords.{Command}
-use Rattle.mi_model.specs.PlainOutcome.{Outcome, map_after}
-use Rattle.mi_engine.specs.Calls.{Fails}
-use Rattle.mi_engine.specs.Ends.{Ends, BelowCount, AtExit}
-use Rattle.mi_engine.specs.Answers.{AnswersCommand, AnswersWords, Caused, MayPause, MayStand, ReadsAfter, Cleans, walks, log_of, Tells, IsLog}
+use Rattle.mi_engine.specs.Answers.{MeetsFull, Suspends}
+
+-- ---- logs
 
 -- the whole log of a reply
 abbrev pub log_in : Reply → List ℕ
 log_in r = r.front ++ r.line.now
 
--- this answer with its log, or want of memory
+-- the log of an answer, without begun actions
+abbrev pub log_of : Bool → Settled → Kind → List ℕ
+log_of says settled kind = report_of kind settled says [] 0
+
+-- these bytes are the first of a text
+abbrev pub IsFront : List ℕ → List ℕ → Type 0
+IsFront text bytes = (n : ℕ) × (bytes ≡ take n text)
+
+-- this answer with its log, or want of memory with a front of its log, whatever settling found
 abbrev pub Replies : Bool → Settled → Kind → Reply → Type 0
-Replies says settled kind r = ((r.kind ≡ kind) × (log_in r ≡ log_of says settled kind)) ⊎ ((r.kind ≡ NoMemory) × (log_in r ≡ log_of says Clean NoMemory))
+Replies says settled kind r = ((r.kind ≡ kind) × (log_in r ≡ log_of says settled kind)) ⊎ ((r.kind ≡ NoMemory) × ((found : Settled) → IsFront (log_of says found NoMemory) (log_in r)))
 
 -- the listing of an image's products, or want of memory
 abbrev pub Lists : Items → Reply → Type 0
-Lists image r = ((r.kind ≡ Listed) × ((held files : Map) → log_in r ≡ products_text_of (machine_over held files image))) ⊎ ((r.kind ≡ NoMemory) × (log_in r ≡ log_of false Clean NoMemory))
+Lists image r = ((r.kind ≡ Listed) × ((held files : Map) → log_in r ≡ products_text_of (machine_over held files image))) ⊎ ((r.kind ≡ NoMemory) × ((found : Settled) → IsFront (log_of false found NoMemory) (log_in r)))
+
+-- These bytes are a log of the answer, or a front of one where memory was wanted.
+pub record Says (is_log : List ℕ → Type 0) (kind : Kind) (bytes : List ℕ) : Type 0 where
+  pub log : List ℕ
+  pub is : is_log log
+  pub whole : kind ≢ NoMemory → bytes ≡ log
+  pub front : IsFront log bytes
 
 -- the log of a run that has written its plan, where settling found this
 abbrev pub WriteLogs : Settled → Kind → List ℕ → Type 0
-WriteLogs found kind log = (settled : Settled) × (Tells (λ s. s ≡ found) kind settled × (log ≡ log_of true settled kind))
+WriteLogs found kind bytes = Says (λ log. log ≡ log_of true found kind) kind bytes
 
--- What a command leaves on a volume that is settled. `volume` and `source` say that this device tells what it holds,
--- `source_fails` that its count rose.
-pub record Serves (volume source : Type 0) (old new : State) (o : Outcome) (command : Command) (found : Settled → Type 0) (source_fails : Type 0) (kind : Kind) (bytes : List ℕ) : Type 0 where
-  pub ends : volume → source → Ends old.faults old new old.held (map_after old.held o) kind
+-- ---- a command on a settled volume
+
+-- what reads give behind it, where F was held
+abbrev pub SettledReads : Type 0 → Map → Outcome → Kind → Map → Type 0
+SettledReads told F out Done h = told → (m : Machine) × (out.end ≡ o.Done m) × (outside h ≡ volume_of m)
+SettledReads told F out Listed h = outside h ≡ F
+SettledReads told F out (Recovered settled) h = outside h ≡ F
+SettledReads told F out (Refused cause) h = outside h ≡ F
+SettledReads told F out (Suspended pause) h = Unit {0}
+SettledReads told F out NoMemory h = Unit {0}
+
+-- What a command leaves on a volume that is settled. `volume` says that the volume tells what it holds, `told` that it does, and the source
+-- too where the command looks at it, and `source_fails` that the source's count rose.
+pub record Serves (volume told : Type 0) (old new : State) (out : Outcome) (command : Command) (found : Settled → Type 0) (source_fails : Type 0) (kind : Kind) (bytes : List ℕ) : Type 0 where
+  pub stops : volume → GoesOn old new (MayStand told old.held out (BelowCount old.faults new.faults) kind)
+  pub leaves : volume → Each new (AtExit told old.held out kind)
+  pub reads : volume → SettledReads told old.held out kind new.held
   pub cleans : volume → Cleans old new kind
-  pub caused : Caused volume source o (Fails old new) source_fails (MayPause old new) kind
+  pub caused : MeetsFull told old out kind ⊎ Caused old.faults new.faults volume told out (Rose old new) source_fails kind
+  pub suspends : Suspends told out kind
   pub answers : AnswersCommand command kind
-  pub log : IsLog volume found (walks (Ok command)) o kind bytes
+  pub log : Says (IsLog volume told found (walks (Ok command)) out kind 0) kind bytes
 
--- What a run leaves on any volume.
-pub record Runs (volume source : Type 0) (old new : State) (o : Outcome) (words : Result Command ℕ) (source_fails : Type 0) (kind : Kind) (bytes : List ℕ) : Type 0 where
-  pub stops : volume → source → NothingDirty old → (F : Map) → StandsFor F old.held → GoesOn old new (MayStand F o (BelowCount old.faults new.faults) kind)
-  pub leaves : volume → source → NothingDirty old → (F : Map) → StandsFor F old.held → Each new (AtExit F (map_after F o) kind)
-  pub reads : volume → source → (F : Map) → StandsFor F old.held → ReadsAfter old.held F (map_after F o) kind new.held
+-- ---- a run on any volume
+
+-- the answers of a run that may have ended before it is known what it comes to
+abbrev pub IsUndecided : Kind → Type 0
+IsUndecided (Refused VolumeFault) = Unit {0}
+IsUndecided NoMemory = Unit {0}
+IsUndecided other = ⊥
+
+-- What a run leaves, whatever it comes to.
+pub record Leaves (volume : Type 0) (old new : State) (words : Result Command ℕ) (kind : Kind) : Type 0 where
   pub unread : volume → NothingDirty old → (bad : List ℕ) → stands old.held ≡ Err bad → GoesOn old new (λ d. d ≡ old.held)
   pub unread_stays : volume → (bad : List ℕ) → stands old.held ≡ Err bad → new.held ≡ old.held
   pub cleans : volume → Cleans old new kind
-  pub caused : Caused volume source o (Fails old new) source_fails (MayPause old new) kind
   pub answers : AnswersWords words kind
-  pub log : IsLog volume (λ s. volume → s ≡ settled old.held) (walks words) o kind bytes
+
+-- What a run leaves that comes to this outcome; no action is begun.
+pub record Runs (volume told : Type 0) (old new : State) (out : Outcome) (words : Result Command ℕ) (source_fails : Type 0) (kind : Kind) (bytes : List ℕ) : Type 0 where
+  pub stops : volume → NothingDirty old → (F : Map) → stands old.held ≡ Ok F → GoesOn old new (MayStand told F out (BelowCount old.faults new.faults) kind)
+  pub leaves : volume → NothingDirty old → (F : Map) → stands old.held ≡ Ok F → Each new (AtExit told F out kind)
+  pub reads : volume → (F : Map) → stands old.held ≡ Ok F → ReadsAfter told old.held F out kind new.held
+  pub caused : MeetsFull told old out kind ⊎ Caused old.faults new.faults volume told out (Rose old new) source_fails kind
+  pub suspends : Suspends told out kind
+  pub reached : volume → IsUndecided kind ⊎ (out.reached ≡ 0)
+  pub log : Says (IsLog volume told (λ s. volume → s ≡ settled old.held) (walks words) out kind 0) kind bytes

@@ -1,16 +1,12 @@
 -- The rows that a package writes, as far as they are built, or why it writes none. (Database Tables; Registry table.)
-use Rattle.std.specs.Prelude.{ℕ, ◌==◌, List, Option, Some, None, option_map, Result, Ok, Err, if◌then◌else◌}
+use Rattle.std.specs.Prelude.{ℕ, ◌==◌, List, Option, Some, None, option_map, Result, Err, if◌then◌else◌}
 use Rattle.mi_text.specs.Maps.{Name}
-use Rattle.mi_volume.specs.Maps.{Map}
 use Rattle.mi_source.specs.Paths.{Files}
 use Rattle.mi_base.specs.declared.answers.Fault.{Fault}
 use Rattle.mi_base.specs.declared.answers.Fault.TheVariants.{NotYet}
-use Rattle.mi_base.specs.declared.answers.Cause.TheVariants.{Table}
 use Rattle.mi_schema.specs.Checks.{load_fault}
 use Rattle.mi_schema.specs.RowsOf.{folder_rows}
 use Rattle.mi_model.specs.Built.{Row}
-use Rattle.mi_model.specs.After.{after}
-use Rattle.mi_model.specs.PlainOutcome.{Outcome, Done, Refused}
 use Rattle.mi_model.specs.Plan.{planned_rows}
 
 -- a package with a fault writes nothing
@@ -21,11 +17,6 @@ unless_fault None rows = rows
 -- the rows that the package of a folder writes, in order, or its first fault, or its first row that isn't built
 abbrev pub rows_of : Files → Name → Result (List Row) Fault
 rows_of files folder = unless_fault (load_fault files folder) (planned_rows (folder_rows files folder))
-
--- what these rows come to over the former map
-abbrev pub of_rows : Map → Result (List Row) Fault → Outcome
-of_rows F (Ok rows) = Done (after rows F)
-of_rows F (Err fault) = Refused (Table fault)
 
 -- the first row of so many, where there is one
 abbrev pub counted_row : ℕ → Option ℕ

@@ -1,23 +1,34 @@
 //! The answers of steps that stop a run.
 
 ghost use Rattle.std.specs.Prelude.{◌≡◌};
-ghost use Rattle.mi_engine.specs.Endings.{kind_unsettled, kind_unscanned, kind_unloaded};
+ghost use Rattle.mi_text.specs.declared.answers.Settled.TheVariants.{Clean};
+ghost use Rattle.mi_engine.specs.Replies.{Replies};
+ghost use Rattle.mi_engine.specs.Endings.{kind_unscanned, kind_unloaded, RepliesUnsettled};
 
+use crate::reply::{Reply, logged, out_of_memory};
 use crate::stop::Stop;
-use mi_base::{Cause, Kind};
+use mi_base::{Cause, Kind, Settled};
 use mi_image::ImageError;
 use mi_undo::UndoError;
+use std::alloc::Global;
 
-/// The answer of a run that didn't settle its volume. One without room for the former bytes has
-/// failed, too.
-pub fn unsettled(error: UndoError) -> Kind
-    ensures { result ≡ kind_unsettled error }
+/// The answer of a run that didn't settle its volume, with its log. It isn't known then what settling would have found.
+pub fn unsettled(alloc: Global, error: UndoError, walks: bool) -> Reply
+    ensures { RepliesUnsettled walks error result }
 {
     match error {
-        UndoError::NoMemory => Kind::NoMemory,
-        UndoError::Fault | UndoError::Full(_) => Kind::Refused(Cause::VolumeFault),
-        UndoError::BadRollback(name) => Kind::Refused(Cause::BadRollback(name)),
+        UndoError::NoMemory => out_of_memory(alloc, walks),
+        UndoError::Fault => refused_before(alloc, Cause::VolumeFault, walks),
+        UndoError::BadRollback(name) => refused_before(alloc, Cause::BadRollback(name), walks),
+        UndoError::Full(name) => refused_before(alloc, Cause::RecoveryFull(name), walks),
     }
+}
+
+/// A refusal before the volume is settled.
+fn refused_before(alloc: Global, cause: Cause, walks: bool) -> Reply
+    ensures { Replies walks Clean (Kind.Refused cause) result }
+{
+    logged(alloc, Kind::Refused(cause), Settled::Clean, walks)
 }
 
 /// The answer of a run that didn't read its machine.

@@ -5,7 +5,8 @@ ghost use Rattle.mi_volume.specs.Maps.{Map};
 ghost use Rattle.mi_volume.specs.State.{Passes};
 ghost use Rattle.mi_undo.specs.Area.{volume, IsLive, CanGoBack};
 ghost use Rattle.mi_engine.specs.Calls.{IsVolumeStop};
-ghost use Rattle.mi_engine.specs.Ends.{BelowCount, WriteCaused, IsWriteKind};
+ghost use Rattle.mi_model.specs.Causes.{BelowCount};
+ghost use Rattle.mi_engine.specs.Ends.{WriteCaused, IsWriteKind};
 ghost use Rattle.mi_engine.specs.Falls.{Falls, AnswersStop, fell, gone, stuck};
 
 use crate::stop::Stop;
@@ -22,7 +23,7 @@ pub fn fall_back<V: Volume>(alloc: Global, area: Open<'_, V>, begun: u64, why: S
     requires stopped { IsVolumeStop (IsNone (V.state (volume area)).capacity → BelowCount begun (V.state (volume area)).faults) why }
     ensures falls { V.told → (F : Map) → CanGoBack (V.state area.entry.vol.now) area.entry.kept F → Falls (V.state area.entry.vol.now) (V.state area.exit.0.now) F result }
     ensures answers { AnswersStop why begun (V.state area.entry.vol.now).faults result }
-    ensures caused { IsNone (V.state area.entry.vol.now).capacity → WriteCaused begun (V.state area.exit.0.now).faults result }
+    ensures caused { WriteCaused (IsNone (V.state area.entry.vol.now).capacity) begun (V.state area.exit.0.now).faults result }
     ensures kinds { IsWriteKind result }
     ensures passes { Passes (V.state area.entry.vol.now) (V.state area.exit.0.now) }
 {

@@ -9,6 +9,7 @@ ghost use Rattle.mi_model.specs.After.{after};
 ghost use Rattle.mi_engine.specs.Changes.{laid, names_in};
 ghost use Rattle.mi_engine.specs.Ends.{Ends, WriteCaused, IsWriteKind};
 ghost use Rattle.mi_engine.specs.Falls.{unknown};
+ghost use Rattle.mi_engine.specs.Looks.{Looks};
 
 use crate::carry::make_changes;
 use crate::changes::{names_of, pending};
@@ -27,7 +28,7 @@ fn work<V: Volume>(alloc: Global, vol: &mut V, names: &[Name], changes: &[(Name,
     requires names { names.now ≡ names_in changes.now }
     ensures ends { V.told → Ends (V.state vol.old).faults (V.state vol.old) (V.state vol.new) (V.state vol.old).held (laid changes.now (V.state vol.old).held) result }
     ensures free { V.told → result ≡ Kind.Done → IsFreeUnlessRose (V.state vol.old) (V.state vol.new) }
-    ensures caused { IsNone (V.state vol.old).capacity → WriteCaused (V.state vol.old).faults (V.state vol.new).faults result }
+    ensures caused { WriteCaused (IsNone (V.state vol.old).capacity) (V.state vol.old).faults (V.state vol.new).faults result }
     ensures kinds { IsWriteKind result }
     ensures passes { Passes (V.state vol.old) (V.state vol.new) }
 {
@@ -71,14 +72,15 @@ fn suspended_in_commit(first: u64, second: u64) -> Kind
     })
 }
 
-/// Writes the rows to a settled volume through the rollback area: all of them, or none. Where no
-/// name changes, nothing is written.
+/// Writes the rows to a settled volume through the rollback area: all of them, or none. Where they
+/// change nothing, nothing is written.
 pub fn write_rows<V: Volume>(alloc: Global, vol: &mut V, rows: &[PlainRow]) -> Kind
     requires free { V.told → IsFree (V.state vol.old) }
     ensures ends { V.told → Ends (V.state vol.old).faults (V.state vol.old) (V.state vol.new) (V.state vol.old).held (after rows.now (V.state vol.old).held) result }
     ensures free { V.told → result ≡ Kind.Done → IsFreeUnlessRose (V.state vol.old) (V.state vol.new) }
-    ensures caused { IsNone (V.state vol.old).capacity → WriteCaused (V.state vol.old).faults (V.state vol.new).faults result }
+    ensures caused { WriteCaused (IsNone (V.state vol.old).capacity) (V.state vol.old).faults (V.state vol.new).faults result }
     ensures kinds { IsWriteKind result }
+    ensures idle { V.told → after rows.now (V.state vol.old).held ≡ (V.state vol.old).held → Looks (V.state vol.old) (V.state vol.new) }
     ensures passes { Passes (V.state vol.old) (V.state vol.new) }
 {
     let found = match pending(alloc, vol, rows) {

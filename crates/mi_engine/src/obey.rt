@@ -1,17 +1,19 @@
 //! Carrying out a command on a settled volume whose machine is read.
 
-ghost use Rattle.std.specs.Prelude.{◌≡◌, ◌≤◌, Ok, IsNone};
+ghost use Rattle.std.specs.Prelude.{◌≡◌, ◌≤◌, Ok, false, [], IsNone};
 ghost use Rattle.mi_volume.specs.State.{Passes};
 ghost use Rattle.mi_source.specs.Counts.{Rose};
 ghost use Rattle.mi_undo.specs.Keeps.{IsFree};
 ghost use Rattle.mi_undo.specs.Answers.{IsFreeUnlessRose};
-ghost use Rattle.mi_base.specs.Machine.{Machine};
+ghost use Rattle.mi_base.specs.Machine.{Machine, volume_of};
 ghost use Rattle.mi_image.specs.Items.{machine_over};
-ghost use Rattle.mi_model.specs.PlainWords.{Install, Installs};
+ghost use Rattle.mi_model.specs.Words.{Package, Installs};
 ghost use Rattle.mi_engine.specs.Asked.{asked};
 ghost use Rattle.mi_model.specs.After.{after};
 ghost use Rattle.mi_model.specs.PlainOutcome.{of_command, of_package};
+ghost use Rattle.mi_engine.specs.Answers.{IsTold};
 ghost use Rattle.mi_engine.specs.Ends.{Ends, WriteCaused, IsWriteKind};
+ghost use Rattle.mi_engine.specs.Looks.{Looks};
 ghost use Rattle.mi_engine.specs.Replies.{Serves, Lists, WriteLogs, log_in};
 
 use crate::ending::unloaded;
@@ -37,7 +39,8 @@ pub fn obey<S: Source, V: Volume>(
     vol: &mut V,
 ) -> Reply
     requires free { V.told → IsFree (V.state vol.old) }
-    ensures serves { Serves V.told S.told (V.state vol.old) (V.state vol.new) (of_command (S.files src.old) settled (V.state vol.old).held (machine_over (V.state vol.old).held (S.files src.old) image.now) (asked command.entry)) (asked command.entry) (λ s. s ≡ settled) (Rose (S.faults src.old) (S.faults src.new)) result.kind (log_in result) }
+    requires machine { V.told → volume_of (machine_over (V.state vol.old).held (S.files src.old) image.now) ≡ (V.state vol.old).held }
+    ensures serves { Serves V.told (IsTold V.told S.told (Ok (asked command.entry))) (V.state vol.old) (V.state vol.new) (of_command (S.files src.old) (machine_over (V.state vol.old).held (S.files src.old) image.now) settled (asked command.entry)) (asked command.entry) (λ s. s ≡ settled) (Rose (S.faults src.old) (S.faults src.new)) result.kind (log_in result) }
     ensures unread { (Installs (Ok (asked command.entry)) → ⊥) → src.new ≡ src.old }
     ensures passes { Passes (V.state vol.old) (V.state vol.new) }
     ensures counts { S.faults src.old ≤ S.faults src.new }
@@ -58,7 +61,7 @@ fn install<S: Source, V: Volume>(
     vol: &mut V,
 ) -> Reply
     requires free { V.told → IsFree (V.state vol.old) }
-    ensures serves { (m : Machine) → Serves V.told S.told (V.state vol.old) (V.state vol.new) (of_package (S.files src.old) folder.now (V.state vol.old).held m) (Install folder.now) (λ s. s ≡ settled) (Rose (S.faults src.old) (S.faults src.new)) result.kind (log_in result) }
+    ensures serves { (m : Machine) → (V.told → volume_of m ≡ (V.state vol.old).held) → Serves V.told (IsTold V.told S.told (Ok (Package false folder.now []))) (V.state vol.old) (V.state vol.new) (of_package (S.files src.old) folder.now m) (Package false folder.now []) (λ s. s ≡ settled) (Rose (S.faults src.old) (S.faults src.new)) result.kind (log_in result) }
     ensures passes { Passes (V.state vol.old) (V.state vol.new) }
     ensures counts { S.faults src.old ≤ S.faults src.new }
 {
@@ -68,12 +71,13 @@ fn install<S: Source, V: Volume>(
     }
 }
 
-/// Writes the rows of a package to a settled volume.
+/// Writes the rows of a package to a settled volume. Where they change nothing, nothing is written.
 fn carry_out<V: Volume>(alloc: Global, rows: &[PlainRow], settled: Settled, vol: &mut V) -> Reply
     requires free { V.told → IsFree (V.state vol.old) }
     ensures writes { V.told → Ends (V.state vol.old).faults (V.state vol.old) (V.state vol.new) (V.state vol.old).held (after rows.now (V.state vol.old).held) result.kind }
     ensures free { V.told → result.kind ≡ Kind.Done → IsFreeUnlessRose (V.state vol.old) (V.state vol.new) }
-    ensures caused { IsNone (V.state vol.old).capacity → WriteCaused (V.state vol.old).faults (V.state vol.new).faults result.kind }
+    ensures caused { WriteCaused (IsNone (V.state vol.old).capacity) (V.state vol.old).faults (V.state vol.new).faults result.kind }
+    ensures idle { V.told → after rows.now (V.state vol.old).held ≡ (V.state vol.old).held → Looks (V.state vol.old) (V.state vol.new) }
     ensures kinds { IsWriteKind result.kind }
     ensures log { WriteLogs settled result.kind (log_in result) }
     ensures passes { Passes (V.state vol.old) (V.state vol.new) }
@@ -81,7 +85,7 @@ fn carry_out<V: Volume>(alloc: Global, rows: &[PlainRow], settled: Settled, vol:
     // What the log says behind the first write is made before it.
     match front_of(alloc, settled) {
         Ok(front) => written(write_rows(alloc, vol, rows), front),
-        Err(_) => out_of_memory(alloc),
+        Err(_) => out_of_memory(alloc, true),
     }
 }
 
@@ -95,6 +99,6 @@ fn list(alloc: Global, image: &Image) -> Reply
             front,
             line: b"",
         },
-        Err(_) => out_of_memory(alloc),
+        Err(_) => out_of_memory(alloc, false),
     }
 }

@@ -1,11 +1,10 @@
 //! What a command answers, with its log.
 
-ghost use Rattle.std.specs.Prelude.{◌≡◌, [], ◌∷◌, ◌++◌, Bool, IfOk, codes};
+ghost use Rattle.std.specs.Prelude.{◌≡◌, [], ◌∷◌, ◌++◌, Bool, IfOk, codes, true, false};
+ghost use Rattle.mi_text.specs.declared.answers.Settled.{Settled as Found};
 ghost use Rattle.mi_model.specs.Lines.{recovered_line, result_line, spaced, place_words};
-ghost use Rattle.mi_text.specs.declared.answers.Settled.TheVariants.{Clean};
 ghost use Rattle.mi_engine.specs.Ends.{IsWriteKind};
-ghost use Rattle.mi_engine.specs.Answers.{log_of};
-ghost use Rattle.mi_engine.specs.Replies.{Replies, log_in};
+ghost use Rattle.mi_engine.specs.Replies.{Replies, IsFront, log_in, log_of};
 
 use mi_base::{Bytes, Cause, Kind, NoMemory, Place, Settled, Texts};
 use mi_report::{Outcome, report};
@@ -19,7 +18,7 @@ pub struct Reply {
     pub line: &'static [u8],
 }
 
-/// An answer with its log, which takes memory.
+/// An answer with its log, which takes memory. Where it is wanted, the log is a front of it.
 pub fn logged(alloc: Global, kind: Kind, settled: Settled, walks: bool) -> Reply
     ensures { Replies walks settled kind result }
 {
@@ -37,7 +36,7 @@ pub fn logged(alloc: Global, kind: Kind, settled: Settled, walks: bool) -> Reply
         },
         Err(_) => {
             drop(outcome);
-            out_of_memory(alloc)
+            out_of_memory(alloc, walks)
         }
     }
 }
@@ -55,16 +54,24 @@ fn kind_of(outcome: Outcome) -> Kind
     kind
 }
 
-/// The answer of want of memory, which takes none.
-pub fn out_of_memory(alloc: Global) -> Reply
+/// The answer of want of memory, which takes none. Where what settling found may stand before the result line, nothing is
+/// written.
+pub fn out_of_memory(alloc: Global, walks: bool) -> Reply
     ensures kind { result.kind ≡ Kind.NoMemory }
-    ensures log { (walks : Bool) → log_in result ≡ log_of walks Clean Kind.NoMemory }
+    ensures log { (found : Found) → IsFront (log_of walks found Kind.NoMemory) (log_in result) }
 {
     Reply {
         kind: Kind::NoMemory,
         front: Bytes::new(alloc),
-        line: b"Result: NoMemory\n",
+        line: memory_line(walks),
     }
+}
+
+/// The result line of want of memory, or nothing where another line may stand before it.
+fn memory_line(walks: bool) -> &'static [u8]
+    ensures { (found : Found) → IsFront (log_of walks found Kind.NoMemory) result.now }
+{
+    if walks { b"" } else { b"Result: NoMemory\n" }
 }
 
 /// What a log says before the result line: what settling found.

@@ -1,18 +1,24 @@
 //! The top call.
 
-ghost use Rattle.std.specs.Prelude.{◌≡◌, ◌≤◌, ◌++◌, ℕ, List, Ok, Err, IsNone, false};
+ghost use Rattle.std.specs.Prelude.{◌≡◌, ◌⊎◌, ◌≤◌, ◌++◌, ℕ, List, Ok, Err, false};
 ghost use Rattle.std.specs.Bool.{OnTrue};
 ghost use Rattle.mi_volume.specs.Maps.{Map};
 ghost use Rattle.mi_volume.specs.State.{NothingDirty, GoesOn, Passes};
+ghost use Rattle.mi_volume.specs.State as volume;
 ghost use Rattle.mi_source.specs.Counts.{Rose};
 ghost use Rattle.mi_undo.specs.Stands.{stands, settled};
 ghost use Rattle.mi_undo.specs.Keeps.{Each};
-ghost use Rattle.mi_model.specs.PlainWords.{texts_of, command_of, Installs};
-ghost use Rattle.mi_model.specs.PlainOutcome.{outcome, map_after};
-ghost use Rattle.mi_engine.specs.Calls.{Fails};
-ghost use Rattle.mi_engine.specs.Ends.{BelowCount, AtExit};
-ghost use Rattle.mi_engine.specs.Answers.{AnswersWords, Caused, MayPause, Completes, SameCount, MayStand, ReadsAfter, Cleans, walks, IsLog, WritesFront, Logs};
-ghost use Rattle.mi_engine.specs.Replies.{Runs, log_in};
+ghost use Rattle.mi_model.specs.Assignments.{texts_of};
+ghost use Rattle.mi_model.specs.Causes.{BelowCount, SameCount, AnswersWords, Caused, Completes, Reaches};
+ghost use Rattle.mi_model.specs.Leaves.{MayStand, AtExit, ReadsAfter, Cleans};
+ghost use Rattle.mi_model.specs.Logs.{IsLog, WritesFront, Logs};
+ghost use Rattle.mi_model.specs.PackageOutcome.{Outcome};
+ghost use Rattle.mi_model.specs.PlainOutcome.{ComesTo};
+ghost use Rattle.mi_model.specs.PlainWords.{command_of};
+ghost use Rattle.mi_model.specs.TopCall.{handed};
+ghost use Rattle.mi_model.specs.Words.{Installs, walks};
+ghost use Rattle.mi_engine.specs.Answers.{IsTold, IsStill, MeetsFull, Suspends};
+ghost use Rattle.mi_engine.specs.Replies.{Leaves, Runs, log_in};
 
 use crate::answer::Answer;
 use crate::reply::{Reply, logged};
@@ -40,33 +46,37 @@ pub fn run<S: Source, V: Volume, K: Sink>(
     ensures untouched { (place : ℕ) → command_of (texts_of words.now) ≡ Err place → vol.new ≡ vol.old }
     ensures no_package { (Installs (command_of (texts_of words.now)) → ⊥) → src.new ≡ src.old }
 
-    // An answer comes only for its cause.
-    ensures caused { Caused V.told S.told (outcome (texts_of words.now) (S.files src.old) (V.state vol.old).held) (Fails (V.state vol.old) (V.state vol.new)) (Rose (S.faults src.old) (S.faults src.new)) (MayPause (V.state vol.old) (V.state vol.new)) result.kind }
+    // What follows holds of each outcome that the run comes to. An answer comes only for its cause, or, on a volume that
+    // tells a capacity, where room is wanting; and a run is suspended only where its package makes a machine.
+    ensures caused { (o : Outcome) → ComesTo (handed (texts_of words.now) (S.files src.old) (V.state vol.old) _now) o
+        → MeetsFull (IsTold V.told S.told (command_of (texts_of words.now))) (V.state vol.old) o result.kind
+        ⊎ Caused (V.state vol.old).faults (V.state vol.new).faults V.told (IsTold V.told S.told (command_of (texts_of words.now))) o (volume.Rose (V.state vol.old) (V.state vol.new)) (Rose (S.faults src.old) (S.faults src.new)) result.kind }
+    ensures suspends { (o : Outcome) → ComesTo (handed (texts_of words.now) (S.files src.old) (V.state vol.old) _now) o → Suspends (IsTold V.told S.told (command_of (texts_of words.now))) o result.kind }
 
-    // Where no count rises, the answer is the outcome's own, or want of memory.
-    ensures complete { V.told → S.told → IsNone (V.state vol.old).capacity → SameCount (S.faults src.old) (S.faults src.new) → SameCount (V.state vol.old).faults (V.state vol.new).faults
-        → Completes (outcome (texts_of words.now) (S.files src.old) (V.state vol.old).held) result.kind }
-    ensures complete_alone { V.told → (Installs (command_of (texts_of words.now)) → ⊥) → IsNone (V.state vol.old).capacity → SameCount (V.state vol.old).faults (V.state vol.new).faults
-        → Completes (outcome (texts_of words.now) (S.files src.old) (V.state vol.old).held) result.kind }
+    // Where no count rises and room isn't wanting, the answer is the outcome's own, or want of memory.
+    ensures complete { (o : Outcome) → ComesTo (handed (texts_of words.now) (S.files src.old) (V.state vol.old) _now) o → V.told → SameCount (V.state vol.old).faults (V.state vol.new).faults
+        → IsStill S.told (command_of (texts_of words.now)) (S.faults src.old) (S.faults src.new)
+        → MeetsFull (IsTold V.told S.told (command_of (texts_of words.now))) (V.state vol.old) o result.kind ⊎ Completes o result.kind result.reached }
 
-    // What a crash leaves, at every moment of the call and at its end: the former map F, or the map after.
-    ensures stops { V.told → S.told → NothingDirty (V.state vol.old) → (F : Map) → stands (V.state vol.old).held ≡ Ok F
-        → GoesOn (V.state vol.old) (V.state vol.new) (MayStand F (outcome (texts_of words.now) (S.files src.old) (V.state vol.old).held) (BelowCount (V.state vol.old).faults (V.state vol.new).faults) result.kind) }
-    ensures leaves { V.told → S.told → NothingDirty (V.state vol.old) → (F : Map) → stands (V.state vol.old).held ≡ Ok F
-        → Each (V.state vol.new) (AtExit F (map_after F (outcome (texts_of words.now) (S.files src.old) (V.state vol.old).held)) result.kind) }
+    // What a crash leaves, at every moment of the call and at its end: the former map F, or that of the machine after.
+    ensures stops { (o : Outcome) → ComesTo (handed (texts_of words.now) (S.files src.old) (V.state vol.old) _now) o → V.told → NothingDirty (V.state vol.old) → (F : Map) → stands (V.state vol.old).held ≡ Ok F
+        → GoesOn (V.state vol.old) (V.state vol.new) (MayStand (IsTold V.told S.told (command_of (texts_of words.now))) F o (BelowCount (V.state vol.old).faults (V.state vol.new).faults) result.kind) }
+    ensures leaves { (o : Outcome) → ComesTo (handed (texts_of words.now) (S.files src.old) (V.state vol.old) _now) o → V.told → NothingDirty (V.state vol.old) → (F : Map) → stands (V.state vol.old).held ≡ Ok F
+        → Each (V.state vol.new) (AtExit (IsTold V.told S.told (command_of (texts_of words.now))) F o result.kind) }
     ensures unread { V.told → NothingDirty (V.state vol.old) → (bad : List ℕ) → stands (V.state vol.old).held ≡ Err bad → GoesOn (V.state vol.old) (V.state vol.new) (λ d. d ≡ (V.state vol.old).held) }
 
     // What reads give after the call.
-    ensures reads { V.told → S.told → (F : Map) → stands (V.state vol.old).held ≡ Ok F
-        → ReadsAfter (V.state vol.old).held F (map_after F (outcome (texts_of words.now) (S.files src.old) (V.state vol.old).held)) result.kind (V.state vol.new).held }
+    ensures reads { (o : Outcome) → ComesTo (handed (texts_of words.now) (S.files src.old) (V.state vol.old) _now) o → V.told → (F : Map) → stands (V.state vol.old).held ≡ Ok F → ReadsAfter (IsTold V.told S.told (command_of (texts_of words.now))) (V.state vol.old).held F o result.kind (V.state vol.new).held }
     ensures unread_stays { V.told → (bad : List ℕ) → stands (V.state vol.old).held ≡ Err bad → (V.state vol.new).held ≡ (V.state vol.old).held }
     ensures clean { V.told → Cleans (V.state vol.old) (V.state vol.new) result.kind }
     ensures passes { Passes (V.state vol.old) (V.state vol.new) }
     ensures counts { S.faults src.old ≤ S.faults src.new }
-    ensures reached { result.reached ≡ 0 }
+    ensures reached { (o : Outcome) → ComesTo (handed (texts_of words.now) (S.files src.old) (V.state vol.old) _now) o → (IsTold V.told S.told (command_of (texts_of words.now))) → Reaches o result.reached result.kind }
+    ensures none_begun { result.reached ≡ 0 }
 
     // The log.
-    ensures log { K.told → Logs (IsLog V.told (λ s. V.told → s ≡ settled (V.state vol.old).held) (walks (command_of (texts_of words.now))) (outcome (texts_of words.now) (S.files src.old) (V.state vol.old).held) result.kind) result.log_lost (K.written out.old) (K.written out.new) }
+    ensures log { (o : Outcome) → ComesTo (handed (texts_of words.now) (S.files src.old) (V.state vol.old) _now) o → K.told
+        → Logs (IsLog V.told (IsTold V.told S.told (command_of (texts_of words.now))) (λ found. V.told → found ≡ settled (V.state vol.old).held) (walks (command_of (texts_of words.now))) o result.kind result.reached) result.kind result.log_lost (K.written out.old) (K.written out.new) }
     ensures log_lost { OnTrue result.log_lost (Rose (K.faults out.old) (K.faults out.new)) }
 {
     let reply = work(alloc, words, src, vol);
@@ -85,7 +95,9 @@ pub fn run<S: Source, V: Volume, K: Sink>(
 
 /// Does what the words ask for.
 fn work<S: Source, V: Volume>(alloc: Global, words: &[String], src: &mut S, vol: &mut V) -> Reply
-    ensures runs { Runs V.told S.told (V.state vol.old) (V.state vol.new) (outcome (texts_of words.now) (S.files src.old) (V.state vol.old).held) (command_of (texts_of words.now)) (Rose (S.faults src.old) (S.faults src.new)) result.kind (log_in result) }
+    ensures runs { (now : ℕ) (o : Outcome) → ComesTo (handed (texts_of words.now) (S.files src.old) (V.state vol.old) now) o
+        → Runs V.told (IsTold V.told S.told (command_of (texts_of words.now))) (V.state vol.old) (V.state vol.new) o (command_of (texts_of words.now)) (Rose (S.faults src.old) (S.faults src.new)) result.kind (log_in result) }
+    ensures leaves { Leaves V.told (V.state vol.old) (V.state vol.new) (command_of (texts_of words.now)) result.kind }
     ensures untouched { (place : ℕ) → command_of (texts_of words.now) ≡ Err place → vol.new ≡ vol.old }
     ensures no_package { (Installs (command_of (texts_of words.now)) → ⊥) → src.new ≡ src.old }
     ensures passes { Passes (V.state vol.old) (V.state vol.new) }

@@ -3,9 +3,10 @@
 ghost use Rattle.std.specs.Prelude.{◌≡◌, Ok, Err, MatchResult};
 ghost use Rattle.std.specs.Str.{bytes_eq};
 ghost use Rattle.mi_text.specs.Fold.{folded};
-ghost use Rattle.mi_model.specs.PlainWords.{texts_of, command_of, install_in, alone};
+ghost use Rattle.mi_model.specs.Assignments.{texts_of};
+ghost use Rattle.mi_model.specs.PlainWords.{command_of, install_in, alone};
+ghost use Rattle.mi_model.specs.Words.{walks};
 ghost use Rattle.mi_engine.specs.Asked.{asked};
-ghost use Rattle.mi_engine.specs.Answers.{walks};
 
 /// What a run is asked for.
 #[derive(Clone, Copy)]

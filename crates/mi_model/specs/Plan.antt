@@ -1,21 +1,16 @@
--- What a package makes of the former machine, as far as it is built so far: the values of Registry that are plain texts
--- under HKEY_LOCAL_MACHINE. (Registry table; WriteRegistryValues Action.)
+-- What a package writes, as far as it is built so far: the values of Registry that are plain texts under HKEY_LOCAL_MACHINE. (Registry table; WriteRegistryValues Action.)
 use Rattle.std.specs.Prelude.{ℕ, ◌+◌, List, [], ◌∷◌, codes, Option, Some, None, is_some, Result, Ok, Err, if◌then◌else◌}
 use Rattle.std.specs.List.{filter_map}
 use Rattle.std.specs.Option.{option_map}
 use Rattle.std.specs.FinMap.{values}
 use Rattle.mi_text.specs.Maps.{Name, Map}
-use Rattle.mi_base.specs.Machine.{Machine}
 use Rattle.mi_base.specs.declared.answers.Fault.{Fault}
 use Rattle.mi_base.specs.declared.answers.Fault.TheVariants.{NotYet}
-use Rattle.mi_base.specs.declared.answers.Cause.{Cause}
-use Rattle.mi_base.specs.declared.answers.Cause.TheVariants.{Table as OfTable}
 use Rattle.mi_schema.specs.TableRows.{Rows}
 use Rattle.mi_schema.specs.Checks.{first_fault}
 use Rattle.mi_schema.specs.declared.typed_rows.RegistryRow.{RegistryRow}
 use Rattle.mi_model.specs.Collected.{collected}
 use Rattle.mi_model.specs.Built.{Row, written_by}
-use Rattle.mi_model.specs.After.{after}
 
 -- ---- what isn't built yet
 
@@ -79,11 +74,3 @@ unless_not_yet (Some fault) rows = Err fault
 
 unfoldable pub planned_rows : Rows → Result (List Row) Fault
 planned_rows rows = unless_not_yet (not_yet rows) (rows_in_order rows.registry)
-
-abbrev pub made_by : Map (List ℕ) → Result (List Row) Fault → Result (Map (List ℕ)) Cause
-made_by F (Ok rows) = Ok (after rows F)
-made_by F (Err fault) = Err (OfTable fault)
-
--- the map that a package makes of the former one F, which spells the machine, or why it makes none
-abbrev pub plan_of : Rows → Map (List ℕ) → Machine → Result (Map (List ℕ)) Cause
-plan_of rows F m = made_by F (planned_rows rows)

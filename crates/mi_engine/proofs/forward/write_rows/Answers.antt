@@ -1,10 +1,10 @@
-use Rattle.std.proofs.Common.{IsNone, sym, subst, ◌∙◌}
+use Rattle.std.proofs.Common.{ℕ, Option, IsNone, subst, ◌∙◌}
 use Rattle.mi_volume.specs.Maps.{Map}
 use Rattle.mi_engine.specs.Changes.{laid}
-use Rattle.mi_engine.specs.Ends.{Ends}
+use Rattle.mi_engine.specs.Ends.{Ends, WriteCaused}
 use Rattle.mi_engine.specs.declared.stop.Stop.TheVariants.{NoMemory}
 use Rattle.mi_engine.proofs.EndLemmas.{gone_ends, then_ends, caused_before, looks_go, looks_leave, looks_read, idle_ends}
-use Rattle.mi_engine.proofs.ChangeLemmas.{laid_after, nothing_changes}
+use Rattle.mi_engine.proofs.ChangeLemmas.{laid_after, nothing_changes, no_change, changes_clash}
 use Rattle.mi_engine.proofs.forward.write_rows.Goals as goal
 
 pub returns-in-Err-clause-ends : goal.returns-in-Err-clause-ends
@@ -27,8 +27,14 @@ returns-in-Ok-names_of-clause-ends g c = λ told.
     (subst (λ (m : Map). Ends (g.V.Volume.state c.pending.new.vol).faults (g.V.Volume.state c.pending.new.vol) (g.V.Volume.state c.work.new.vol) m (laid c.as_slice-changes.result.now m) c.work.result) looks.stays.held (c.work.ensures.ends told)))
 
 pub returns-in-Ok-names_of-clause-caused : goal.returns-in-Ok-names_of-clause-caused
-returns-in-Ok-names_of-clause-caused g c = λ none.
-    caused_before _ (g.V.Volume.state c.pending.new.vol).faults _ _ c.pending.ensures.passes.faults c.work.ensures.passes.faults (c.work.ensures.caused (subst IsNone (sym c.pending.ensures.passes.capacity) none))
+returns-in-Ok-names_of-clause-caused g c =
+    let room = λ (capacity : Option ℕ). WriteCaused (IsNone capacity) (g.V.Volume.state c.pending.new.vol).faults (g.V.Volume.state c.work.new.vol).faults c.work.result in
+    caused_before (IsNone (g.V.Volume.state c.args.vol.now).capacity) _ (g.V.Volume.state c.pending.new.vol).faults _ _ c.pending.ensures.passes.faults c.work.ensures.passes.faults (subst room c.pending.ensures.passes.capacity c.work.ensures.caused)
+
+pub returns-in-Ok-names_of-clause-idle : goal.returns-in-Ok-names_of-clause-idle
+returns-in-Ok-names_of-clause-idle g c = λ told same_map.
+    let some = no_change c.args.rows.now (g.V.Volume.state c.args.vol.now).held c.as_slice-changes.result.now (c.as_slice-changes.ensures.value ∙ c.in-Ok.ensures.changes told) same_map in
+    absurd (changes_clash _ some c.if-is_empty.ensures)
 
 pub returns-clause-ends : goal.returns-clause-ends
 returns-clause-ends g c = λ told.

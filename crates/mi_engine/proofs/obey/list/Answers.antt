@@ -1,6 +1,5 @@
 use Rattle.std.proofs.Common.{inr}
-use Rattle.std.proofs.Common.{false}
 use Rattle.mi_engine.proofs.obey.list.Goals as goal
 
 pub returns-in-Err : goal.returns-in-Err
-returns-in-Err c = inr (c.out_of_memory.ensures.kind, c.out_of_memory.ensures.log false)
+returns-in-Err c = inr (c.out_of_memory.ensures.kind, c.out_of_memory.ensures.log)
