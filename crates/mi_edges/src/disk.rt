@@ -104,10 +104,14 @@ impl<R: Files + Alloc + Clone + Drop> Disk<R> {
     }
 
     fn renew_leftovers(&mut self, alloc: Global) -> Result<(), Trouble> {
-        self.set_unsynced()?;
-        if file_length(look(&self.rt, self.path.as_str())?)?.is_none() {
-            return Ok(());
+        if self.is_unsynced()? {
+            self.renew(alloc)
+        } else {
+            Ok(())
         }
+    }
+
+    fn renew(&mut self, alloc: Global) -> Result<(), Trouble> {
         self.renew_names(alloc)?;
         self.sync_levels()?;
         self.forget_unsynced()
@@ -148,12 +152,19 @@ impl<R: Files + Alloc + Clone + Drop> Disk<R> {
         Ok(())
     }
 
+    // Whether it is taken down that something may not be synced; leaves the path where that is.
+    fn is_unsynced(&mut self) -> Result<bool, Trouble> {
+        self.set_unsynced()?;
+        let found = look(&self.rt, self.path.as_str())?;
+        Ok(file_length(found)?.is_some())
+    }
+
     /// Takes down, where a later process finds it, that something may not be synced.
     pub fn note_unsynced(&mut self) -> Result<(), Trouble> {
-        self.set_unsynced()?;
-        match file_length(look(&self.rt, self.path.as_str())?)? {
-            Some(_) => Ok(()),
-            None => make_file(&self.rt, self.path.as_str()),
+        if self.is_unsynced()? {
+            Ok(())
+        } else {
+            make_file(&self.rt, self.path.as_str())
         }
     }
 

@@ -299,6 +299,24 @@ where
         Ok(false)
     }
 
+    // The least listed name above `after` at which a plain file stands.
+    fn next_listed(&mut self, alloc: Global, after: Option<&Name>) -> Result<Option<Name>, Trouble>
+        ensures above { IfOk result (λ name. IfSome name (IsAbove (option_copied after.entry))) }
+        ensures stays { self.new.faults ≡ self.old.faults }
+    {
+        for _ in 0..u64::MAX {
+            let Some(name) = self.listed_above(alloc, after)? else {
+                break;
+            };
+            match self.is_file(&name) {
+                Ok(true) => return Ok(Some(name)),
+                Ok(false) => drop(name),
+                Err(trouble) => return Err(trouble),
+            }
+        }
+        Ok(None)
+    }
+
     // The least held name above `after`.
     fn next_held(&mut self, alloc: Global, after: Option<&Name>) -> Result<Option<Name>, Trouble>
         ensures above { IfOk result (λ name. IfSome name (IsAbove (option_copied after.entry))) }
@@ -306,15 +324,7 @@ where
     {
         self.open()?;
         self.list_held(alloc)?;
-        for _ in 0..u64::MAX {
-            let Some(name) = self.listed_above(alloc, after)? else {
-                break;
-            };
-            if self.is_file(&name)? {
-                return Ok(Some(name));
-            }
-        }
-        Ok(None)
+        self.next_listed(alloc, after)
     }
 
     // The size of a name, where the listing knows it.
