@@ -454,13 +454,10 @@ where
         synced
     }
 
-    // Takes a name's file away. Where no sync would reach its folders, they are synced at once.
-    fn remove_file(&mut self, name: &Name) -> Result<(), Trouble>
+    // Takes away a name's file that is there. Where no sync would reach its folders, they are synced at once.
+    fn take_away(&mut self, name: &Name) -> Result<(), Trouble>
         ensures { self.new.faults ≡ self.old.faults }
     {
-        if self.size_of(name)?.is_none() {
-            return Ok(());
-        }
         self.begin_change()?;
         self.note_length(name, None);
         self.disk.remove(name.as_bytes())?;
@@ -470,6 +467,16 @@ where
         let synced = self.disk.sync_parts(name.as_bytes(), None);
         self.lost = self.lost || synced.is_err();
         synced
+    }
+
+    // Takes a name's file away, where it is there.
+    fn remove_file(&mut self, name: &Name) -> Result<(), Trouble>
+        ensures { self.new.faults ≡ self.old.faults }
+    {
+        match self.size_of(name)? {
+            Some(_) => self.take_away(name),
+            None => Ok(()),
+        }
     }
 
     // Syncs the folders of the names that were taken away.
@@ -491,8 +498,7 @@ where
     {
         let mut last = None;
         for name in self.written.iter() {
-            self.disk.sync_file(name.as_bytes())?;
-            self.disk.sync_parts(name.as_bytes(), last)?;
+            self.disk.sync_name(name.as_bytes(), last)?;
             last = Some(name.as_bytes());
         }
         Ok(())
