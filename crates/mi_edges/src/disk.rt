@@ -54,6 +54,23 @@ fn is_shared(name: &[u8], last: Option<&[u8]>, bytes: usize) -> bool {
     }
 }
 
+// Makes a folder in which a long name stands, where it isn't there.
+fn make_part<F: Files>(rt: &F, path: &str) -> Result<bool, Trouble> {
+    if !is_folder(rt, path)? {
+        make_folder(rt, path)?;
+    }
+    Ok(true)
+}
+
+// Syncs a folder in which a long name stands, where it is there; whether it is.
+fn sync_part<F: Files>(rt: &F, path: &str) -> Result<bool, Trouble> {
+    let is_there = is_folder(rt, path)?;
+    if is_there {
+        sync_path(rt, path)?;
+    }
+    Ok(is_there)
+}
+
 // Opens the folder, and takes its lock.
 fn lock_folder<F: Files>(rt: &F, folder: &str) -> Result<F::File, Trouble>
 where
@@ -104,10 +121,14 @@ impl<R: Files + Alloc + Clone + Drop> Disk<R> {
     }
 
     fn renew_leftovers(&mut self, alloc: Global) -> Result<(), Trouble> {
-        self.set_unsynced()?;
-        if file_length(look(&self.rt, self.path.as_str())?)?.is_none() {
-            return Ok(());
+        if self.is_unsynced()? {
+            self.renew(alloc)
+        } else {
+            Ok(())
         }
+    }
+
+    fn renew(&mut self, alloc: Global) -> Result<(), Trouble> {
         self.renew_names(alloc)?;
         self.sync_levels()?;
         self.forget_unsynced()
@@ -127,11 +148,16 @@ impl<R: Files + Alloc + Clone + Drop> Disk<R> {
     // Writes the plain files of names anew.
     fn renew_all(&mut self, names: &Lengths) -> Result<(), Trouble> {
         for name in names.keys() {
-            if let Found::File(length) = self.look_at(name.as_bytes())? {
-                renew_file(&self.rt, self.path.as_str(), length)?;
-            }
+            self.renew_name(name.as_bytes())?;
         }
         Ok(())
+    }
+
+    fn renew_name(&mut self, name: &[u8]) -> Result<(), Trouble> {
+        match self.look_at(name)? {
+            Found::File(length) => renew_file(&self.rt, self.path.as_str(), length),
+            Found::Nothing | Found::Folder | Found::Other => Ok(()),
+        }
     }
 
     fn set_folder(&mut self) -> Result<(), Trouble> {
@@ -148,12 +174,19 @@ impl<R: Files + Alloc + Clone + Drop> Disk<R> {
         Ok(())
     }
 
+    // Whether it is taken down that something may not be synced; leaves the path where that is.
+    fn is_unsynced(&mut self) -> Result<bool, Trouble> {
+        self.set_unsynced()?;
+        let found = look(&self.rt, self.path.as_str())?;
+        Ok(file_length(found)?.is_some())
+    }
+
     /// Takes down, where a later process finds it, that something may not be synced.
     pub fn note_unsynced(&mut self) -> Result<(), Trouble> {
-        self.set_unsynced()?;
-        match file_length(look(&self.rt, self.path.as_str())?)? {
-            Some(_) => Ok(()),
-            None => make_file(&self.rt, self.path.as_str()),
+        if self.is_unsynced()? {
+            Ok(())
+        } else {
+            make_file(&self.rt, self.path.as_str())
         }
     }
 
@@ -169,20 +202,24 @@ impl<R: Files + Alloc + Clone + Drop> Disk<R> {
         match what {
             Parts::Synced(last) if is_shared(name, last, bytes) => Ok(true),
             Parts::Looked => is_folder(&self.rt, path),
-            Parts::Made => {
-                if !is_folder(&self.rt, path)? {
-                    make_folder(&self.rt, path)?;
-                }
-                Ok(true)
-            }
-            Parts::Synced(_) => {
-                let is_there = is_folder(&self.rt, path)?;
-                if is_there {
-                    sync_path(&self.rt, path)?;
-                }
-                Ok(is_there)
-            }
+            Parts::Made => make_part(&self.rt, path),
+            Parts::Synced(_) => sync_part(&self.rt, path),
         }
+    }
+
+    // Spells the folder at the path, in which a name stands after so many bytes, and does this with it, where those above
+    // it are there; whether all are there then.
+    fn do_next_part(
+        &mut self,
+        name: &[u8],
+        bytes: usize,
+        what: Parts<'_>,
+        are_there: bool,
+    ) -> Result<bool, Trouble> {
+        self.path.push('+')?;
+        let are_there = are_there && self.do_part(name, bytes, what)?;
+        self.path.push('/')?;
+        Ok(are_there)
     }
 
     // Spells a name's path, at which this leaves the path, and does this with each folder in which the name stands, the
@@ -193,9 +230,7 @@ impl<R: Files + Alloc + Clone + Drop> Disk<R> {
         let mut bytes = 0usize;
         for part in name.chunks(PART_BYTES) {
             if bytes > 0 {
-                self.path.push('+')?;
-                are_there = are_there && self.do_part(name, bytes, what)?;
-                self.path.push('/')?;
+                are_there = self.do_next_part(name, bytes, what, are_there)?;
             }
             push_digits(&mut self.path, part)?;
             bytes = bytes.saturating_add(part.len());
@@ -298,6 +333,12 @@ impl<R: Files + Alloc + Clone + Drop> Disk<R> {
     pub fn sync_parts(&mut self, name: &[u8], last: Option<&[u8]>) -> Result<(), Trouble> {
         self.do_parts(name, Parts::Synced(last))?;
         Ok(())
+    }
+
+    /// Syncs a name's file, if it is there, and its folders as `sync_parts` does.
+    pub fn sync_name(&mut self, name: &[u8], last: Option<&[u8]>) -> Result<(), Trouble> {
+        self.sync_file(name)?;
+        self.sync_parts(name, last)
     }
 
     /// Syncs the folder itself.

@@ -299,6 +299,24 @@ where
         Ok(false)
     }
 
+    // The least listed name above `after` at which a plain file stands.
+    fn next_listed(&mut self, alloc: Global, after: Option<&Name>) -> Result<Option<Name>, Trouble>
+        ensures above { IfOk result (λ name. IfSome name (IsAbove (option_copied after.entry))) }
+        ensures stays { self.new.faults ≡ self.old.faults }
+    {
+        for _ in 0..u64::MAX {
+            let Some(name) = self.listed_above(alloc, after)? else {
+                break;
+            };
+            match self.is_file(&name) {
+                Ok(true) => return Ok(Some(name)),
+                Ok(false) => drop(name),
+                Err(trouble) => return Err(trouble),
+            }
+        }
+        Ok(None)
+    }
+
     // The least held name above `after`.
     fn next_held(&mut self, alloc: Global, after: Option<&Name>) -> Result<Option<Name>, Trouble>
         ensures above { IfOk result (λ name. IfSome name (IsAbove (option_copied after.entry))) }
@@ -306,15 +324,7 @@ where
     {
         self.open()?;
         self.list_held(alloc)?;
-        for _ in 0..u64::MAX {
-            let Some(name) = self.listed_above(alloc, after)? else {
-                break;
-            };
-            if self.is_file(&name)? {
-                return Ok(Some(name));
-            }
-        }
-        Ok(None)
+        self.next_listed(alloc, after)
     }
 
     // The size of a name, where the listing knows it.
@@ -444,13 +454,10 @@ where
         synced
     }
 
-    // Takes a name's file away. Where no sync would reach its folders, they are synced at once.
-    fn remove_file(&mut self, name: &Name) -> Result<(), Trouble>
+    // Takes away a name's file that is there. Where no sync would reach its folders, they are synced at once.
+    fn take_away(&mut self, name: &Name) -> Result<(), Trouble>
         ensures { self.new.faults ≡ self.old.faults }
     {
-        if self.size_of(name)?.is_none() {
-            return Ok(());
-        }
         self.begin_change()?;
         self.note_length(name, None);
         self.disk.remove(name.as_bytes())?;
@@ -460,6 +467,16 @@ where
         let synced = self.disk.sync_parts(name.as_bytes(), None);
         self.lost = self.lost || synced.is_err();
         synced
+    }
+
+    // Takes a name's file away, where it is there.
+    fn remove_file(&mut self, name: &Name) -> Result<(), Trouble>
+        ensures { self.new.faults ≡ self.old.faults }
+    {
+        match self.size_of(name)? {
+            Some(_) => self.take_away(name),
+            None => Ok(()),
+        }
     }
 
     // Syncs the folders of the names that were taken away.
@@ -481,8 +498,7 @@ where
     {
         let mut last = None;
         for name in self.written.iter() {
-            self.disk.sync_file(name.as_bytes())?;
-            self.disk.sync_parts(name.as_bytes(), last)?;
+            self.disk.sync_name(name.as_bytes(), last)?;
             last = Some(name.as_bytes());
         }
         Ok(())

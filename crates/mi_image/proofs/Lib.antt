@@ -12,5 +12,7 @@ pub mod PrefixLemmas
 pub mod RankLemmas
 pub mod ReadLemmas
 pub mod ScanLemmas
+pub mod StatedLemmas
+pub mod StrictLemmas
 pub mod SystemLemmas
 pub mod UnderLemmas

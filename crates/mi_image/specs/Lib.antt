@@ -8,3 +8,4 @@ pub mod Looks
 pub mod Overlays
 pub mod Picks
 pub mod Scan
+pub mod Stated

@@ -6,6 +6,7 @@ mod copies;
 mod effects;
 mod fault;
 mod former;
+mod fronts;
 mod image;
 mod item;
 mod kinds;

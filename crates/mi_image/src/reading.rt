@@ -1,6 +1,6 @@
 //! Reading what a volume holds under one name.
 
-ghost use Rattle.std.specs.Prelude.{◌≡◌, ◌≤◌, ◌||◌, List, ℕ, IfOk, IsErrOf, length, take, codes, min, true, false, nat_eq};
+ghost use Rattle.std.specs.Prelude.{◌≡◌, ◌≤◌, ◌||◌, List, ℕ, None, IfOk, IsErrOf, length, take, codes, min, true, false, nat_eq};
 ghost use Rattle.std.specs.List.{starts_with};
 ghost use Rattle.std.specs.FinMap.{get};
 ghost use Rattle.mi_text.specs.Bytes.{AreBytes};
@@ -8,9 +8,10 @@ ghost use Rattle.mi_volume.specs.Maps.{bytes_or_none};
 ghost use Rattle.mi_volume.specs.State.{Passes, Rose};
 ghost use Rattle.mi_image.specs.Items.{MayStand};
 ghost use Rattle.mi_image.specs.Looks.{OnlyLooks};
-ghost use Rattle.mi_image.specs.Scan.{Tells};
+ghost use Rattle.mi_image.specs.Scan.{Tells, item_read};
 
 use crate::fault::ImageError;
+use crate::fronts::may_go_on;
 use crate::item::{Content, Item};
 use mi_base::{Bytes, Name, RecError, dec_entry, dec_file_head};
 use mi_volume::{PIECE, VolFault, Volume};
@@ -21,6 +22,9 @@ const HEAD_LIMIT: u64 = 131_364;
 
 /// The length of the longest record of a folder or of a key, in bytes.
 const SHOWN_LIMIT: u64 = 504;
+
+/// As many bytes as the program itself writes in one record that isn't a file's.
+const WRITTEN_LIMIT: usize = 16_777_216;
 
 /// Whether a name begins with some bytes.
 pub fn begins(name: &Name, front: &[u8]) -> bool
@@ -113,7 +117,52 @@ fn is_shown_alone(name: &Name) -> bool
     begins(name, b"d/") || begins(name, b"k/")
 }
 
-/// The item of another entry, whose record has `size` bytes; one that is longer than any of its kind isn't read.
+/// Whether a record of `size` bytes that isn't a file's isn't spelled, by its first `want` bytes; none are read where it has no more.
+fn is_refused<V: Volume>(
+    alloc: Global,
+    vol: &mut V,
+    name: &Name,
+    size: u64,
+    want: usize,
+) -> Result<bool, ImageError>
+    requires other { starts_with nat_eq name.now (codes "f/") ≡ false }
+    ensures refused { V.told → let whole = bytes_or_none (get (V.state vol.old).held name.now) in length whole ≡ size → IfOk result (λ refused. refused ≡ true → item_read name.now whole ≡ None) }
+    ensures named { (n : List ℕ) → ¬ IsErrOf result (ImageError.BadImage n) }
+    ensures looks { V.told → OnlyLooks (V.state vol.old) (V.state vol.new) }
+    ensures passes { Passes (V.state vol.old) (V.state vol.new) }
+    ensures fault { IsErrOf result ImageError.Fault → Rose (V.state vol.old) (V.state vol.new) }
+{
+    if size <= want as u64 {
+        return Ok(false);
+    }
+    let front = read_front(alloc, vol, name, want)?;
+    Ok(front.len() < want || !may_go_on(alloc, name, front.as_slice(), size)?)
+}
+
+/// Whether the record of `size` bytes of another entry isn't spelled, as far as this tells before it is read whole.
+fn is_refused_early<V: Volume>(
+    alloc: Global,
+    vol: &mut V,
+    name: &Name,
+    size: u64,
+) -> Result<bool, ImageError>
+    requires other { starts_with nat_eq name.now (codes "f/") ≡ false }
+    ensures refused { V.told → let whole = bytes_or_none (get (V.state vol.old).held name.now) in length whole ≡ size → IfOk result (λ refused. refused ≡ true → item_read name.now whole ≡ None) }
+    ensures named { (n : List ℕ) → ¬ IsErrOf result (ImageError.BadImage n) }
+    ensures looks { V.told → OnlyLooks (V.state vol.old) (V.state vol.new) }
+    ensures passes { Passes (V.state vol.old) (V.state vol.new) }
+    ensures fault { IsErrOf result ImageError.Fault → Rose (V.state vol.old) (V.state vol.new) }
+{
+    if size > SHOWN_LIMIT && is_shown_alone(name) {
+        return Ok(true);
+    }
+    if is_refused(alloc, vol, name, size, PIECE)? {
+        return Ok(true);
+    }
+    is_refused(alloc, vol, name, size, WRITTEN_LIMIT)
+}
+
+/// The item of another entry, whose record has `size` bytes; it is read whole only where its fronts are those of a right one.
 fn read_record<V: Volume>(
     alloc: Global,
     vol: &mut V,
@@ -127,7 +176,7 @@ fn read_record<V: Volume>(
     ensures passes { Passes (V.state vol.old) (V.state vol.new) }
     ensures fault { IsErrOf result ImageError.Fault → Rose (V.state vol.old) (V.state vol.new) }
 {
-    if size > SHOWN_LIMIT && is_shown_alone(name) {
+    if is_refused_early(alloc, vol, name, size)? {
         return Err(ImageError::BadImage(name.copy(alloc)?));
     }
     let bytes = read_front(alloc, vol, name, size as usize)?;

@@ -1,5 +1,5 @@
 use Rattle.std.proofs.Common.{◌≡◌}
-use Rattle.mi_edges.proofs.folder_volume.FolderVolume.next_held.Given as goal
+use Rattle.mi_edges.proofs.folder_volume.FolderVolume.next_listed.Given as goal
 
 -- the count of faults stays
 abbrev pub invariant-loop : goal.invariant-loop
