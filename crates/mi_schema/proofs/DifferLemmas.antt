@@ -110,7 +110,7 @@ module _ (cs : List Column) (tell : keys_tell cs ≡ true) where
     is_new row rows fit more.1 (All-tail (λ k. key row ≢ k) (key r) (map key rows) all),
   )
 
-  differ : (rows : List (List raw.Cell)) → EachFits cs rows → AllPairs (λ j k. j ≢ k) (map key rows) → KeysDiffer cs (map (row_of cs) rows)
+  pub differ : (rows : List (List raw.Cell)) → EachFits cs rows → AllPairs (λ j k. j ≢ k) (map key rows) → KeysDiffer cs (map (row_of cs) rows)
   differ [] fit pairs = tt
   differ (row ∷ rows) fit pairs = (
     is_new row rows fit.0 fit.1 (AllPairs-head (λ j k. j ≢ k) (key row) (map key rows) pairs),

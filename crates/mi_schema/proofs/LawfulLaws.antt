@@ -10,7 +10,7 @@ use Rattle.mi_schema.specs.declared.known.Known.TheVariants as known
 use Rattle.mi_schema.specs.Content.{Content, content_of}
 use Rattle.mi_schema.specs.Listed.{listed, tables}
 use Rattle.mi_schema.specs.Tables.{Table, install_execute_sequence, property, required_properties}
-use Rattle.mi_schema.specs.TypedRows.{property_row, install_execute_sequence_row, install_execute_sequence_key}
+use Rattle.mi_schema.specs.TypedRows.{property_row, install_execute_sequence_row, text_key}
 use Rattle.mi_schema.specs.Rows.{◌or_else◌, table_fault, table_rows}
 use Rattle.mi_schema.specs.RowsOf.{rows_of_content}
 use Rattle.mi_schema.specs.TableRows.{Rows}
@@ -79,7 +79,7 @@ holds p content h known.Environment = h known.Environment
 holds p content h known.Feature = h known.Feature
 holds p content h known.FeatureComponents = h known.FeatureComponents
 holds p content h known.File = h known.File
-holds p content h known.InstallExecuteSequence = h known.InstallExecuteSequence ∙ ap (keyed install_execute_sequence_key install_execute_sequence_row) (sym (filled_rows (content (codes "InstallExecuteSequence"))))
+holds p content h known.InstallExecuteSequence = h known.InstallExecuteSequence ∙ ap (keyed text_key install_execute_sequence_row) (sym (filled_rows (content (codes "InstallExecuteSequence"))))
 holds p content h known.LaunchCondition = h known.LaunchCondition
 holds p content h known.MsiFileHash = h known.MsiFileHash
 holds p content h known.Property = h known.Property

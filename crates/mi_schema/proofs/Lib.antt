@@ -8,7 +8,9 @@ pub mod ConditionLaws
 pub mod DifferLemmas
 pub mod FitLemmas
 pub mod FolderLemmas
+pub mod KeyLaws
 pub mod KeyLemmas
+pub mod KnownLemmas
 pub mod LawfulLaws
 pub mod ListLemmas
 pub mod LoadLemmas

@@ -20,7 +20,7 @@ use Rattle.mi_schema.specs.declared.tables.Listed.{Listed as InCode}
 use Rattle.mi_schema.specs.declared.known.Known.{Known}
 use Rattle.mi_schema.specs.Listed.{Listed, listed, listed_as, layout_of, table_of, tables}
 use Rattle.mi_schema.specs.Tables as table
-use Rattle.mi_schema.specs.TypedRows.{component_row, component_key, condition_row, condition_key, create_folder_row, create_folder_key, custom_action_row, custom_action_key, directory_row, directory_key, duplicate_file_row, duplicate_file_key, environment_row, environment_key, feature_row, feature_key, feature_components_row, feature_components_key, file_row, file_key, install_execute_sequence_row, install_execute_sequence_key, launch_condition_row, launch_condition_key, msi_file_hash_row, msi_file_hash_key, property_row, property_key, registry_row, registry_key, remove_file_row, remove_file_key, remove_registry_row, remove_registry_key, shortcut_row, shortcut_key, summary_information_row, summary_information_key, upgrade_row, upgrade_key}
+use Rattle.mi_schema.specs.TypedRows.{component_row, text_key, condition_row, text_number_key, create_folder_row, texts_key, custom_action_row, directory_row, duplicate_file_row, environment_row, feature_row, feature_components_row, file_row, install_execute_sequence_row, launch_condition_row, msi_file_hash_row, property_row, registry_row, remove_file_row, remove_registry_row, shortcut_row, summary_information_row, number_key, upgrade_row, upgrade_key}
 use Rattle.mi_schema.specs.Loaded.{with_file, IsOther, IsPut, AreLoaded}
 use Rattle.mi_schema.specs.Package.{HoldsAll, keyed}
 use Rattle.mi_schema.specs.Rows.{◌or_else◌, table_fault, table_rows}
@@ -218,24 +218,24 @@ is_other items is i d lt =
 -- its file holds none of the rows of known tables
 pub refused_holds : (p : Package) (content : Content) (name : Name) (file : Option (List ℕ)) → ((k : Known) → bytes_eq (layout_of k).name name ≡ false) → HoldsAll p content → HoldsAll p (with_file content name file)
 refused_holds p content name file other h = elim [
-  | known.Component ↦ h known.Component ∙ ap (λ b. keyed component_key component_row (table_rows table.component (cond b file (content table.component.name)))) (sym (other known.Component))
-  | known.Condition ↦ h known.Condition ∙ ap (λ b. keyed condition_key condition_row (table_rows table.condition (cond b file (content table.condition.name)))) (sym (other known.Condition))
-  | known.CreateFolder ↦ h known.CreateFolder ∙ ap (λ b. keyed create_folder_key create_folder_row (table_rows table.create_folder (cond b file (content table.create_folder.name)))) (sym (other known.CreateFolder))
-  | known.CustomAction ↦ h known.CustomAction ∙ ap (λ b. keyed custom_action_key custom_action_row (table_rows table.custom_action (cond b file (content table.custom_action.name)))) (sym (other known.CustomAction))
-  | known.Directory ↦ h known.Directory ∙ ap (λ b. keyed directory_key directory_row (table_rows table.directory (cond b file (content table.directory.name)))) (sym (other known.Directory))
-  | known.DuplicateFile ↦ h known.DuplicateFile ∙ ap (λ b. keyed duplicate_file_key duplicate_file_row (table_rows table.duplicate_file (cond b file (content table.duplicate_file.name)))) (sym (other known.DuplicateFile))
-  | known.Environment ↦ h known.Environment ∙ ap (λ b. keyed environment_key environment_row (table_rows table.environment (cond b file (content table.environment.name)))) (sym (other known.Environment))
-  | known.Feature ↦ h known.Feature ∙ ap (λ b. keyed feature_key feature_row (table_rows table.feature (cond b file (content table.feature.name)))) (sym (other known.Feature))
-  | known.FeatureComponents ↦ h known.FeatureComponents ∙ ap (λ b. keyed feature_components_key feature_components_row (table_rows table.feature_components (cond b file (content table.feature_components.name)))) (sym (other known.FeatureComponents))
-  | known.File ↦ h known.File ∙ ap (λ b. keyed file_key file_row (table_rows table.file (cond b file (content table.file.name)))) (sym (other known.File))
-  | known.InstallExecuteSequence ↦ h known.InstallExecuteSequence ∙ ap (λ b. keyed install_execute_sequence_key install_execute_sequence_row (table_rows table.install_execute_sequence (cond b file (content table.install_execute_sequence.name)))) (sym (other known.InstallExecuteSequence))
-  | known.LaunchCondition ↦ h known.LaunchCondition ∙ ap (λ b. keyed launch_condition_key launch_condition_row (table_rows table.launch_condition (cond b file (content table.launch_condition.name)))) (sym (other known.LaunchCondition))
-  | known.MsiFileHash ↦ h known.MsiFileHash ∙ ap (λ b. keyed msi_file_hash_key msi_file_hash_row (table_rows table.msi_file_hash (cond b file (content table.msi_file_hash.name)))) (sym (other known.MsiFileHash))
-  | known.Property ↦ h known.Property ∙ ap (λ b. keyed property_key property_row (table_rows table.property (cond b file (content table.property.name)))) (sym (other known.Property))
-  | known.Registry ↦ h known.Registry ∙ ap (λ b. keyed registry_key registry_row (table_rows table.registry (cond b file (content table.registry.name)))) (sym (other known.Registry))
-  | known.RemoveFile ↦ h known.RemoveFile ∙ ap (λ b. keyed remove_file_key remove_file_row (table_rows table.remove_file (cond b file (content table.remove_file.name)))) (sym (other known.RemoveFile))
-  | known.RemoveRegistry ↦ h known.RemoveRegistry ∙ ap (λ b. keyed remove_registry_key remove_registry_row (table_rows table.remove_registry (cond b file (content table.remove_registry.name)))) (sym (other known.RemoveRegistry))
-  | known.Shortcut ↦ h known.Shortcut ∙ ap (λ b. keyed shortcut_key shortcut_row (table_rows table.shortcut (cond b file (content table.shortcut.name)))) (sym (other known.Shortcut))
-  | known.SummaryInformation ↦ h known.SummaryInformation ∙ ap (λ b. keyed summary_information_key summary_information_row (table_rows table.summary_information (cond b file (content table.summary_information.name)))) (sym (other known.SummaryInformation))
+  | known.Component ↦ h known.Component ∙ ap (λ b. keyed text_key component_row (table_rows table.component (cond b file (content table.component.name)))) (sym (other known.Component))
+  | known.Condition ↦ h known.Condition ∙ ap (λ b. keyed text_number_key condition_row (table_rows table.condition (cond b file (content table.condition.name)))) (sym (other known.Condition))
+  | known.CreateFolder ↦ h known.CreateFolder ∙ ap (λ b. keyed texts_key create_folder_row (table_rows table.create_folder (cond b file (content table.create_folder.name)))) (sym (other known.CreateFolder))
+  | known.CustomAction ↦ h known.CustomAction ∙ ap (λ b. keyed text_key custom_action_row (table_rows table.custom_action (cond b file (content table.custom_action.name)))) (sym (other known.CustomAction))
+  | known.Directory ↦ h known.Directory ∙ ap (λ b. keyed text_key directory_row (table_rows table.directory (cond b file (content table.directory.name)))) (sym (other known.Directory))
+  | known.DuplicateFile ↦ h known.DuplicateFile ∙ ap (λ b. keyed text_key duplicate_file_row (table_rows table.duplicate_file (cond b file (content table.duplicate_file.name)))) (sym (other known.DuplicateFile))
+  | known.Environment ↦ h known.Environment ∙ ap (λ b. keyed text_key environment_row (table_rows table.environment (cond b file (content table.environment.name)))) (sym (other known.Environment))
+  | known.Feature ↦ h known.Feature ∙ ap (λ b. keyed text_key feature_row (table_rows table.feature (cond b file (content table.feature.name)))) (sym (other known.Feature))
+  | known.FeatureComponents ↦ h known.FeatureComponents ∙ ap (λ b. keyed texts_key feature_components_row (table_rows table.feature_components (cond b file (content table.feature_components.name)))) (sym (other known.FeatureComponents))
+  | known.File ↦ h known.File ∙ ap (λ b. keyed text_key file_row (table_rows table.file (cond b file (content table.file.name)))) (sym (other known.File))
+  | known.InstallExecuteSequence ↦ h known.InstallExecuteSequence ∙ ap (λ b. keyed text_key install_execute_sequence_row (table_rows table.install_execute_sequence (cond b file (content table.install_execute_sequence.name)))) (sym (other known.InstallExecuteSequence))
+  | known.LaunchCondition ↦ h known.LaunchCondition ∙ ap (λ b. keyed text_key launch_condition_row (table_rows table.launch_condition (cond b file (content table.launch_condition.name)))) (sym (other known.LaunchCondition))
+  | known.MsiFileHash ↦ h known.MsiFileHash ∙ ap (λ b. keyed text_key msi_file_hash_row (table_rows table.msi_file_hash (cond b file (content table.msi_file_hash.name)))) (sym (other known.MsiFileHash))
+  | known.Property ↦ h known.Property ∙ ap (λ b. keyed text_key property_row (table_rows table.property (cond b file (content table.property.name)))) (sym (other known.Property))
+  | known.Registry ↦ h known.Registry ∙ ap (λ b. keyed text_key registry_row (table_rows table.registry (cond b file (content table.registry.name)))) (sym (other known.Registry))
+  | known.RemoveFile ↦ h known.RemoveFile ∙ ap (λ b. keyed text_key remove_file_row (table_rows table.remove_file (cond b file (content table.remove_file.name)))) (sym (other known.RemoveFile))
+  | known.RemoveRegistry ↦ h known.RemoveRegistry ∙ ap (λ b. keyed text_key remove_registry_row (table_rows table.remove_registry (cond b file (content table.remove_registry.name)))) (sym (other known.RemoveRegistry))
+  | known.Shortcut ↦ h known.Shortcut ∙ ap (λ b. keyed text_key shortcut_row (table_rows table.shortcut (cond b file (content table.shortcut.name)))) (sym (other known.Shortcut))
+  | known.SummaryInformation ↦ h known.SummaryInformation ∙ ap (λ b. keyed number_key summary_information_row (table_rows table.summary_information (cond b file (content table.summary_information.name)))) (sym (other known.SummaryInformation))
   | known.Upgrade ↦ h known.Upgrade ∙ ap (λ b. keyed upgrade_key upgrade_row (table_rows table.upgrade (cond b file (content table.upgrade.name)))) (sym (other known.Upgrade))
 ]

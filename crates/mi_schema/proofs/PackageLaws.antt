@@ -40,17 +40,16 @@ use Rattle.mi_schema.specs.Lawful.{IsOfTables}
 use Rattle.mi_schema.specs.Package.{HoldsAll}
 use Rattle.mi_schema.specs.Rows.{keys_of as keys_of_rows}
 use Rattle.mi_schema.specs.Tables.{required_properties, component, condition, create_folder, custom_action, directory, duplicate_file, environment, feature, feature_components, file, install_execute_sequence, launch_condition, msi_file_hash, property, registry, remove_file, remove_registry, shortcut, summary_information, upgrade}
-use Rattle.mi_schema.specs.KeyCells.{text_cells, number_cells, texts_cells, text_number_cells, upgrade_cells}
 use Rattle.mi_schema.specs.Suits.{suits}
-use Rattle.mi_schema.specs.Tells.{text_tells, number_tells, texts_tell, text_number_tell, upgrade_tells}
 use Rattle.mi_schema.specs.Texts.{is_decimal, are_languages, is_language, is_product_code, is_value_of}
 use Rattle.mi_schema.specs.Typed.{condition_in}
-use Rattle.mi_schema.specs.TypedRows.{component_row, component_key, condition_row, condition_key, create_folder_row, create_folder_key, custom_action_row, custom_action_key, directory_row, directory_key, duplicate_file_row, duplicate_file_key, environment_row, environment_key, feature_row, feature_key, feature_components_row, feature_components_key, file_row, file_key, install_execute_sequence_row, install_execute_sequence_key, launch_condition_row, launch_condition_key, msi_file_hash_row, msi_file_hash_key, property_row, property_key, registry_row, registry_key, remove_file_row, remove_file_key, remove_registry_row, remove_registry_key, shortcut_row, shortcut_key, summary_information_row, summary_information_key, upgrade_row, upgrade_key}
+use Rattle.mi_schema.specs.TypedRows.{component_row, text_key, condition_row, text_number_key, create_folder_row, texts_key, custom_action_row, directory_row, duplicate_file_row, environment_row, feature_row, feature_components_row, file_row, install_execute_sequence_row, launch_condition_row, msi_file_hash_row, property_row, registry_row, remove_file_row, remove_registry_row, shortcut_row, summary_information_row, number_key, upgrade_row, upgrade_key}
 use Rattle.mi_schema.specs.Values.{cell_at, text_in, text_at, number_in, lacks, is_root, is_root_below, is_key_in}
 use Rattle.mi_schema.proofs.ApartLaws.{own_keys, few_keyed, no_file, neither, without}
 use Rattle.mi_schema.proofs.CellLaws.{AreTables, is_known, is_listed, none_found, IsRight, OfKind, value_at, of_table, right_parts}
 use Rattle.mi_schema.proofs.ChainLaws.{found_first, get_any, chains_end}
 use Rattle.mi_schema.proofs.ConditionLaws.{conditions_are}
+use Rattle.mi_schema.proofs.KeyLaws.{text_cells, number_cells, texts_cells, text_number_cells, upgrade_cells, text_tells, number_tells, texts_tell, text_number_tell, upgrade_tells}
 use Rattle.mi_schema.proofs.ReferenceLaws.{each_keyed, keys_keyed, suits_here, stands_here, column_at, key_there, not_null, behind_at, behind_long, each_behind, each_named, named_there, may_be_there, must_be_there, named_keys}
 use Rattle.mi_schema.proofs.RowLaws.{summary_is}
 use Rattle.mi_schema.proofs.ValueLaws.{pairs_keyed, any_before, one_root, other_code, text_before, number_before, root_before, kind_suits, text_there, passes, if_passes, if_name, if_pattern, within, if_within}
@@ -110,26 +109,26 @@ decimal_of z decimal is e = sym (ap (λ (y : ℤ). not (int_eq y (pos 15)) || de
 module _ (p : Package) (content : Content) (are : AreTables content) (holds : HoldsAll p content) where
   pub keys_stand : KeysStand p
   keys_stand = record {
-    component = each_keyed component_key component_row (λ e. e.0 ≡ e.1.component) (rows_at content component) p.component.entries (holds known.Component) (λ n lt. refl);
-    condition = each_keyed condition_key condition_row (λ e. e.0 ≡ (e.1.feature, e.1.level)) (rows_at content condition) p.condition.entries (holds known.Condition) (λ n lt. refl);
-    create_folder = each_keyed create_folder_key create_folder_row (λ e. e.0 ≡ (e.1.directory, e.1.component)) (rows_at content create_folder) p.create_folder.entries (holds known.CreateFolder) (λ n lt. refl);
-    custom_action = each_keyed custom_action_key custom_action_row (λ e. e.0 ≡ e.1.action) (rows_at content custom_action) p.custom_action.entries (holds known.CustomAction) (λ n lt. refl);
-    directory = each_keyed directory_key directory_row (λ e. e.0 ≡ e.1.directory) (rows_at content directory) p.directory.entries (holds known.Directory) (λ n lt. refl);
-    duplicate_file = each_keyed duplicate_file_key duplicate_file_row (λ e. e.0 ≡ e.1.file_key) (rows_at content duplicate_file) p.duplicate_file.entries (holds known.DuplicateFile) (λ n lt. refl);
-    environment = each_keyed environment_key environment_row (λ e. e.0 ≡ e.1.environment) (rows_at content environment) p.environment.entries (holds known.Environment) (λ n lt. refl);
-    feature = each_keyed feature_key feature_row (λ e. e.0 ≡ e.1.feature) (rows_at content feature) p.feature.entries (holds known.Feature) (λ n lt. refl);
-    feature_components = each_keyed feature_components_key feature_components_row (λ e. e.0 ≡ (e.1.feature, e.1.component)) (rows_at content feature_components) p.feature_components.entries (holds known.FeatureComponents) (λ n lt. refl);
-    file = each_keyed file_key file_row (λ e. e.0 ≡ e.1.file) (rows_at content file) p.file.entries (holds known.File) (λ n lt. refl);
-    install_execute_sequence = each_keyed install_execute_sequence_key install_execute_sequence_row (λ e. e.0 ≡ e.1.action) (rows_at content install_execute_sequence) p.install_execute_sequence.entries (holds known.InstallExecuteSequence) (λ n lt. refl);
-    launch_condition = each_keyed launch_condition_key launch_condition_row (λ e. IsRead e.0 e.1.condition) (rows_at content launch_condition) p.launch_condition.entries (holds known.LaunchCondition) (λ n lt.
+    component = each_keyed text_key component_row (λ e. e.0 ≡ e.1.component) (rows_at content component) p.component.entries (holds known.Component) (λ n lt. refl);
+    condition = each_keyed text_number_key condition_row (λ e. e.0 ≡ (e.1.feature, e.1.level)) (rows_at content condition) p.condition.entries (holds known.Condition) (λ n lt. refl);
+    create_folder = each_keyed texts_key create_folder_row (λ e. e.0 ≡ (e.1.directory, e.1.component)) (rows_at content create_folder) p.create_folder.entries (holds known.CreateFolder) (λ n lt. refl);
+    custom_action = each_keyed text_key custom_action_row (λ e. e.0 ≡ e.1.action) (rows_at content custom_action) p.custom_action.entries (holds known.CustomAction) (λ n lt. refl);
+    directory = each_keyed text_key directory_row (λ e. e.0 ≡ e.1.directory) (rows_at content directory) p.directory.entries (holds known.Directory) (λ n lt. refl);
+    duplicate_file = each_keyed text_key duplicate_file_row (λ e. e.0 ≡ e.1.file_key) (rows_at content duplicate_file) p.duplicate_file.entries (holds known.DuplicateFile) (λ n lt. refl);
+    environment = each_keyed text_key environment_row (λ e. e.0 ≡ e.1.environment) (rows_at content environment) p.environment.entries (holds known.Environment) (λ n lt. refl);
+    feature = each_keyed text_key feature_row (λ e. e.0 ≡ e.1.feature) (rows_at content feature) p.feature.entries (holds known.Feature) (λ n lt. refl);
+    feature_components = each_keyed texts_key feature_components_row (λ e. e.0 ≡ (e.1.feature, e.1.component)) (rows_at content feature_components) p.feature_components.entries (holds known.FeatureComponents) (λ n lt. refl);
+    file = each_keyed text_key file_row (λ e. e.0 ≡ e.1.file) (rows_at content file) p.file.entries (holds known.File) (λ n lt. refl);
+    install_execute_sequence = each_keyed text_key install_execute_sequence_row (λ e. e.0 ≡ e.1.action) (rows_at content install_execute_sequence) p.install_execute_sequence.entries (holds known.InstallExecuteSequence) (λ n lt. refl);
+    launch_condition = each_keyed text_key launch_condition_row (λ e. IsRead e.0 e.1.condition) (rows_at content launch_condition) p.launch_condition.entries (holds known.LaunchCondition) (λ n lt.
         condition_read (value_at (rows_at content launch_condition) n 0) (suits_here content are launch_condition (is_known known.LaunchCondition) 0 n lt refl) (stands_here content are launch_condition (is_known known.LaunchCondition) 0 n lt refl).1);
-    msi_file_hash = each_keyed msi_file_hash_key msi_file_hash_row (λ e. e.0 ≡ e.1.file) (rows_at content msi_file_hash) p.msi_file_hash.entries (holds known.MsiFileHash) (λ n lt. refl);
-    property = each_keyed property_key property_row (λ e. e.0 ≡ e.1.property) (rows_at content property) p.property.entries (holds known.Property) (λ n lt. refl);
-    registry = each_keyed registry_key registry_row (λ e. e.0 ≡ e.1.registry) (rows_at content registry) p.registry.entries (holds known.Registry) (λ n lt. refl);
-    remove_file = each_keyed remove_file_key remove_file_row (λ e. e.0 ≡ e.1.file_key) (rows_at content remove_file) p.remove_file.entries (holds known.RemoveFile) (λ n lt. refl);
-    remove_registry = each_keyed remove_registry_key remove_registry_row (λ e. e.0 ≡ e.1.remove_registry) (rows_at content remove_registry) p.remove_registry.entries (holds known.RemoveRegistry) (λ n lt. refl);
-    shortcut = each_keyed shortcut_key shortcut_row (λ e. e.0 ≡ e.1.shortcut) (rows_at content shortcut) p.shortcut.entries (holds known.Shortcut) (λ n lt. refl);
-    summary_information = each_keyed summary_information_key summary_information_row (λ e. e.0 ≡ e.1.property_id) (rows_at content summary_information) p.summary_information.entries (holds known.SummaryInformation) (λ n lt. refl);
+    msi_file_hash = each_keyed text_key msi_file_hash_row (λ e. e.0 ≡ e.1.file) (rows_at content msi_file_hash) p.msi_file_hash.entries (holds known.MsiFileHash) (λ n lt. refl);
+    property = each_keyed text_key property_row (λ e. e.0 ≡ e.1.property) (rows_at content property) p.property.entries (holds known.Property) (λ n lt. refl);
+    registry = each_keyed text_key registry_row (λ e. e.0 ≡ e.1.registry) (rows_at content registry) p.registry.entries (holds known.Registry) (λ n lt. refl);
+    remove_file = each_keyed text_key remove_file_row (λ e. e.0 ≡ e.1.file_key) (rows_at content remove_file) p.remove_file.entries (holds known.RemoveFile) (λ n lt. refl);
+    remove_registry = each_keyed text_key remove_registry_row (λ e. e.0 ≡ e.1.remove_registry) (rows_at content remove_registry) p.remove_registry.entries (holds known.RemoveRegistry) (λ n lt. refl);
+    shortcut = each_keyed text_key shortcut_row (λ e. e.0 ≡ e.1.shortcut) (rows_at content shortcut) p.shortcut.entries (holds known.Shortcut) (λ n lt. refl);
+    summary_information = each_keyed number_key summary_information_row (λ e. e.0 ≡ e.1.property_id) (rows_at content summary_information) p.summary_information.entries (holds known.SummaryInformation) (λ n lt. refl);
     upgrade = each_keyed upgrade_key upgrade_row (λ e. e.0 ≡ (e.1.upgrade_code, e.1.version_min, e.1.version_max, e.1.language, e.1.attributes)) (rows_at content upgrade) p.upgrade.entries (holds known.Upgrade) (λ n lt. refl);
   }
 
@@ -141,94 +140,94 @@ module _ (p : Package) (content : Content) (are : AreTables content) (holds : Ho
 
   pub values_stand : ValuesStand p
   values_stand = record {
-    component_id = pairs_keyed component_key component_row (λ a b. HasOtherCode a.1.component_id b.1.component_id) (rows_at content component) p.component.entries (holds known.Component) (λ m n before lt. other_code (rows_at content component) m n before lt (stands_here content are component (is_known known.Component) 1 n lt refl).0);
-    component_attributes = each_keyed component_key component_row (λ e. lacks 97 e.1.attributes ≡ true) (rows_at content component) p.component.entries (holds known.Component) (λ n lt. (stands_here content are component (is_known known.Component) 3 n lt refl).0);
-    directory_one_root = pairs_keyed directory_key directory_row (λ a b. is_root_below a.1.directory a.1.directory_parent ≡ true → is_root_below b.1.directory b.1.directory_parent ≡ false) (rows_at content directory) p.directory.entries (holds known.Directory) (λ m n before lt. λ root.
+    component_id = pairs_keyed text_key component_row (λ a b. HasOtherCode a.1.component_id b.1.component_id) (rows_at content component) p.component.entries (holds known.Component) (λ m n before lt. other_code (rows_at content component) m n before lt (stands_here content are component (is_known known.Component) 1 n lt refl).0);
+    component_attributes = each_keyed text_key component_row (λ e. lacks 97 e.1.attributes ≡ true) (rows_at content component) p.component.entries (holds known.Component) (λ n lt. (stands_here content are component (is_known known.Component) 3 n lt refl).0);
+    directory_one_root = pairs_keyed text_key directory_row (λ a b. is_root_below a.1.directory a.1.directory_parent ≡ true → is_root_below b.1.directory b.1.directory_parent ≡ false) (rows_at content directory) p.directory.entries (holds known.Directory) (λ m n before lt. λ root.
         ap (λ (text : List ℕ). is_root_below text (text_in (value_at (rows_at content directory) n 1))) (sym (text_before (get_or (rows_at content directory) n [])))
         ∙ one_root (is_root_below (text_at (take 1 (get_or (rows_at content directory) n [])) 0) (text_in (value_at (rows_at content directory) n 1))) (list_any is_root (take n (rows_at content directory))) (stands_here content are directory (is_known known.Directory) 1 n lt refl).0 (any_before is_root (rows_at content directory) m n before lt root));
-    directory_default_dir = each_keyed directory_key directory_row (λ e. (is_root_below e.1.directory e.1.directory_parent ≡ true) ⊎ (is_default_dir e.1.default_dir ≡ true)) (rows_at content directory) p.directory.entries (holds known.Directory) (λ n lt.
+    directory_default_dir = each_keyed text_key directory_row (λ e. (is_root_below e.1.directory e.1.directory_parent ≡ true) ⊎ (is_default_dir e.1.default_dir ≡ true)) (rows_at content directory) p.directory.entries (holds known.Directory) (λ n lt.
         default_dir (is_root (get_or (rows_at content directory) n [])) (text_in (value_at (rows_at content directory) n 2)) (text_there (column_at directory 2) (value_at (rows_at content directory) n 2) refl refl (suits_here content are directory (is_known known.Directory) 2 n lt refl))
         (ap (λ b. b || option_map_or is_default_dir (text_in (value_at (rows_at content directory) n 2)) true) (sym (root_before (get_or (rows_at content directory) n []))) ∙ (stands_here content are directory (is_known known.Directory) 2 n lt refl).0));
-    duplicate_file_name = each_keyed duplicate_file_key duplicate_file_row (λ e. IfSome e.1.dest_name (λ name. is_file_name name ≡ true)) (rows_at content duplicate_file) p.duplicate_file.entries (holds known.DuplicateFile) (λ n lt. if_name (value_at (rows_at content duplicate_file) n 3) (kind_suits kind.Name (column_at duplicate_file 3) (value_at (rows_at content duplicate_file) n 3) refl (suits_here content are duplicate_file (is_known known.DuplicateFile) 3 n lt refl)) (stands_here content are duplicate_file (is_known known.DuplicateFile) 3 n lt refl).1);
-    file_name = each_keyed file_key file_row (λ e. is_file_name e.1.file_name ≡ true) (rows_at content file) p.file.entries (holds known.File) (λ n lt.
+    duplicate_file_name = each_keyed text_key duplicate_file_row (λ e. IfSome e.1.dest_name (λ name. is_file_name name ≡ true)) (rows_at content duplicate_file) p.duplicate_file.entries (holds known.DuplicateFile) (λ n lt. if_name (value_at (rows_at content duplicate_file) n 3) (kind_suits kind.Name (column_at duplicate_file 3) (value_at (rows_at content duplicate_file) n 3) refl (suits_here content are duplicate_file (is_known known.DuplicateFile) 3 n lt refl)) (stands_here content are duplicate_file (is_known known.DuplicateFile) 3 n lt refl).1);
+    file_name = each_keyed text_key file_row (λ e. is_file_name e.1.file_name ≡ true) (rows_at content file) p.file.entries (holds known.File) (λ n lt.
         passes (λ name. is_file_name name ≡ true) (text_in (value_at (rows_at content file) n 2)) (text_there (column_at file 2) (value_at (rows_at content file) n 2) refl refl (suits_here content are file (is_known known.File) 2 n lt refl)) (if_name (value_at (rows_at content file) n 2) (kind_suits kind.Name (column_at file 2) (value_at (rows_at content file) n 2) refl (suits_here content are file (is_known known.File) 2 n lt refl)) (stands_here content are file (is_known known.File) 2 n lt refl).1));
-    file_size = each_keyed file_key file_row (λ e. IsWithin (pos 0) (pos 2147483647) e.1.file_size) (rows_at content file) p.file.entries (holds known.File) (λ n lt. within (pos 0) (pos 2147483647) (value_at (rows_at content file) n 3) (not_null (column_at file 3) (value_at (rows_at content file) n 3) (suits_here content are file (is_known known.File) 3 n lt refl) refl) (stands_here content are file (is_known known.File) 3 n lt refl).0);
-    file_version = each_keyed file_key file_row (λ e. IfSome (companion_of e.1.version) (IsKeyOf p.file.entries)) (rows_at content file) p.file.entries (holds known.File) (λ n lt.
-        key_of_map (keys_of_rows (rows_at content file)) (keys_of p.file.entries) (sym (keys_keyed file_key file_row (rows_at content file) p.file.entries (holds known.File))) (companion_of (text_in (value_at (rows_at content file) n 4)))
+    file_size = each_keyed text_key file_row (λ e. IsWithin (pos 0) (pos 2147483647) e.1.file_size) (rows_at content file) p.file.entries (holds known.File) (λ n lt. within (pos 0) (pos 2147483647) (value_at (rows_at content file) n 3) (not_null (column_at file 3) (value_at (rows_at content file) n 3) (suits_here content are file (is_known known.File) 3 n lt refl) refl) (stands_here content are file (is_known known.File) 3 n lt refl).0);
+    file_version = each_keyed text_key file_row (λ e. IfSome (companion_of e.1.version) (IsKeyOf p.file.entries)) (rows_at content file) p.file.entries (holds known.File) (λ n lt.
+        key_of_map (keys_of_rows (rows_at content file)) (keys_of p.file.entries) (sym (keys_keyed text_key file_row (rows_at content file) p.file.entries (holds known.File))) (companion_of (text_in (value_at (rows_at content file) n 4)))
         (companion (keys_of_rows (rows_at content file)) (text_in (value_at (rows_at content file) n 4)) (stands_here content are file (is_known known.File) 4 n lt refl).0));
-    file_language = each_keyed file_key file_row (λ e. IfSome e.1.language (λ text. are_languages text ≡ true)) (rows_at content file) p.file.entries (holds known.File) (λ n lt. if_passes are_languages (text_in (value_at (rows_at content file) n 5)) (stands_here content are file (is_known known.File) 5 n lt refl).0);
-    property_name = each_keyed property_key property_row (λ e. is_property_name e.1.property ≡ true) (rows_at content property) p.property.entries (holds known.Property) (λ n lt.
+    file_language = each_keyed text_key file_row (λ e. IfSome e.1.language (λ text. are_languages text ≡ true)) (rows_at content file) p.file.entries (holds known.File) (λ n lt. if_passes are_languages (text_in (value_at (rows_at content file) n 5)) (stands_here content are file (is_known known.File) 5 n lt refl).0);
+    property_name = each_keyed text_key property_row (λ e. is_property_name e.1.property ≡ true) (rows_at content property) p.property.entries (holds known.Property) (λ n lt.
         passes (λ name. is_property_name name ≡ true) (text_in (value_at (rows_at content property) n 0)) (text_there (column_at property 0) (value_at (rows_at content property) n 0) refl refl (suits_here content are property (is_known known.Property) 0 n lt refl)) (if_passes is_property_name (text_in (value_at (rows_at content property) n 0)) (stands_here content are property (is_known known.Property) 0 n lt refl).0));
-    property_value = each_keyed property_key property_row (λ e. is_value_of e.1.property e.1.value ≡ true) (rows_at content property) p.property.entries (holds known.Property) (λ n lt. value_passes n lt);
-    registry_root = each_keyed registry_key registry_row (λ e. IsWithin (negsuc 0) (pos 3) e.1.root) (rows_at content registry) p.registry.entries (holds known.Registry) (λ n lt. within (negsuc 0) (pos 3) (value_at (rows_at content registry) n 1) (not_null (column_at registry 1) (value_at (rows_at content registry) n 1) (suits_here content are registry (is_known known.Registry) 1 n lt refl) refl) (stands_here content are registry (is_known known.Registry) 1 n lt refl).0);
-    remove_file_name = each_keyed remove_file_key remove_file_row (λ e. IfSome e.1.file_name (λ name. is_file_pattern name ≡ true)) (rows_at content remove_file) p.remove_file.entries (holds known.RemoveFile) (λ n lt. if_pattern (value_at (rows_at content remove_file) n 2) (kind_suits kind.Pattern (column_at remove_file 2) (value_at (rows_at content remove_file) n 2) refl (suits_here content are remove_file (is_known known.RemoveFile) 2 n lt refl)) (stands_here content are remove_file (is_known known.RemoveFile) 2 n lt refl).1);
-    remove_file_mode = each_keyed remove_file_key remove_file_row (λ e. IsWithin (pos 1) (pos 3) e.1.install_mode) (rows_at content remove_file) p.remove_file.entries (holds known.RemoveFile) (λ n lt. within (pos 1) (pos 3) (value_at (rows_at content remove_file) n 4) (not_null (column_at remove_file 4) (value_at (rows_at content remove_file) n 4) (suits_here content are remove_file (is_known known.RemoveFile) 4 n lt refl) refl) (stands_here content are remove_file (is_known known.RemoveFile) 4 n lt refl).0);
-    remove_registry_root = each_keyed remove_registry_key remove_registry_row (λ e. IsWithin (negsuc 0) (pos 3) e.1.root) (rows_at content remove_registry) p.remove_registry.entries (holds known.RemoveRegistry) (λ n lt. within (negsuc 0) (pos 3) (value_at (rows_at content remove_registry) n 1) (not_null (column_at remove_registry 1) (value_at (rows_at content remove_registry) n 1) (suits_here content are remove_registry (is_known known.RemoveRegistry) 1 n lt refl) refl) (stands_here content are remove_registry (is_known known.RemoveRegistry) 1 n lt refl).0);
-    shortcut_name = each_keyed shortcut_key shortcut_row (λ e. is_file_name e.1.name ≡ true) (rows_at content shortcut) p.shortcut.entries (holds known.Shortcut) (λ n lt.
+    property_value = each_keyed text_key property_row (λ e. is_value_of e.1.property e.1.value ≡ true) (rows_at content property) p.property.entries (holds known.Property) (λ n lt. value_passes n lt);
+    registry_root = each_keyed text_key registry_row (λ e. IsWithin (negsuc 0) (pos 3) e.1.root) (rows_at content registry) p.registry.entries (holds known.Registry) (λ n lt. within (negsuc 0) (pos 3) (value_at (rows_at content registry) n 1) (not_null (column_at registry 1) (value_at (rows_at content registry) n 1) (suits_here content are registry (is_known known.Registry) 1 n lt refl) refl) (stands_here content are registry (is_known known.Registry) 1 n lt refl).0);
+    remove_file_name = each_keyed text_key remove_file_row (λ e. IfSome e.1.file_name (λ name. is_file_pattern name ≡ true)) (rows_at content remove_file) p.remove_file.entries (holds known.RemoveFile) (λ n lt. if_pattern (value_at (rows_at content remove_file) n 2) (kind_suits kind.Pattern (column_at remove_file 2) (value_at (rows_at content remove_file) n 2) refl (suits_here content are remove_file (is_known known.RemoveFile) 2 n lt refl)) (stands_here content are remove_file (is_known known.RemoveFile) 2 n lt refl).1);
+    remove_file_mode = each_keyed text_key remove_file_row (λ e. IsWithin (pos 1) (pos 3) e.1.install_mode) (rows_at content remove_file) p.remove_file.entries (holds known.RemoveFile) (λ n lt. within (pos 1) (pos 3) (value_at (rows_at content remove_file) n 4) (not_null (column_at remove_file 4) (value_at (rows_at content remove_file) n 4) (suits_here content are remove_file (is_known known.RemoveFile) 4 n lt refl) refl) (stands_here content are remove_file (is_known known.RemoveFile) 4 n lt refl).0);
+    remove_registry_root = each_keyed text_key remove_registry_row (λ e. IsWithin (negsuc 0) (pos 3) e.1.root) (rows_at content remove_registry) p.remove_registry.entries (holds known.RemoveRegistry) (λ n lt. within (negsuc 0) (pos 3) (value_at (rows_at content remove_registry) n 1) (not_null (column_at remove_registry 1) (value_at (rows_at content remove_registry) n 1) (suits_here content are remove_registry (is_known known.RemoveRegistry) 1 n lt refl) refl) (stands_here content are remove_registry (is_known known.RemoveRegistry) 1 n lt refl).0);
+    shortcut_name = each_keyed text_key shortcut_row (λ e. is_file_name e.1.name ≡ true) (rows_at content shortcut) p.shortcut.entries (holds known.Shortcut) (λ n lt.
         passes (λ name. is_file_name name ≡ true) (text_in (value_at (rows_at content shortcut) n 2)) (text_there (column_at shortcut 2) (value_at (rows_at content shortcut) n 2) refl refl (suits_here content are shortcut (is_known known.Shortcut) 2 n lt refl)) (if_name (value_at (rows_at content shortcut) n 2) (kind_suits kind.Name (column_at shortcut 2) (value_at (rows_at content shortcut) n 2) refl (suits_here content are shortcut (is_known known.Shortcut) 2 n lt refl)) (stands_here content are shortcut (is_known known.Shortcut) 2 n lt refl).1));
-    shortcut_hotkey = each_keyed shortcut_key shortcut_row (λ e. IfSome e.1.hotkey (IsWithin (pos 0) (pos 65535))) (rows_at content shortcut) p.shortcut.entries (holds known.Shortcut) (λ n lt. if_within (pos 0) (pos 65535) (value_at (rows_at content shortcut) n 7) (stands_here content are shortcut (is_known known.Shortcut) 7 n lt refl).0);
-    shortcut_icon_index = each_keyed shortcut_key shortcut_row (λ e. IfSome e.1.icon_index (IsWithin (negsuc 32766) (pos 32767))) (rows_at content shortcut) p.shortcut.entries (holds known.Shortcut) (λ n lt. if_within (negsuc 32766) (pos 32767) (value_at (rows_at content shortcut) n 9) (stands_here content are shortcut (is_known known.Shortcut) 9 n lt refl).0);
-    word_count = each_keyed summary_information_key summary_information_row (λ e. e.1.property_id ≡ pos 15 → is_decimal (unwrap_or e.1.value []) ≡ true) (rows_at content summary_information) p.summary_information.entries (holds known.SummaryInformation) (λ n lt fifteen.
+    shortcut_hotkey = each_keyed text_key shortcut_row (λ e. IfSome e.1.hotkey (IsWithin (pos 0) (pos 65535))) (rows_at content shortcut) p.shortcut.entries (holds known.Shortcut) (λ n lt. if_within (pos 0) (pos 65535) (value_at (rows_at content shortcut) n 7) (stands_here content are shortcut (is_known known.Shortcut) 7 n lt refl).0);
+    shortcut_icon_index = each_keyed text_key shortcut_row (λ e. IfSome e.1.icon_index (IsWithin (negsuc 32766) (pos 32767))) (rows_at content shortcut) p.shortcut.entries (holds known.Shortcut) (λ n lt. if_within (negsuc 32766) (pos 32767) (value_at (rows_at content shortcut) n 9) (stands_here content are shortcut (is_known known.Shortcut) 9 n lt refl).0);
+    word_count = each_keyed number_key summary_information_row (λ e. e.1.property_id ≡ pos 15 → is_decimal (unwrap_or e.1.value []) ≡ true) (rows_at content summary_information) p.summary_information.entries (holds known.SummaryInformation) (λ n lt fifteen.
         decimal_of (number_in (cell_at (take 1 (get_or (rows_at content summary_information) n [])) 0)) (is_decimal (unwrap_or (text_in (value_at (rows_at content summary_information) n 1)) [])) (number_before (get_or (rows_at content summary_information) n []) ∙ fifteen) (stands_here content are summary_information (is_known known.SummaryInformation) 1 n lt refl).0);
-    shortcut_show_cmd = each_keyed shortcut_key shortcut_row (λ e. IfSome e.1.show_cmd (IsWithin (pos 0) (pos 65535))) (rows_at content shortcut) p.shortcut.entries (holds known.Shortcut) (λ n lt. if_within (pos 0) (pos 65535) (value_at (rows_at content shortcut) n 10) (stands_here content are shortcut (is_known known.Shortcut) 10 n lt refl).0);
+    shortcut_show_cmd = each_keyed text_key shortcut_row (λ e. IfSome e.1.show_cmd (IsWithin (pos 0) (pos 65535))) (rows_at content shortcut) p.shortcut.entries (holds known.Shortcut) (λ n lt. if_within (pos 0) (pos 65535) (value_at (rows_at content shortcut) n 10) (stands_here content are shortcut (is_known known.Shortcut) 10 n lt refl).0);
   }
 
   pub keys_apart : KeysApart p
   keys_apart = record {
-    component = own_keys component_key component_row text_cells component (rows_at content component) (of_table content are component (is_known known.Component)) refl (text_tells component.columns refl) p.component.entries (holds known.Component);
-    condition = own_keys condition_key condition_row text_number_cells condition (rows_at content condition) (of_table content are condition (is_known known.Condition)) refl (text_number_tell condition.columns refl) p.condition.entries (holds known.Condition);
-    create_folder = own_keys create_folder_key create_folder_row texts_cells create_folder (rows_at content create_folder) (of_table content are create_folder (is_known known.CreateFolder)) refl (texts_tell create_folder.columns refl) p.create_folder.entries (holds known.CreateFolder);
-    custom_action = own_keys custom_action_key custom_action_row text_cells custom_action (rows_at content custom_action) (of_table content are custom_action (is_known known.CustomAction)) refl (text_tells custom_action.columns refl) p.custom_action.entries (holds known.CustomAction);
-    directory = own_keys directory_key directory_row text_cells directory (rows_at content directory) (of_table content are directory (is_known known.Directory)) refl (text_tells directory.columns refl) p.directory.entries (holds known.Directory);
-    duplicate_file = own_keys duplicate_file_key duplicate_file_row text_cells duplicate_file (rows_at content duplicate_file) (of_table content are duplicate_file (is_known known.DuplicateFile)) refl (text_tells duplicate_file.columns refl) p.duplicate_file.entries (holds known.DuplicateFile);
-    environment = own_keys environment_key environment_row text_cells environment (rows_at content environment) (of_table content are environment (is_known known.Environment)) refl (text_tells environment.columns refl) p.environment.entries (holds known.Environment);
-    feature = own_keys feature_key feature_row text_cells feature (rows_at content feature) (of_table content are feature (is_known known.Feature)) refl (text_tells feature.columns refl) p.feature.entries (holds known.Feature);
-    feature_components = own_keys feature_components_key feature_components_row texts_cells feature_components (rows_at content feature_components) (of_table content are feature_components (is_known known.FeatureComponents)) refl (texts_tell feature_components.columns refl) p.feature_components.entries (holds known.FeatureComponents);
-    file = own_keys file_key file_row text_cells file (rows_at content file) (of_table content are file (is_known known.File)) refl (text_tells file.columns refl) p.file.entries (holds known.File);
-    install_execute_sequence = own_keys install_execute_sequence_key install_execute_sequence_row text_cells install_execute_sequence (rows_at content install_execute_sequence) (of_table content are install_execute_sequence (is_known known.InstallExecuteSequence)) refl (text_tells install_execute_sequence.columns refl) p.install_execute_sequence.entries (holds known.InstallExecuteSequence);
-    launch_condition = own_keys launch_condition_key launch_condition_row text_cells launch_condition (rows_at content launch_condition) (of_table content are launch_condition (is_known known.LaunchCondition)) refl (text_tells launch_condition.columns refl) p.launch_condition.entries (holds known.LaunchCondition);
-    msi_file_hash = own_keys msi_file_hash_key msi_file_hash_row text_cells msi_file_hash (rows_at content msi_file_hash) (of_table content are msi_file_hash (is_known known.MsiFileHash)) refl (text_tells msi_file_hash.columns refl) p.msi_file_hash.entries (holds known.MsiFileHash);
-    property = own_keys property_key property_row text_cells property (rows_at content property) (of_table content are property (is_known known.Property)) refl (text_tells property.columns refl) p.property.entries (holds known.Property);
-    registry = own_keys registry_key registry_row text_cells registry (rows_at content registry) (of_table content are registry (is_known known.Registry)) refl (text_tells registry.columns refl) p.registry.entries (holds known.Registry);
-    remove_file = own_keys remove_file_key remove_file_row text_cells remove_file (rows_at content remove_file) (of_table content are remove_file (is_known known.RemoveFile)) refl (text_tells remove_file.columns refl) p.remove_file.entries (holds known.RemoveFile);
-    remove_registry = own_keys remove_registry_key remove_registry_row text_cells remove_registry (rows_at content remove_registry) (of_table content are remove_registry (is_known known.RemoveRegistry)) refl (text_tells remove_registry.columns refl) p.remove_registry.entries (holds known.RemoveRegistry);
-    shortcut = own_keys shortcut_key shortcut_row text_cells shortcut (rows_at content shortcut) (of_table content are shortcut (is_known known.Shortcut)) refl (text_tells shortcut.columns refl) p.shortcut.entries (holds known.Shortcut);
-    summary_information = own_keys summary_information_key summary_information_row number_cells summary_information (rows_at content summary_information) (of_table content are summary_information (is_known known.SummaryInformation)) refl (number_tells summary_information.columns refl) p.summary_information.entries (holds known.SummaryInformation);
+    component = own_keys text_key component_row text_cells component (rows_at content component) (of_table content are component (is_known known.Component)) refl (text_tells component.columns refl) p.component.entries (holds known.Component);
+    condition = own_keys text_number_key condition_row text_number_cells condition (rows_at content condition) (of_table content are condition (is_known known.Condition)) refl (text_number_tell condition.columns refl) p.condition.entries (holds known.Condition);
+    create_folder = own_keys texts_key create_folder_row texts_cells create_folder (rows_at content create_folder) (of_table content are create_folder (is_known known.CreateFolder)) refl (texts_tell create_folder.columns refl) p.create_folder.entries (holds known.CreateFolder);
+    custom_action = own_keys text_key custom_action_row text_cells custom_action (rows_at content custom_action) (of_table content are custom_action (is_known known.CustomAction)) refl (text_tells custom_action.columns refl) p.custom_action.entries (holds known.CustomAction);
+    directory = own_keys text_key directory_row text_cells directory (rows_at content directory) (of_table content are directory (is_known known.Directory)) refl (text_tells directory.columns refl) p.directory.entries (holds known.Directory);
+    duplicate_file = own_keys text_key duplicate_file_row text_cells duplicate_file (rows_at content duplicate_file) (of_table content are duplicate_file (is_known known.DuplicateFile)) refl (text_tells duplicate_file.columns refl) p.duplicate_file.entries (holds known.DuplicateFile);
+    environment = own_keys text_key environment_row text_cells environment (rows_at content environment) (of_table content are environment (is_known known.Environment)) refl (text_tells environment.columns refl) p.environment.entries (holds known.Environment);
+    feature = own_keys text_key feature_row text_cells feature (rows_at content feature) (of_table content are feature (is_known known.Feature)) refl (text_tells feature.columns refl) p.feature.entries (holds known.Feature);
+    feature_components = own_keys texts_key feature_components_row texts_cells feature_components (rows_at content feature_components) (of_table content are feature_components (is_known known.FeatureComponents)) refl (texts_tell feature_components.columns refl) p.feature_components.entries (holds known.FeatureComponents);
+    file = own_keys text_key file_row text_cells file (rows_at content file) (of_table content are file (is_known known.File)) refl (text_tells file.columns refl) p.file.entries (holds known.File);
+    install_execute_sequence = own_keys text_key install_execute_sequence_row text_cells install_execute_sequence (rows_at content install_execute_sequence) (of_table content are install_execute_sequence (is_known known.InstallExecuteSequence)) refl (text_tells install_execute_sequence.columns refl) p.install_execute_sequence.entries (holds known.InstallExecuteSequence);
+    launch_condition = own_keys text_key launch_condition_row text_cells launch_condition (rows_at content launch_condition) (of_table content are launch_condition (is_known known.LaunchCondition)) refl (text_tells launch_condition.columns refl) p.launch_condition.entries (holds known.LaunchCondition);
+    msi_file_hash = own_keys text_key msi_file_hash_row text_cells msi_file_hash (rows_at content msi_file_hash) (of_table content are msi_file_hash (is_known known.MsiFileHash)) refl (text_tells msi_file_hash.columns refl) p.msi_file_hash.entries (holds known.MsiFileHash);
+    property = own_keys text_key property_row text_cells property (rows_at content property) (of_table content are property (is_known known.Property)) refl (text_tells property.columns refl) p.property.entries (holds known.Property);
+    registry = own_keys text_key registry_row text_cells registry (rows_at content registry) (of_table content are registry (is_known known.Registry)) refl (text_tells registry.columns refl) p.registry.entries (holds known.Registry);
+    remove_file = own_keys text_key remove_file_row text_cells remove_file (rows_at content remove_file) (of_table content are remove_file (is_known known.RemoveFile)) refl (text_tells remove_file.columns refl) p.remove_file.entries (holds known.RemoveFile);
+    remove_registry = own_keys text_key remove_registry_row text_cells remove_registry (rows_at content remove_registry) (of_table content are remove_registry (is_known known.RemoveRegistry)) refl (text_tells remove_registry.columns refl) p.remove_registry.entries (holds known.RemoveRegistry);
+    shortcut = own_keys text_key shortcut_row text_cells shortcut (rows_at content shortcut) (of_table content are shortcut (is_known known.Shortcut)) refl (text_tells shortcut.columns refl) p.shortcut.entries (holds known.Shortcut);
+    summary_information = own_keys number_key summary_information_row number_cells summary_information (rows_at content summary_information) (of_table content are summary_information (is_known known.SummaryInformation)) refl (number_tells summary_information.columns refl) p.summary_information.entries (holds known.SummaryInformation);
     upgrade = own_keys upgrade_key upgrade_row upgrade_cells upgrade (rows_at content upgrade) (of_table content are upgrade (is_known known.Upgrade)) refl (upgrade_tells upgrade.columns refl) p.upgrade.entries (holds known.Upgrade);
   }
 
   pub tables_small : TablesSmall p
   tables_small = record {
-    component = few_keyed component_key component_row component (rows_at content component) (of_table content are component (is_known known.Component)) p.component.entries (holds known.Component);
-    condition = few_keyed condition_key condition_row condition (rows_at content condition) (of_table content are condition (is_known known.Condition)) p.condition.entries (holds known.Condition);
-    create_folder = few_keyed create_folder_key create_folder_row create_folder (rows_at content create_folder) (of_table content are create_folder (is_known known.CreateFolder)) p.create_folder.entries (holds known.CreateFolder);
-    custom_action = few_keyed custom_action_key custom_action_row custom_action (rows_at content custom_action) (of_table content are custom_action (is_known known.CustomAction)) p.custom_action.entries (holds known.CustomAction);
-    directory = few_keyed directory_key directory_row directory (rows_at content directory) (of_table content are directory (is_known known.Directory)) p.directory.entries (holds known.Directory);
-    duplicate_file = few_keyed duplicate_file_key duplicate_file_row duplicate_file (rows_at content duplicate_file) (of_table content are duplicate_file (is_known known.DuplicateFile)) p.duplicate_file.entries (holds known.DuplicateFile);
-    environment = few_keyed environment_key environment_row environment (rows_at content environment) (of_table content are environment (is_known known.Environment)) p.environment.entries (holds known.Environment);
-    feature = few_keyed feature_key feature_row feature (rows_at content feature) (of_table content are feature (is_known known.Feature)) p.feature.entries (holds known.Feature);
-    feature_components = few_keyed feature_components_key feature_components_row feature_components (rows_at content feature_components) (of_table content are feature_components (is_known known.FeatureComponents)) p.feature_components.entries (holds known.FeatureComponents);
-    file = few_keyed file_key file_row file (rows_at content file) (of_table content are file (is_known known.File)) p.file.entries (holds known.File);
-    install_execute_sequence = few_keyed install_execute_sequence_key install_execute_sequence_row install_execute_sequence (rows_at content install_execute_sequence) (of_table content are install_execute_sequence (is_known known.InstallExecuteSequence)) p.install_execute_sequence.entries (holds known.InstallExecuteSequence);
-    launch_condition = few_keyed launch_condition_key launch_condition_row launch_condition (rows_at content launch_condition) (of_table content are launch_condition (is_known known.LaunchCondition)) p.launch_condition.entries (holds known.LaunchCondition);
-    msi_file_hash = few_keyed msi_file_hash_key msi_file_hash_row msi_file_hash (rows_at content msi_file_hash) (of_table content are msi_file_hash (is_known known.MsiFileHash)) p.msi_file_hash.entries (holds known.MsiFileHash);
-    property = few_keyed property_key property_row property (rows_at content property) (of_table content are property (is_known known.Property)) p.property.entries (holds known.Property);
-    registry = few_keyed registry_key registry_row registry (rows_at content registry) (of_table content are registry (is_known known.Registry)) p.registry.entries (holds known.Registry);
-    remove_file = few_keyed remove_file_key remove_file_row remove_file (rows_at content remove_file) (of_table content are remove_file (is_known known.RemoveFile)) p.remove_file.entries (holds known.RemoveFile);
-    remove_registry = few_keyed remove_registry_key remove_registry_row remove_registry (rows_at content remove_registry) (of_table content are remove_registry (is_known known.RemoveRegistry)) p.remove_registry.entries (holds known.RemoveRegistry);
-    shortcut = few_keyed shortcut_key shortcut_row shortcut (rows_at content shortcut) (of_table content are shortcut (is_known known.Shortcut)) p.shortcut.entries (holds known.Shortcut);
-    summary_information = few_keyed summary_information_key summary_information_row summary_information (rows_at content summary_information) (of_table content are summary_information (is_known known.SummaryInformation)) p.summary_information.entries (holds known.SummaryInformation);
+    component = few_keyed text_key component_row component (rows_at content component) (of_table content are component (is_known known.Component)) p.component.entries (holds known.Component);
+    condition = few_keyed text_number_key condition_row condition (rows_at content condition) (of_table content are condition (is_known known.Condition)) p.condition.entries (holds known.Condition);
+    create_folder = few_keyed texts_key create_folder_row create_folder (rows_at content create_folder) (of_table content are create_folder (is_known known.CreateFolder)) p.create_folder.entries (holds known.CreateFolder);
+    custom_action = few_keyed text_key custom_action_row custom_action (rows_at content custom_action) (of_table content are custom_action (is_known known.CustomAction)) p.custom_action.entries (holds known.CustomAction);
+    directory = few_keyed text_key directory_row directory (rows_at content directory) (of_table content are directory (is_known known.Directory)) p.directory.entries (holds known.Directory);
+    duplicate_file = few_keyed text_key duplicate_file_row duplicate_file (rows_at content duplicate_file) (of_table content are duplicate_file (is_known known.DuplicateFile)) p.duplicate_file.entries (holds known.DuplicateFile);
+    environment = few_keyed text_key environment_row environment (rows_at content environment) (of_table content are environment (is_known known.Environment)) p.environment.entries (holds known.Environment);
+    feature = few_keyed text_key feature_row feature (rows_at content feature) (of_table content are feature (is_known known.Feature)) p.feature.entries (holds known.Feature);
+    feature_components = few_keyed texts_key feature_components_row feature_components (rows_at content feature_components) (of_table content are feature_components (is_known known.FeatureComponents)) p.feature_components.entries (holds known.FeatureComponents);
+    file = few_keyed text_key file_row file (rows_at content file) (of_table content are file (is_known known.File)) p.file.entries (holds known.File);
+    install_execute_sequence = few_keyed text_key install_execute_sequence_row install_execute_sequence (rows_at content install_execute_sequence) (of_table content are install_execute_sequence (is_known known.InstallExecuteSequence)) p.install_execute_sequence.entries (holds known.InstallExecuteSequence);
+    launch_condition = few_keyed text_key launch_condition_row launch_condition (rows_at content launch_condition) (of_table content are launch_condition (is_known known.LaunchCondition)) p.launch_condition.entries (holds known.LaunchCondition);
+    msi_file_hash = few_keyed text_key msi_file_hash_row msi_file_hash (rows_at content msi_file_hash) (of_table content are msi_file_hash (is_known known.MsiFileHash)) p.msi_file_hash.entries (holds known.MsiFileHash);
+    property = few_keyed text_key property_row property (rows_at content property) (of_table content are property (is_known known.Property)) p.property.entries (holds known.Property);
+    registry = few_keyed text_key registry_row registry (rows_at content registry) (of_table content are registry (is_known known.Registry)) p.registry.entries (holds known.Registry);
+    remove_file = few_keyed text_key remove_file_row remove_file (rows_at content remove_file) (of_table content are remove_file (is_known known.RemoveFile)) p.remove_file.entries (holds known.RemoveFile);
+    remove_registry = few_keyed text_key remove_registry_row remove_registry (rows_at content remove_registry) (of_table content are remove_registry (is_known known.RemoveRegistry)) p.remove_registry.entries (holds known.RemoveRegistry);
+    shortcut = few_keyed text_key shortcut_row shortcut (rows_at content shortcut) (of_table content are shortcut (is_known known.Shortcut)) p.shortcut.entries (holds known.Shortcut);
+    summary_information = few_keyed number_key summary_information_row summary_information (rows_at content summary_information) (of_table content are summary_information (is_known known.SummaryInformation)) p.summary_information.entries (holds known.SummaryInformation);
     upgrade = few_keyed upgrade_key upgrade_row upgrade (rows_at content upgrade) (of_table content are upgrade (is_known known.Upgrade)) p.upgrade.entries (holds known.Upgrade);
   }
 
   pub are_named : AreNamed p
   are_named = record {
-    component = named_keys component_key component_row (λ r. r.component) (λ r. refl) (rows_at content component) p.component.entries (holds known.Component);
-    directory = named_keys directory_key directory_row (λ r. r.directory) (λ r. refl) (rows_at content directory) p.directory.entries (holds known.Directory);
-    feature = named_keys feature_key feature_row (λ r. r.feature) (λ r. refl) (rows_at content feature) p.feature.entries (holds known.Feature);
-    file = named_keys file_key file_row (λ r. r.file) (λ r. refl) (rows_at content file) p.file.entries (holds known.File);
-    property = named_keys property_key property_row (λ r. r.property) (λ r. refl) (rows_at content property) p.property.entries (holds known.Property);
-    registry = named_keys registry_key registry_row (λ r. r.registry) (λ r. refl) (rows_at content registry) p.registry.entries (holds known.Registry);
+    component = named_keys text_key component_row (λ r. r.component) (λ r. refl) (rows_at content component) p.component.entries (holds known.Component);
+    directory = named_keys text_key directory_row (λ r. r.directory) (λ r. refl) (rows_at content directory) p.directory.entries (holds known.Directory);
+    feature = named_keys text_key feature_row (λ r. r.feature) (λ r. refl) (rows_at content feature) p.feature.entries (holds known.Feature);
+    file = named_keys text_key file_row (λ r. r.file) (λ r. refl) (rows_at content file) p.file.entries (holds known.File);
+    property = named_keys text_key property_row (λ r. r.property) (λ r. refl) (rows_at content property) p.property.entries (holds known.Property);
+    registry = named_keys text_key registry_row (λ r. r.registry) (λ r. refl) (rows_at content registry) p.registry.entries (holds known.Registry);
   }
 
 key_at : (keys : List Name) (q : Name) (n : ℕ) → n < length keys → get_or keys n q ≡ q → is_key_in keys q ≡ true

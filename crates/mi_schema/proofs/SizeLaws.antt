@@ -23,7 +23,7 @@ use Rattle.mi_schema.specs.Lawful.{AreRowsOf, IsOfTables}
 use Rattle.mi_schema.specs.Package.{IsPackage}
 use Rattle.mi_schema.specs.Tables.{Column, Table, component, condition, create_folder, custom_action, directory, duplicate_file, environment, feature, feature_components, file, install_execute_sequence, launch_condition, msi_file_hash, property, registry, remove_file, remove_registry, shortcut, summary_information, upgrade}
 use Rattle.mi_schema.specs.Typed.{some_condition_in}
-use Rattle.mi_schema.specs.TypedRows.{component_row, component_key, condition_row, condition_key, create_folder_row, create_folder_key, custom_action_row, custom_action_key, directory_row, directory_key, duplicate_file_row, duplicate_file_key, environment_row, environment_key, feature_row, feature_key, feature_components_row, feature_components_key, file_row, file_key, install_execute_sequence_row, install_execute_sequence_key, launch_condition_row, launch_condition_key, msi_file_hash_row, msi_file_hash_key, property_row, property_key, registry_row, registry_key, remove_file_row, remove_file_key, remove_registry_row, remove_registry_key, shortcut_row, shortcut_key, summary_information_row, summary_information_key, upgrade_row, upgrade_key}
+use Rattle.mi_schema.specs.TypedRows.{component_row, text_key, condition_row, text_number_key, create_folder_row, texts_key, custom_action_row, directory_row, duplicate_file_row, environment_row, feature_row, feature_components_row, file_row, install_execute_sequence_row, launch_condition_row, msi_file_hash_row, property_row, registry_row, remove_file_row, remove_registry_row, shortcut_row, summary_information_row, number_key, upgrade_row, upgrade_key}
 use Rattle.mi_schema.specs.Values.{Row, row_of, text_value, text_in, text_at, is_root_below}
 use Rattle.mi_schema.proofs.CellLaws.{AreTables, IsKnown, is_known, OfKind, value_at, of_table}
 use Rattle.mi_schema.proofs.ConditionLaws.{reads_exactly}
@@ -181,34 +181,34 @@ module _ (p : Package) (lawful : IsOfTables p) where
 
   pub texts_short : TextsShort p
   texts_short = record {
-    component = each_keyed component_key component_row (λ e. let r = e.1 in AreShort (Some r.component ∷ Some r.directory ∷ r.key_path ∷ [])) (rows_at content component) p.component.entries (is.rows known.Component) (λ n lt. (one component (is_known known.Component) n 0, (one component (is_known known.Component) n 2, (some component (is_known known.Component) n 5, tt))));
-    condition = each_keyed condition_key condition_row (λ e. let r = e.1 in AreShort (Some r.feature ∷ [])) (rows_at content condition) p.condition.entries (is.rows known.Condition) (λ n lt. (one condition (is_known known.Condition) n 0, tt));
-    create_folder = each_keyed create_folder_key create_folder_row (λ e. let r = e.1 in AreShort (Some r.directory ∷ Some r.component ∷ [])) (rows_at content create_folder) p.create_folder.entries (is.rows known.CreateFolder) (λ n lt. (one create_folder (is_known known.CreateFolder) n 0, (one create_folder (is_known known.CreateFolder) n 1, tt)));
-    custom_action = each_keyed custom_action_key custom_action_row (λ e. let r = e.1 in AreShort (Some r.action ∷ r.source ∷ r.target ∷ [])) (rows_at content custom_action) p.custom_action.entries (is.rows known.CustomAction) (λ n lt. (one custom_action (is_known known.CustomAction) n 0, (some custom_action (is_known known.CustomAction) n 2, (some custom_action (is_known known.CustomAction) n 3, tt))));
-    directory = each_keyed directory_key directory_row (λ e. let r = e.1 in AreShort (Some r.directory ∷ r.directory_parent ∷ Some r.default_dir ∷ [])) (rows_at content directory) p.directory.entries (is.rows known.Directory) (λ n lt. (one directory (is_known known.Directory) n 0, (some directory (is_known known.Directory) n 1, (one directory (is_known known.Directory) n 2, tt))));
-    duplicate_file = each_keyed duplicate_file_key duplicate_file_row (λ e. let r = e.1 in AreShort (Some r.file_key ∷ Some r.component ∷ Some r.file ∷ r.dest_name ∷ r.dest_folder ∷ [])) (rows_at content duplicate_file) p.duplicate_file.entries (is.rows known.DuplicateFile) (λ n lt. (one duplicate_file (is_known known.DuplicateFile) n 0, (one duplicate_file (is_known known.DuplicateFile) n 1, (one duplicate_file (is_known known.DuplicateFile) n 2, (some duplicate_file (is_known known.DuplicateFile) n 3, (some duplicate_file (is_known known.DuplicateFile) n 4, tt))))));
-    environment = each_keyed environment_key environment_row (λ e. let r = e.1 in AreShort (Some r.environment ∷ Some r.name ∷ r.value ∷ Some r.component ∷ [])) (rows_at content environment) p.environment.entries (is.rows known.Environment) (λ n lt. (one environment (is_known known.Environment) n 0, (one environment (is_known known.Environment) n 1, (some environment (is_known known.Environment) n 2, (one environment (is_known known.Environment) n 3, tt)))));
-    feature = each_keyed feature_key feature_row (λ e. let r = e.1 in AreShort (Some r.feature ∷ r.feature_parent ∷ r.title ∷ r.description ∷ r.directory ∷ [])) (rows_at content feature) p.feature.entries (is.rows known.Feature) (λ n lt. (one feature (is_known known.Feature) n 0, (some feature (is_known known.Feature) n 1, (some feature (is_known known.Feature) n 2, (some feature (is_known known.Feature) n 3, (some feature (is_known known.Feature) n 6, tt))))));
-    feature_components = each_keyed feature_components_key feature_components_row (λ e. let r = e.1 in AreShort (Some r.feature ∷ Some r.component ∷ [])) (rows_at content feature_components) p.feature_components.entries (is.rows known.FeatureComponents) (λ n lt. (one feature_components (is_known known.FeatureComponents) n 0, (one feature_components (is_known known.FeatureComponents) n 1, tt)));
-    file = each_keyed file_key file_row (λ e. let r = e.1 in AreShort (Some r.file ∷ Some r.component ∷ Some r.file_name ∷ r.version ∷ r.language ∷ [])) (rows_at content file) p.file.entries (is.rows known.File) (λ n lt. (one file (is_known known.File) n 0, (one file (is_known known.File) n 1, (one file (is_known known.File) n 2, (some file (is_known known.File) n 4, (some file (is_known known.File) n 5, tt))))));
-    install_execute_sequence = each_keyed install_execute_sequence_key install_execute_sequence_row (λ e. let r = e.1 in AreShort (Some r.action ∷ [])) (rows_at content install_execute_sequence) p.install_execute_sequence.entries (is.rows known.InstallExecuteSequence) (λ n lt. (one install_execute_sequence (is_known known.InstallExecuteSequence) n 0, tt));
-    launch_condition = each_keyed launch_condition_key launch_condition_row (λ e. let r = e.1 in AreShort (Some r.description ∷ [])) (rows_at content launch_condition) p.launch_condition.entries (is.rows known.LaunchCondition) (λ n lt. (one launch_condition (is_known known.LaunchCondition) n 1, tt));
-    msi_file_hash = each_keyed msi_file_hash_key msi_file_hash_row (λ e. let r = e.1 in AreShort (Some r.file ∷ [])) (rows_at content msi_file_hash) p.msi_file_hash.entries (is.rows known.MsiFileHash) (λ n lt. (one msi_file_hash (is_known known.MsiFileHash) n 0, tt));
-    property = each_keyed property_key property_row (λ e. let r = e.1 in AreShort (Some r.property ∷ Some r.value ∷ [])) (rows_at content property) p.property.entries (is.rows known.Property) (λ n lt. (one property (is_known known.Property) n 0, (one property (is_known known.Property) n 1, tt)));
-    registry = each_keyed registry_key registry_row (λ e. let r = e.1 in AreShort (Some r.registry ∷ Some r.key ∷ r.name ∷ r.value ∷ Some r.component ∷ [])) (rows_at content registry) p.registry.entries (is.rows known.Registry) (λ n lt. (one registry (is_known known.Registry) n 0, (one registry (is_known known.Registry) n 2, (some registry (is_known known.Registry) n 3, (some registry (is_known known.Registry) n 4, (one registry (is_known known.Registry) n 5, tt))))));
-    remove_file = each_keyed remove_file_key remove_file_row (λ e. let r = e.1 in AreShort (Some r.file_key ∷ Some r.component ∷ r.file_name ∷ Some r.dir_property ∷ [])) (rows_at content remove_file) p.remove_file.entries (is.rows known.RemoveFile) (λ n lt. (one remove_file (is_known known.RemoveFile) n 0, (one remove_file (is_known known.RemoveFile) n 1, (some remove_file (is_known known.RemoveFile) n 2, (one remove_file (is_known known.RemoveFile) n 3, tt)))));
-    remove_registry = each_keyed remove_registry_key remove_registry_row (λ e. let r = e.1 in AreShort (Some r.remove_registry ∷ Some r.key ∷ r.name ∷ Some r.component ∷ [])) (rows_at content remove_registry) p.remove_registry.entries (is.rows known.RemoveRegistry) (λ n lt. (one remove_registry (is_known known.RemoveRegistry) n 0, (one remove_registry (is_known known.RemoveRegistry) n 2, (some remove_registry (is_known known.RemoveRegistry) n 3, (one remove_registry (is_known known.RemoveRegistry) n 4, tt)))));
-    shortcut = each_keyed shortcut_key shortcut_row (λ e. let r = e.1 in AreShort (Some r.shortcut ∷ Some r.directory ∷ Some r.name ∷ Some r.component ∷ Some r.target ∷ r.arguments ∷ r.description ∷ r.icon ∷ r.wk_dir ∷ [])) (rows_at content shortcut) p.shortcut.entries (is.rows known.Shortcut) (λ n lt. (one shortcut (is_known known.Shortcut) n 0, (one shortcut (is_known known.Shortcut) n 1, (one shortcut (is_known known.Shortcut) n 2, (one shortcut (is_known known.Shortcut) n 3, (one shortcut (is_known known.Shortcut) n 4, (some shortcut (is_known known.Shortcut) n 5, (some shortcut (is_known known.Shortcut) n 6, (some shortcut (is_known known.Shortcut) n 8, (some shortcut (is_known known.Shortcut) n 11, tt))))))))));
-    summary_information = each_keyed summary_information_key summary_information_row (λ e. let r = e.1 in AreShort (r.value ∷ [])) (rows_at content summary_information) p.summary_information.entries (is.rows known.SummaryInformation) (λ n lt. (some summary_information (is_known known.SummaryInformation) n 1, tt));
+    component = each_keyed text_key component_row (λ e. let r = e.1 in AreShort (Some r.component ∷ Some r.directory ∷ r.key_path ∷ [])) (rows_at content component) p.component.entries (is.rows known.Component) (λ n lt. (one component (is_known known.Component) n 0, (one component (is_known known.Component) n 2, (some component (is_known known.Component) n 5, tt))));
+    condition = each_keyed text_number_key condition_row (λ e. let r = e.1 in AreShort (Some r.feature ∷ [])) (rows_at content condition) p.condition.entries (is.rows known.Condition) (λ n lt. (one condition (is_known known.Condition) n 0, tt));
+    create_folder = each_keyed texts_key create_folder_row (λ e. let r = e.1 in AreShort (Some r.directory ∷ Some r.component ∷ [])) (rows_at content create_folder) p.create_folder.entries (is.rows known.CreateFolder) (λ n lt. (one create_folder (is_known known.CreateFolder) n 0, (one create_folder (is_known known.CreateFolder) n 1, tt)));
+    custom_action = each_keyed text_key custom_action_row (λ e. let r = e.1 in AreShort (Some r.action ∷ r.source ∷ r.target ∷ [])) (rows_at content custom_action) p.custom_action.entries (is.rows known.CustomAction) (λ n lt. (one custom_action (is_known known.CustomAction) n 0, (some custom_action (is_known known.CustomAction) n 2, (some custom_action (is_known known.CustomAction) n 3, tt))));
+    directory = each_keyed text_key directory_row (λ e. let r = e.1 in AreShort (Some r.directory ∷ r.directory_parent ∷ Some r.default_dir ∷ [])) (rows_at content directory) p.directory.entries (is.rows known.Directory) (λ n lt. (one directory (is_known known.Directory) n 0, (some directory (is_known known.Directory) n 1, (one directory (is_known known.Directory) n 2, tt))));
+    duplicate_file = each_keyed text_key duplicate_file_row (λ e. let r = e.1 in AreShort (Some r.file_key ∷ Some r.component ∷ Some r.file ∷ r.dest_name ∷ r.dest_folder ∷ [])) (rows_at content duplicate_file) p.duplicate_file.entries (is.rows known.DuplicateFile) (λ n lt. (one duplicate_file (is_known known.DuplicateFile) n 0, (one duplicate_file (is_known known.DuplicateFile) n 1, (one duplicate_file (is_known known.DuplicateFile) n 2, (some duplicate_file (is_known known.DuplicateFile) n 3, (some duplicate_file (is_known known.DuplicateFile) n 4, tt))))));
+    environment = each_keyed text_key environment_row (λ e. let r = e.1 in AreShort (Some r.environment ∷ Some r.name ∷ r.value ∷ Some r.component ∷ [])) (rows_at content environment) p.environment.entries (is.rows known.Environment) (λ n lt. (one environment (is_known known.Environment) n 0, (one environment (is_known known.Environment) n 1, (some environment (is_known known.Environment) n 2, (one environment (is_known known.Environment) n 3, tt)))));
+    feature = each_keyed text_key feature_row (λ e. let r = e.1 in AreShort (Some r.feature ∷ r.feature_parent ∷ r.title ∷ r.description ∷ r.directory ∷ [])) (rows_at content feature) p.feature.entries (is.rows known.Feature) (λ n lt. (one feature (is_known known.Feature) n 0, (some feature (is_known known.Feature) n 1, (some feature (is_known known.Feature) n 2, (some feature (is_known known.Feature) n 3, (some feature (is_known known.Feature) n 6, tt))))));
+    feature_components = each_keyed texts_key feature_components_row (λ e. let r = e.1 in AreShort (Some r.feature ∷ Some r.component ∷ [])) (rows_at content feature_components) p.feature_components.entries (is.rows known.FeatureComponents) (λ n lt. (one feature_components (is_known known.FeatureComponents) n 0, (one feature_components (is_known known.FeatureComponents) n 1, tt)));
+    file = each_keyed text_key file_row (λ e. let r = e.1 in AreShort (Some r.file ∷ Some r.component ∷ Some r.file_name ∷ r.version ∷ r.language ∷ [])) (rows_at content file) p.file.entries (is.rows known.File) (λ n lt. (one file (is_known known.File) n 0, (one file (is_known known.File) n 1, (one file (is_known known.File) n 2, (some file (is_known known.File) n 4, (some file (is_known known.File) n 5, tt))))));
+    install_execute_sequence = each_keyed text_key install_execute_sequence_row (λ e. let r = e.1 in AreShort (Some r.action ∷ [])) (rows_at content install_execute_sequence) p.install_execute_sequence.entries (is.rows known.InstallExecuteSequence) (λ n lt. (one install_execute_sequence (is_known known.InstallExecuteSequence) n 0, tt));
+    launch_condition = each_keyed text_key launch_condition_row (λ e. let r = e.1 in AreShort (Some r.description ∷ [])) (rows_at content launch_condition) p.launch_condition.entries (is.rows known.LaunchCondition) (λ n lt. (one launch_condition (is_known known.LaunchCondition) n 1, tt));
+    msi_file_hash = each_keyed text_key msi_file_hash_row (λ e. let r = e.1 in AreShort (Some r.file ∷ [])) (rows_at content msi_file_hash) p.msi_file_hash.entries (is.rows known.MsiFileHash) (λ n lt. (one msi_file_hash (is_known known.MsiFileHash) n 0, tt));
+    property = each_keyed text_key property_row (λ e. let r = e.1 in AreShort (Some r.property ∷ Some r.value ∷ [])) (rows_at content property) p.property.entries (is.rows known.Property) (λ n lt. (one property (is_known known.Property) n 0, (one property (is_known known.Property) n 1, tt)));
+    registry = each_keyed text_key registry_row (λ e. let r = e.1 in AreShort (Some r.registry ∷ Some r.key ∷ r.name ∷ r.value ∷ Some r.component ∷ [])) (rows_at content registry) p.registry.entries (is.rows known.Registry) (λ n lt. (one registry (is_known known.Registry) n 0, (one registry (is_known known.Registry) n 2, (some registry (is_known known.Registry) n 3, (some registry (is_known known.Registry) n 4, (one registry (is_known known.Registry) n 5, tt))))));
+    remove_file = each_keyed text_key remove_file_row (λ e. let r = e.1 in AreShort (Some r.file_key ∷ Some r.component ∷ r.file_name ∷ Some r.dir_property ∷ [])) (rows_at content remove_file) p.remove_file.entries (is.rows known.RemoveFile) (λ n lt. (one remove_file (is_known known.RemoveFile) n 0, (one remove_file (is_known known.RemoveFile) n 1, (some remove_file (is_known known.RemoveFile) n 2, (one remove_file (is_known known.RemoveFile) n 3, tt)))));
+    remove_registry = each_keyed text_key remove_registry_row (λ e. let r = e.1 in AreShort (Some r.remove_registry ∷ Some r.key ∷ r.name ∷ Some r.component ∷ [])) (rows_at content remove_registry) p.remove_registry.entries (is.rows known.RemoveRegistry) (λ n lt. (one remove_registry (is_known known.RemoveRegistry) n 0, (one remove_registry (is_known known.RemoveRegistry) n 2, (some remove_registry (is_known known.RemoveRegistry) n 3, (one remove_registry (is_known known.RemoveRegistry) n 4, tt)))));
+    shortcut = each_keyed text_key shortcut_row (λ e. let r = e.1 in AreShort (Some r.shortcut ∷ Some r.directory ∷ Some r.name ∷ Some r.component ∷ Some r.target ∷ r.arguments ∷ r.description ∷ r.icon ∷ r.wk_dir ∷ [])) (rows_at content shortcut) p.shortcut.entries (is.rows known.Shortcut) (λ n lt. (one shortcut (is_known known.Shortcut) n 0, (one shortcut (is_known known.Shortcut) n 1, (one shortcut (is_known known.Shortcut) n 2, (one shortcut (is_known known.Shortcut) n 3, (one shortcut (is_known known.Shortcut) n 4, (some shortcut (is_known known.Shortcut) n 5, (some shortcut (is_known known.Shortcut) n 6, (some shortcut (is_known known.Shortcut) n 8, (some shortcut (is_known known.Shortcut) n 11, tt))))))))));
+    summary_information = each_keyed number_key summary_information_row (λ e. let r = e.1 in AreShort (r.value ∷ [])) (rows_at content summary_information) p.summary_information.entries (is.rows known.SummaryInformation) (λ n lt. (some summary_information (is_known known.SummaryInformation) n 1, tt));
     upgrade = each_keyed upgrade_key upgrade_row (λ e. let r = e.1 in AreShort (Some r.upgrade_code ∷ r.version_min ∷ r.version_max ∷ r.language ∷ r.remove ∷ Some r.action_property ∷ [])) (rows_at content upgrade) p.upgrade.entries (is.rows known.Upgrade) (λ n lt. (one upgrade (is_known known.Upgrade) n 0, (some upgrade (is_known known.Upgrade) n 1, (some upgrade (is_known known.Upgrade) n 2, (some upgrade (is_known known.Upgrade) n 3, (some upgrade (is_known known.Upgrade) n 5, (one upgrade (is_known known.Upgrade) n 6, tt)))))));
-    launch_condition_key = each_keyed launch_condition_key launch_condition_row (λ e. IsShort e.0) (rows_at content launch_condition) p.launch_condition.entries (is.rows known.LaunchCondition) (λ n lt. one launch_condition (is_known known.LaunchCondition) n 0);
+    launch_condition_key = each_keyed text_key launch_condition_row (λ e. IsShort e.0) (rows_at content launch_condition) p.launch_condition.entries (is.rows known.LaunchCondition) (λ n lt. one launch_condition (is_known known.LaunchCondition) n 0);
   }
 
   pub conditions_stand : ConditionsStand p
   conditions_stand = record {
-    component = each_keyed component_key component_row (λ e. IfSome e.1.condition IsOfText) (rows_at content component) p.component.entries (is.rows known.Component) (λ n lt. condition_of_text (value_at (rows_at content component) n 4) (some component (is_known known.Component) n 4) (stands_here content are component (is_known known.Component) 4 n lt refl).1);
-    condition = each_keyed condition_key condition_row (λ e. IfSome e.1.condition IsOfText) (rows_at content condition) p.condition.entries (is.rows known.Condition) (λ n lt. condition_of_text (value_at (rows_at content condition) n 2) (some condition (is_known known.Condition) n 2) (stands_here content are condition (is_known known.Condition) 2 n lt refl).1);
-    install_execute_sequence = each_keyed install_execute_sequence_key install_execute_sequence_row (λ e. IfSome e.1.condition IsOfText) (rows_at content install_execute_sequence) p.install_execute_sequence.entries (is.rows known.InstallExecuteSequence) (λ n lt. condition_of_text (value_at (rows_at content install_execute_sequence) n 1) (some install_execute_sequence (is_known known.InstallExecuteSequence) n 1) (stands_here content are install_execute_sequence (is_known known.InstallExecuteSequence) 1 n lt refl).1);
+    component = each_keyed text_key component_row (λ e. IfSome e.1.condition IsOfText) (rows_at content component) p.component.entries (is.rows known.Component) (λ n lt. condition_of_text (value_at (rows_at content component) n 4) (some component (is_known known.Component) n 4) (stands_here content are component (is_known known.Component) 4 n lt refl).1);
+    condition = each_keyed text_number_key condition_row (λ e. IfSome e.1.condition IsOfText) (rows_at content condition) p.condition.entries (is.rows known.Condition) (λ n lt. condition_of_text (value_at (rows_at content condition) n 2) (some condition (is_known known.Condition) n 2) (stands_here content are condition (is_known known.Condition) 2 n lt refl).1);
+    install_execute_sequence = each_keyed text_key install_execute_sequence_row (λ e. IfSome e.1.condition IsOfText) (rows_at content install_execute_sequence) p.install_execute_sequence.entries (is.rows known.InstallExecuteSequence) (λ n lt. condition_of_text (value_at (rows_at content install_execute_sequence) n 1) (some install_execute_sequence (is_known known.InstallExecuteSequence) n 1) (stands_here content are install_execute_sequence (is_known known.InstallExecuteSequence) 1 n lt refl).1);
     launch_condition = λ n d lt. (texts_short.launch_condition_key n d lt, (keys_stand p lawful.content lawful.right_tables lawful.is.rows).launch_condition n d lt);
   }
 

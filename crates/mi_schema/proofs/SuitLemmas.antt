@@ -52,7 +52,7 @@ pub record IsFaultless (t : Table) (v : raw.TableValue) (rows : List Row) : Type
   pub right : rows_fault t (keys_of (rows_in t v)) [] 1 v.rows ≡ None
   pub held : rows_in t v ≡ rows
 
-each_fits : (known : List Column) (page : Option ℕ) (columns : List raw.ColumnValue) (lines : List (List ℕ)) (rows : List (List raw.Cell)) → begins_with known columns ≡ true → AllZip (SpellsRow page columns) lines rows → EachFits known rows
+pub each_fits : (known : List Column) (page : Option ℕ) (columns : List raw.ColumnValue) (lines : List (List ℕ)) (rows : List (List raw.Cell)) → begins_with known columns ≡ true → AllZip (SpellsRow page columns) lines rows → EachFits known rows
 each_fits known page columns [] [] is zip = tt
 each_fits known page columns [] (cells ∷ rows) is zip = absurd zip
 each_fits known page columns (line ∷ lines) [] is zip = tt
@@ -126,7 +126,7 @@ suits_one c raw.Nothing none fits = allowed c.nullable none
 suits_one c (raw.Text text) none fits = text_suits c.kind text fits
 suits_one c (raw.Number z) none fits = number_suits c.kind z fits
 
-suits_row : (table : Name) (number : ℕ) (keys : List Name) (before : List Row) (column : ℕ) (front : Row) (cols : List Column) (cells : List raw.Cell) → cells_fault table number keys before column front cols cells ≡ None → AllFit cols cells → all_suit cols (row_of cols cells) ≡ true
+pub suits_row : (table : Name) (number : ℕ) (keys : List Name) (before : List Row) (column : ℕ) (front : Row) (cols : List Column) (cells : List raw.Cell) → cells_fault table number keys before column front cols cells ≡ None → AllFit cols cells → all_suit cols (row_of cols cells) ≡ true
 suits_row table number keys before column front [] cells none fit = refl
 suits_row table number keys before column front (c ∷ cs) [] none fit = absurd fit
 suits_row table number keys before column front (c ∷ cs) (x ∷ xs) none fit =

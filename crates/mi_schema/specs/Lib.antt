@@ -4,7 +4,6 @@ pub mod Conditions
 pub mod Content
 pub mod Described
 pub mod Files
-pub mod KeyCells
 pub mod Keys
 pub mod Lawful
 pub mod Laws
@@ -22,7 +21,6 @@ pub mod Source
 pub mod Suits
 pub mod TableRows
 pub mod Tables
-pub mod Tells
 pub mod Texts
 pub mod Typed
 pub mod TypedRows

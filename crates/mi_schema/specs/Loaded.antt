@@ -12,14 +12,13 @@ use Rattle.mi_schema.specs.Listed.{Listed, Loaded, Refused, layout_of, tables}
 use Rattle.mi_schema.specs.Tables.{Table}
 use Rattle.mi_schema.specs.Values.{Row}
 
--- some file without a fault has these rows; where the source tells, it is this one
-pub record IsRead (told : Type 0) (file : Option (List ℕ)) (t : Table) (rows : List Row) : Type 0 where
+-- some file has no fault of this table; where the source tells, it is this one
+pub record IsRight (told : Type 0) (file : Option (List ℕ)) (t : Table) : Type 0 where
   pub found : Option (List ℕ)
   pub same : told → found ≡ file
   pub right : table_fault t found ≡ None
-  pub are : table_rows t found ≡ rows
 
--- and so each behind its key
+-- and these are its rows, each behind its key
 pub record AreRead {K R : Type 0} (key : Row → K) (row : Row → R) (told : Type 0) (file : Option (List ℕ)) (t : Table) (entries : List (K × R)) : Type 0 where
   pub found : Option (List ℕ)
   pub same : told → found ≡ file

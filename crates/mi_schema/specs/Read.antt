@@ -1,14 +1,11 @@
 -- What the program holds of a table that it has read.
-use Rattle.std.specs.Prelude.{ℕ, Bool, true, false, List, [], Option, map, Vec}
-use Rattle.std.specs.Global.{Global}
+use Rattle.std.specs.Prelude.{ℕ, Bool, true, false, List, []}
 use Rattle.std.specs.List.{slice_index_or}
 use Rattle.mi_idt.specs.Cells as raw
 use Rattle.mi_idt.specs.Means.{meaning}
 use Rattle.mi_idt.specs.declared.table.Table.{Table}
 use Rattle.mi_schema.specs.declared.column.Kind.{Kind}
 use Rattle.mi_schema.specs.declared.column.Kind.TheVariants as kind
-use Rattle.mi_schema.specs.declared.cell.Cell.{Cell}
-use Rattle.mi_schema.specs.Values.{Row}
 
 -- the fields of a row, from 0
 abbrev pub raw_row : Table → ℕ → List raw.Cell
@@ -18,7 +15,3 @@ abbrev pub has_text : Kind → Bool
 has_text kind.Integer = false
 has_text kind.Code = false
 has_text other = true
-
--- the rows that are held
-abbrev pub rows_as : Vec (Vec (Option Cell) Global) Global → List Row
-rows_as rows = map (λ row. row.items) rows.items

@@ -6,7 +6,7 @@ use Rattle.mi_text.specs.Maps.{Name}
 use Rattle.mi_source.specs.Paths.{Files}
 use Rattle.mi_schema.specs.Content.{Content, content_of, rows_at}
 use Rattle.mi_schema.specs.Source.{has_short_names}
-use Rattle.mi_schema.specs.TypedRows.{property_row, directory_row, component_row, feature_row, feature_components_row, condition_row, file_row, msi_file_hash_row, remove_file_row, create_folder_row, duplicate_file_row, registry_row, remove_registry_row, environment_row, shortcut_row, launch_condition_row, launch_condition_key, custom_action_row, install_execute_sequence_row, upgrade_row, summary_information_row}
+use Rattle.mi_schema.specs.TypedRows.{property_row, directory_row, component_row, feature_row, feature_components_row, condition_row, file_row, msi_file_hash_row, remove_file_row, create_folder_row, duplicate_file_row, registry_row, remove_registry_row, environment_row, shortcut_row, launch_condition_row, text_key, custom_action_row, install_execute_sequence_row, upgrade_row, summary_information_row}
 use Rattle.mi_schema.specs.TableRows.{Rows}
 
 -- the rows of all known tables
@@ -24,7 +24,7 @@ rows_of_content content = record {
   feature_components = map feature_components_row (rows_at content table.feature_components);
   file = map file_row (rows_at content table.file);
   install_execute_sequence = map install_execute_sequence_row (rows_at content table.install_execute_sequence);
-  launch_condition = map (λ row. (launch_condition_key row, launch_condition_row row)) (rows_at content table.launch_condition);
+  launch_condition = map (λ row. (text_key row, launch_condition_row row)) (rows_at content table.launch_condition);
   msi_file_hash = map msi_file_hash_row (rows_at content table.msi_file_hash);
   property = map property_row (rows_at content table.property);
   registry = map registry_row (rows_at content table.registry);

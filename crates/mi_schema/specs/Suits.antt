@@ -55,6 +55,10 @@ abbrev pub KeysDiffer : List Column → List Row → Type 0
 KeysDiffer cs [] = Unit {0}
 KeysDiffer cs (row ∷ rows) = IsNewKey cs row rows × KeysDiffer cs rows
 
+-- keys that compare equal have the same values in the key columns
+abbrev pub KeysTell : {K : Type 0} → (K → K → Bool) → (Row → K) → List Column → Type 0
+KeysTell eq key cs = (a b : Row) → all_suit cs a ≡ true → all_suit cs b ≡ true → eq (key a) (key b) ≡ true → key_cells cs a ≡ key_cells cs b
+
 -- codes of other letters may be equal, so that the value doesn't tell the text
 abbrev pub tells : Kind → Bool
 tells kind.Code = false

@@ -23,14 +23,31 @@ use Rattle.mi_schema.specs.declared.typed_rows.InstallExecuteSequenceRow.{Instal
 use Rattle.mi_schema.specs.declared.typed_rows.UpgradeRow.{UpgradeRow}
 use Rattle.mi_schema.specs.declared.typed_rows.SummaryInformationRow.{SummaryInformationRow}
 
+-- ---- keys
+
+abbrev pub text_key : Row → List ℕ
+text_key row = text_at row 0
+
+abbrev pub number_key : Row → ℤ
+number_key row = number_in (cell_at row 0)
+
+abbrev pub texts_key : Row → List ℕ × List ℕ
+texts_key row = (text_at row 0, text_at row 1)
+
+abbrev pub text_number_key : Row → List ℕ × ℤ
+text_number_key row = (text_at row 0, number_in (cell_at row 1))
+
+-- of Upgrade
+abbrev pub upgrade_key : Row → List ℕ × Option (List ℕ) × Option (List ℕ) × Option (List ℕ) × ℤ
+upgrade_key row = (text_at row 0, text_in (cell_at row 1), text_in (cell_at row 2), text_in (cell_at row 3), number_in (cell_at row 4))
+
+-- ---- rows
+
 abbrev pub property_row : Row → PropertyRow
 property_row row = record {
   property = text_at row 0;
   value = text_at row 1;
 }
-
-abbrev pub property_key : Row → List ℕ
-property_key row = text_at row 0
 
 abbrev pub directory_row : Row → DirectoryRow
 directory_row row = record {
@@ -38,9 +55,6 @@ directory_row row = record {
   directory_parent = text_in (cell_at row 1);
   default_dir = text_at row 2;
 }
-
-abbrev pub directory_key : Row → List ℕ
-directory_key row = text_at row 0
 
 abbrev pub component_row : Row → ComponentRow
 component_row row = record {
@@ -51,9 +65,6 @@ component_row row = record {
   condition = some_condition_in (cell_at row 4);
   key_path = text_in (cell_at row 5);
 }
-
-abbrev pub component_key : Row → List ℕ
-component_key row = text_at row 0
 
 abbrev pub feature_row : Row → FeatureRow
 feature_row row = record {
@@ -67,17 +78,11 @@ feature_row row = record {
   attributes = number_in (cell_at row 7);
 }
 
-abbrev pub feature_key : Row → List ℕ
-feature_key row = text_at row 0
-
 abbrev pub feature_components_row : Row → FeatureComponentsRow
 feature_components_row row = record {
   feature = text_at row 0;
   component = text_at row 1;
 }
-
-abbrev pub feature_components_key : Row → List ℕ × List ℕ
-feature_components_key row = (text_at row 0, text_at row 1)
 
 abbrev pub condition_row : Row → ConditionRow
 condition_row row = record {
@@ -85,9 +90,6 @@ condition_row row = record {
   level = number_in (cell_at row 1);
   condition = some_condition_in (cell_at row 2);
 }
-
-abbrev pub condition_key : Row → List ℕ × ℤ
-condition_key row = (text_at row 0, number_in (cell_at row 1))
 
 abbrev pub file_row : Row → FileRow
 file_row row = record {
@@ -101,9 +103,6 @@ file_row row = record {
   sequence = number_in (cell_at row 7);
 }
 
-abbrev pub file_key : Row → List ℕ
-file_key row = text_at row 0
-
 abbrev pub msi_file_hash_row : Row → MsiFileHashRow
 msi_file_hash_row row = record {
   file = text_at row 0;
@@ -114,9 +113,6 @@ msi_file_hash_row row = record {
   hash_part4 = number_in (cell_at row 5);
 }
 
-abbrev pub msi_file_hash_key : Row → List ℕ
-msi_file_hash_key row = text_at row 0
-
 abbrev pub remove_file_row : Row → RemoveFileRow
 remove_file_row row = record {
   file_key = text_at row 0;
@@ -126,17 +122,11 @@ remove_file_row row = record {
   install_mode = number_in (cell_at row 4);
 }
 
-abbrev pub remove_file_key : Row → List ℕ
-remove_file_key row = text_at row 0
-
 abbrev pub create_folder_row : Row → CreateFolderRow
 create_folder_row row = record {
   directory = text_at row 0;
   component = text_at row 1;
 }
-
-abbrev pub create_folder_key : Row → List ℕ × List ℕ
-create_folder_key row = (text_at row 0, text_at row 1)
 
 abbrev pub duplicate_file_row : Row → DuplicateFileRow
 duplicate_file_row row = record {
@@ -146,9 +136,6 @@ duplicate_file_row row = record {
   dest_name = text_in (cell_at row 3);
   dest_folder = text_in (cell_at row 4);
 }
-
-abbrev pub duplicate_file_key : Row → List ℕ
-duplicate_file_key row = text_at row 0
 
 abbrev pub registry_row : Row → RegistryRow
 registry_row row = record {
@@ -160,9 +147,6 @@ registry_row row = record {
   component = text_at row 5;
 }
 
-abbrev pub registry_key : Row → List ℕ
-registry_key row = text_at row 0
-
 abbrev pub remove_registry_row : Row → RemoveRegistryRow
 remove_registry_row row = record {
   remove_registry = text_at row 0;
@@ -172,9 +156,6 @@ remove_registry_row row = record {
   component = text_at row 4;
 }
 
-abbrev pub remove_registry_key : Row → List ℕ
-remove_registry_key row = text_at row 0
-
 abbrev pub environment_row : Row → EnvironmentRow
 environment_row row = record {
   environment = text_at row 0;
@@ -182,9 +163,6 @@ environment_row row = record {
   value = text_in (cell_at row 2);
   component = text_at row 3;
 }
-
-abbrev pub environment_key : Row → List ℕ
-environment_key row = text_at row 0
 
 abbrev pub shortcut_row : Row → ShortcutRow
 shortcut_row row = record {
@@ -202,17 +180,11 @@ shortcut_row row = record {
   wk_dir = text_in (cell_at row 11);
 }
 
-abbrev pub shortcut_key : Row → List ℕ
-shortcut_key row = text_at row 0
-
 abbrev pub launch_condition_row : Row → LaunchConditionRow
 launch_condition_row row = record {
   condition = condition_in (cell_at row 0);
   description = text_at row 1;
 }
-
-abbrev pub launch_condition_key : Row → List ℕ
-launch_condition_key row = text_at row 0
 
 abbrev pub custom_action_row : Row → CustomActionRow
 custom_action_row row = record {
@@ -222,18 +194,12 @@ custom_action_row row = record {
   target = text_in (cell_at row 3);
 }
 
-abbrev pub custom_action_key : Row → List ℕ
-custom_action_key row = text_at row 0
-
 abbrev pub install_execute_sequence_row : Row → InstallExecuteSequenceRow
 install_execute_sequence_row row = record {
   action = text_at row 0;
   condition = some_condition_in (cell_at row 1);
   sequence = some_number_in (cell_at row 2);
 }
-
-abbrev pub install_execute_sequence_key : Row → List ℕ
-install_execute_sequence_key row = text_at row 0
 
 abbrev pub upgrade_row : Row → UpgradeRow
 upgrade_row row = record {
@@ -246,14 +212,8 @@ upgrade_row row = record {
   action_property = text_at row 6;
 }
 
-abbrev pub upgrade_key : Row → List ℕ × Option (List ℕ) × Option (List ℕ) × Option (List ℕ) × ℤ
-upgrade_key row = (text_at row 0, text_in (cell_at row 1), text_in (cell_at row 2), text_in (cell_at row 3), number_in (cell_at row 4))
-
 abbrev pub summary_information_row : Row → SummaryInformationRow
 summary_information_row row = record {
   property_id = number_in (cell_at row 0);
   value = text_in (cell_at row 1);
 }
-
-abbrev pub summary_information_key : Row → ℤ
-summary_information_key row = number_in (cell_at row 0)

@@ -1,38 +1,80 @@
 //! The types of keys.
 
-ghost use Rattle.mi_schema.specs.KeyCells.{text_cells, number_cells, texts_cells, text_number_cells, upgrade_cells};
-ghost use Rattle.mi_schema.specs.Tells.{text_exact, number_exact, texts_exact, text_number_exact, upgrade_exact};
+ghost use Rattle.std.specs.Prelude.{◌≡◌, IfOk};
+ghost use Rattle.mi_schema.specs.TypedRows.{text_key, number_key, texts_key, text_number_key, upgrade_key};
+ghost use Rattle.mi_schema.specs.Values.{cell_at, text_in, text_at};
 
+use crate::cell::{Cell, number_at, some_text_at, text_at};
 use crate::package::UpgradeKey;
 use crate::table_row::Key;
-use mi_base::Text;
+use mi_base::{NoMemory, Text};
+use std::alloc::Global;
+
+/// A copy of the text of a column, from 0; empty where there is none.
+fn text_of(alloc: Global, row: &[Option<Cell>], column: usize) -> Result<Text, NoMemory>
+    ensures { IfOk result (λ text. text ≡ text_at row.now column) }
+{
+    Text::copy_of(alloc, text_at(row, column))
+}
+
+/// A copy of the text of a column, from 0, where it has one.
+fn some_text_of(
+    alloc: Global,
+    row: &[Option<Cell>],
+    column: usize,
+) -> Result<Option<Text>, NoMemory>
+    ensures { IfOk result (λ text. text ≡ text_in (cell_at row.now column)) }
+{
+    match some_text_at(row, column) {
+        Some(text) => Ok(Some(Text::copy_of(alloc, text)?)),
+        None => Ok(None),
+    }
+}
 
 impl Key for Text {
-    ghost cells = { text_cells };
+    ghost key = { text_key };
 
-    ghost exact = { text_exact };
+    fn of_row(alloc: Global, row: &[Option<Cell>]) -> Result<Text, NoMemory> {
+        text_of(alloc, row, 0)
+    }
 }
 
 impl Key for i32 {
-    ghost cells = { number_cells };
+    ghost key = { number_key };
 
-    ghost exact = { number_exact };
+    fn of_row(_alloc: Global, row: &[Option<Cell>]) -> Result<i32, NoMemory> {
+        Ok(number_at(row, 0))
+    }
 }
 
 impl Key for (Text, Text) {
-    ghost cells = { texts_cells };
+    ghost key = { texts_key };
 
-    ghost exact = { texts_exact };
+    fn of_row(alloc: Global, row: &[Option<Cell>]) -> Result<(Text, Text), NoMemory> {
+        let first = text_of(alloc, row, 0)?;
+        let second = text_of(alloc, row, 1)?;
+        Ok((first, second))
+    }
 }
 
 impl Key for (Text, i32) {
-    ghost cells = { text_number_cells };
+    ghost key = { text_number_key };
 
-    ghost exact = { text_number_exact };
+    fn of_row(alloc: Global, row: &[Option<Cell>]) -> Result<(Text, i32), NoMemory> {
+        let text = text_of(alloc, row, 0)?;
+        Ok((text, number_at(row, 1)))
+    }
 }
 
 impl Key for UpgradeKey {
-    ghost cells = { upgrade_cells };
+    ghost key = { upgrade_key };
 
-    ghost exact = { upgrade_exact };
+    fn of_row(alloc: Global, row: &[Option<Cell>]) -> Result<UpgradeKey, NoMemory> {
+        let upgrade_code = text_of(alloc, row, 0)?;
+        let version_min = some_text_of(alloc, row, 1)?;
+        let version_max = some_text_of(alloc, row, 2)?;
+        let language = some_text_of(alloc, row, 3)?;
+        let attributes = number_at(row, 4);
+        Ok((upgrade_code, version_min, version_max, language, attributes))
+    }
 }

@@ -11,6 +11,7 @@ ghost use Rattle.mi_schema.specs.RowsOf.{folder_rows, rows_in};
 ghost use Rattle.mi_base.specs.declared.answers.Fault.TheVariants as faults;
 ghost use Rattle.mi_schema.specs.Reads.{Refuses};
 ghost use Rattle.mi_schema.specs.Rows.{table_fault};
+ghost use Rattle.mi_schema.specs.Suits.{KeysTell};
 ghost use Rattle.mi_schema.specs.Checks.{Content, content_of, tables_fault, missing_table, missing_fault, load_fault};
 
 use crate::check::check_rows;
@@ -19,7 +20,7 @@ use crate::form::has_short_names;
 use crate::known::Known;
 use crate::package::Package;
 use crate::table::{is_there, load_table, path_of, refuse_table};
-use crate::table_row::{Key, TableRow, collect};
+use crate::table_row::{Key, TableRow};
 use crate::tables::{Listed, tables};
 use indexmap::IndexMap;
 use mi_base::{Fault, Text};
@@ -33,15 +34,15 @@ fn load_rows<K: Key, R: TableRow<K>, S: Source>(
     folder: &str,
     map: &mut IndexMap<K, R>,
 ) -> Result<(), LoadError>
-    ensures read { OnOk result (AreRead R.key R.value S.told (content_of (S.files src.old) folder.now R.table.name) R.table map.new.entries) }
-    ensures fault { S.told → IfErr result (Fails (Rose (S.faults src.old) (S.faults src.new)) (table_fault R.table (content_of (S.files src.old) folder.now R.table.name))) }
+    requires { KeysTell K.eq K.key (layout_of R.known).columns }
+    ensures read { OnOk result (AreRead K.key R.value S.told (content_of (S.files src.old) folder.now (layout_of R.known).name) (layout_of R.known) map.new.entries) }
+    ensures fault { S.told → IfErr result (Fails (Rose (S.faults src.old) (S.faults src.new)) (table_fault (layout_of R.known) (content_of (S.files src.old) folder.now (layout_of R.known).name))) }
     ensures counted { IsCounted (Rose (S.faults src.old) (S.faults src.new)) result }
     ensures stays { S.files src.new ≡ S.files src.old }
     ensures counts { S.faults src.old ≤ S.faults src.new }
 {
     let rows = load_table(alloc, src, folder, R::layout())?;
-    let collected = collect(alloc, rows)?;
-    *map = collected;
+    *map = rows;
     Ok(())
 }
 

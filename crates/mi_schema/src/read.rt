@@ -1,6 +1,7 @@
 //! Reading a field as a value of its column.
 
 ghost use Rattle.std.specs.Prelude.{◌≡◌, ℕ, ℤ, List, None};
+ghost use Rattle.std.specs.Option.{option_copied};
 ghost use Rattle.mi_idt.specs.Cells as raw;
 ghost use Rattle.mi_idt.specs.Means.{Shows};
 ghost use Rattle.mi_idt.specs.Spells.{SpellsInteger};
@@ -15,11 +16,19 @@ use mi_base::{Guid, Text, is_file_name, is_file_pattern};
 use mi_cond::{Cond, CondError, CondFault};
 use std::alloc::Global;
 
-fn checked(good: bool, text: Text) -> Result<Cell, CellError>
-    ensures { ReadsAs (unless good) (text_cell text) result }
+/// A text that is kept.
+fn kept(alloc: Global, text: &str) -> Result<Cell, CellError>
+    ensures { ReadsAs None (text_cell text.now) result }
+{
+    let text = Text::copy_of(alloc, text)?;
+    Ok(Cell::Text(text))
+}
+
+fn checked(alloc: Global, good: bool, text: &str) -> Result<Cell, CellError>
+    ensures { ReadsAs (unless good) (text_cell text.now) result }
 {
     if good {
-        Ok(Cell::Text(text))
+        kept(alloc, text)
     } else {
         Err(CellError::Bad(Bad::Value))
     }
@@ -53,15 +62,18 @@ fn read_condition(alloc: Global, text: Text) -> Result<Cell, CellError>
     }
 }
 
-fn read_text(alloc: Global, kind: Kind, text: Text) -> Result<Cell, CellError>
-    ensures { ReadsAs (text_fault kind text) (text_value kind text) result }
+fn read_text(alloc: Global, kind: Kind, text: &str) -> Result<Cell, CellError>
+    ensures { ReadsAs (text_fault kind text.now) (text_value kind text.now) result }
 {
     match kind {
-        Kind::Name => checked(is_file_name(text.as_str()), text),
-        Kind::Pattern => checked(is_file_pattern(text.as_str()), text),
-        Kind::Code => read_code(text.as_str()),
-        Kind::Condition => read_condition(alloc, text),
-        Kind::Text | Kind::Formatted | Kind::Integer => Ok(Cell::Text(text)),
+        Kind::Name => checked(alloc, is_file_name(text), text),
+        Kind::Pattern => checked(alloc, is_file_pattern(text), text),
+        Kind::Code => read_code(text),
+        Kind::Condition => {
+            let text = Text::copy_of(alloc, text)?;
+            read_condition(alloc, text)
+        }
+        Kind::Text | Kind::Formatted | Kind::Integer => kept(alloc, text),
     }
 }
 
@@ -75,12 +87,12 @@ fn integer_of(text: &str) -> i32
     }
 }
 
-fn read_shown(alloc: Global, kind: Kind, shown: Text) -> Result<Cell, CellError>
-    ensures text { (text : List ℕ) → FitsKind kind (raw.Text text) → shown ≡ text → ReadsAs (text_fault kind text) (text_value kind text) result }
-    ensures number { (z : ℤ) → FitsKind kind (raw.Number z) → SpellsInteger 2147483647 shown z → ReadsAs None (integer_cell z) result }
+fn read_shown(alloc: Global, kind: Kind, shown: &str) -> Result<Cell, CellError>
+    ensures text { (text : List ℕ) → FitsKind kind (raw.Text text) → shown.now ≡ text → ReadsAs (text_fault kind text) (text_value kind text) result }
+    ensures number { (z : ℤ) → FitsKind kind (raw.Number z) → SpellsInteger 2147483647 shown.now z → ReadsAs None (integer_cell z) result }
 {
     match kind {
-        Kind::Integer => Ok(Cell::Integer(integer_of(shown.as_str()))),
+        Kind::Integer => Ok(Cell::Integer(integer_of(shown))),
         _ => read_text(alloc, kind, shown),
     }
 }
@@ -89,9 +101,9 @@ fn read_shown(alloc: Global, kind: Kind, shown: Text) -> Result<Cell, CellError>
 pub fn read_field(
     alloc: Global,
     column: &Column,
-    shown: Option<Text>,
+    shown: Option<&str>,
 ) -> Result<Option<Cell>, CellError>
-    ensures { (x : raw.Cell) → Shows shown x → FitsKind column.now.kind x → ReadsAs (kind_fault column.now.kind column.now.nullable x) (value_of column.now.kind x) result }
+    ensures { (x : raw.Cell) → Shows (option_copied shown.entry) x → FitsKind column.now.kind x → ReadsAs (kind_fault column.now.kind column.now.nullable x) (value_of column.now.kind x) result }
 {
     match shown {
         Some(text) => {

@@ -1,6 +1,6 @@
 //! A table of the package, from its file.
 
-ghost use Rattle.std.specs.Prelude.{◌≡◌, ◌≤◌, ◌&&◌, Some, IfOk, IfErr, OnErr, OnOk, is_some, map, [], false};
+ghost use Rattle.std.specs.Prelude.{◌≡◌, ◌≤◌, ◌&&◌, Some, IfOk, IfErr, OnErr, OnOk, is_some, map};
 ghost use Rattle.std.specs.FinMap.{get};
 ghost use Rattle.std.specs.Str.{bytes_eq};
 ghost use Rattle.mi_base.specs.declared.answers.Fault.TheVariants as faults;
@@ -8,18 +8,21 @@ ghost use Rattle.mi_source.specs.Counts.{Rose};
 ghost use Rattle.mi_idt.specs.Means.{IsSpelled, meaning, column_value};
 ghost use Rattle.mi_schema.specs.Answers.{Answers, Fails, IsCounted};
 ghost use Rattle.mi_schema.specs.Described.{column_as, table_as};
-ghost use Rattle.mi_schema.specs.Loaded.{IsRead};
+ghost use Rattle.mi_schema.specs.Listed.{layout_of};
+ghost use Rattle.mi_schema.specs.Loaded.{AreRead, IsRight};
+ghost use Rattle.mi_schema.specs.Package.{keyed};
 ghost use Rattle.mi_schema.specs.Reads.{Refuses};
-ghost use Rattle.mi_schema.specs.Rows.{is_of_class, begins_with, key_places, has_columns, is_refused, rows_in, value_fault, size_fault, table_fault, table_rows};
+ghost use Rattle.mi_schema.specs.Rows.{is_of_class, begins_with, key_places, has_columns, rows_in, value_fault, size_fault, table_fault, table_rows};
+ghost use Rattle.mi_schema.specs.Suits.{KeysTell};
 ghost use Rattle.mi_schema.specs.Tables.{refused};
 ghost use Rattle.mi_schema.specs.Checks.{table_path, content_of};
-ghost use Rattle.mi_schema.specs.Read.{rows_as};
 
-use crate::cell::Row;
 use crate::column::{Column, Kind, Layout};
 use crate::error::LoadError;
 use crate::file::read_file;
 use crate::row::read_rows;
+use crate::table_row::{Key, TableRow};
+use indexmap::IndexMap;
 use mi_base::{Fault, IdtFault, NoMemory, Text};
 use mi_idt::{Column as Spelled, IdtError, Table, read_table};
 use mi_source::{Failed, Source};
@@ -117,10 +120,15 @@ fn misspelled(alloc: Global, table: &str, why: IdtFault) -> LoadError
 }
 
 /// The rows of a known table that its bytes spell, or its first fault.
-fn read_spelled(alloc: Global, layout: &Layout, table: &Table) -> Result<Vec<Row>, LoadError>
+fn read_spelled<K: Key, R: TableRow<K>>(
+    alloc: Global,
+    layout: &Layout,
+    table: &Table,
+) -> Result<IndexMap<K, R>, LoadError>
+    requires is { table_as layout.now ≡ layout_of R.known }
     requires spelled { IsSpelled table.now }
-    requires known { is_refused (table_as layout.now) ≡ false }
-    ensures { Answers ⊥ (value_fault (table_as layout.now) (meaning table.now)) (λ rows. rows_as rows ≡ rows_in (table_as layout.now) (meaning table.now)) result }
+    requires apart { KeysTell K.eq K.key (layout_of R.known).columns }
+    ensures { Answers ⊥ (value_fault (table_as layout.now) (meaning table.now)) (λ rows. rows.entries ≡ keyed K.key R.value (rows_in (table_as layout.now) (meaning table.now))) result }
 {
     if !has_columns(layout.columns, table) {
         return Err(other_columns(alloc, layout.name));
@@ -129,9 +137,14 @@ fn read_spelled(alloc: Global, layout: &Layout, table: &Table) -> Result<Vec<Row
 }
 
 /// The rows of a known table in these bytes, or its first fault.
-fn read_bytes(alloc: Global, layout: &Layout, bytes: &[u8]) -> Result<Vec<Row>, LoadError>
-    requires known { is_refused (table_as layout.now) ≡ false }
-    ensures { Answers ⊥ (table_fault (table_as layout.now) (Some bytes.now)) (λ rows. rows_as rows ≡ table_rows (table_as layout.now) (Some bytes.now)) result }
+fn read_bytes<K: Key, R: TableRow<K>>(
+    alloc: Global,
+    layout: &Layout,
+    bytes: &[u8],
+) -> Result<IndexMap<K, R>, LoadError>
+    requires is { table_as layout.now ≡ layout_of R.known }
+    requires apart { KeysTell K.eq K.key (layout_of R.known).columns }
+    ensures { Answers ⊥ (table_fault (table_as layout.now) (Some bytes.now)) (λ rows. rows.entries ≡ keyed K.key R.value (table_rows (table_as layout.now) (Some bytes.now))) result }
 {
     match read_table(alloc, bytes) {
         Ok(table) => read_spelled(alloc, layout, &table),
@@ -208,14 +221,15 @@ fn bytes_of<S: Source>(
 }
 
 /// The rows of a known table in a folder, or its first fault; none where its file isn't there.
-pub fn load_table<S: Source>(
+pub fn load_table<K: Key, R: TableRow<K>, S: Source>(
     alloc: Global,
     src: &mut S,
     folder: &str,
     layout: &Layout,
-) -> Result<Vec<Row>, LoadError>
-    requires known { is_refused (table_as layout.now) ≡ false }
-    ensures read { IfOk result (λ rows. IsRead S.told (content_of (S.files src.old) folder.now layout.now.name.now) (table_as layout.now) (rows_as rows)) }
+) -> Result<IndexMap<K, R>, LoadError>
+    requires is { table_as layout.now ≡ layout_of R.known }
+    requires apart { KeysTell K.eq K.key (layout_of R.known).columns }
+    ensures read { IfOk result (λ rows. AreRead K.key R.value S.told (content_of (S.files src.old) folder.now layout.now.name.now) (table_as layout.now) rows.entries) }
     ensures fault { S.told → IfErr result (Fails (Rose (S.faults src.old) (S.faults src.new)) (table_fault (table_as layout.now) (content_of (S.files src.old) folder.now layout.now.name.now))) }
     ensures counted { IsCounted (Rose (S.faults src.old) (S.faults src.new)) result }
     ensures stays { S.files src.new ≡ S.files src.old }
@@ -223,7 +237,7 @@ pub fn load_table<S: Source>(
 {
     match bytes_of(alloc, src, folder, layout.name)? {
         Some(bytes) => read_bytes(alloc, layout, bytes.as_slice()),
-        None => Ok(Vec::new(alloc)),
+        None => Ok(IndexMap::new(alloc)),
     }
 }
 
@@ -234,7 +248,7 @@ pub fn refuse_table<S: Source>(
     folder: &str,
     name: &str,
 ) -> Result<(), LoadError>
-    ensures read { OnOk result (IsRead S.told (content_of (S.files src.old) folder.now name.now) (refused name.now) []) }
+    ensures read { OnOk result (IsRight S.told (content_of (S.files src.old) folder.now name.now) (refused name.now)) }
     ensures fault { S.told → IfErr result (Fails (Rose (S.faults src.old) (S.faults src.new)) (table_fault (refused name.now) (content_of (S.files src.old) folder.now name.now))) }
     ensures counted { IsCounted (Rose (S.faults src.old) (S.faults src.new)) result }
     ensures stays { S.files src.new ≡ S.files src.old }

@@ -1,15 +1,13 @@
 //! The values of a row as fields of their types.
 
-ghost use Rattle.std.specs.Prelude.{◌≡◌, [], IfOk, true, vec_len, unwrap_or};
+ghost use Rattle.std.specs.Prelude.{◌≡◌, [], true, vec_len, unwrap_or};
 ghost use Rattle.mi_schema.specs.Suits.{suits_kind};
-ghost use Rattle.mi_schema.specs.Values.{cell_at, text_in, text_at, number_in};
+ghost use Rattle.mi_schema.specs.Values.{cell_at, text_in, number_in};
 ghost use Rattle.mi_schema.specs.Typed.{some_number_in, some_code_in, some_condition_in, condition_in, IsSuch};
-ghost use Rattle.mi_schema.specs.TypedRows.{upgrade_key};
 
-use crate::cell::{Cell, Row, number_at, some_text_at, text_at};
+use crate::cell::{Cell, Row};
 use crate::column::Kind;
-use crate::package::UpgradeKey;
-use mi_base::{Guid, NoMemory, Text};
+use mi_base::{Guid, Text};
 use mi_cond::Cond;
 use std::alloc::Global;
 
@@ -110,46 +108,4 @@ pub fn condition_of(cell: Option<Cell>) -> Cond
         Some(Cell::Condition(_text, condition)) => condition,
         _ => unreachable!(),
     }
-}
-
-/// A copy of the text of a column of a row, from 0; empty where there is none.
-pub fn key_text(alloc: Global, row: &[Option<Cell>], column: usize) -> Result<Text, NoMemory>
-    ensures { IfOk result (λ text. text ≡ text_at row.now column) }
-{
-    Text::copy_of(alloc, text_at(row, column))
-}
-
-/// A copy of the text of a column of a row, from 0, where it has one.
-pub fn some_key_text(
-    alloc: Global,
-    row: &[Option<Cell>],
-    column: usize,
-) -> Result<Option<Text>, NoMemory>
-    ensures { IfOk result (λ text. text ≡ text_in (cell_at row.now column)) }
-{
-    match some_text_at(row, column) {
-        Some(text) => Ok(Some(Text::copy_of(alloc, text)?)),
-        None => Ok(None),
-    }
-}
-
-/// The key of a row whose first two columns are its key.
-pub fn key_texts(alloc: Global, row: &[Option<Cell>]) -> Result<(Text, Text), NoMemory>
-    ensures { IfOk result (λ key. key ≡ (text_at row.now 0, text_at row.now 1)) }
-{
-    let first = key_text(alloc, row, 0)?;
-    let second = key_text(alloc, row, 1)?;
-    Ok((first, second))
-}
-
-/// The key of a row of Upgrade.
-pub fn upgrade_key_of(alloc: Global, row: &[Option<Cell>]) -> Result<UpgradeKey, NoMemory>
-    ensures { IfOk result (λ key. key ≡ upgrade_key row.now) }
-{
-    let upgrade_code = key_text(alloc, row, 0)?;
-    let version_min = some_key_text(alloc, row, 1)?;
-    let version_max = some_key_text(alloc, row, 2)?;
-    let language = some_key_text(alloc, row, 3)?;
-    let attributes = number_at(row, 4);
-    Ok((upgrade_code, version_min, version_max, language, attributes))
 }

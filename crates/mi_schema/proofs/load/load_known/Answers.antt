@@ -1,4 +1,4 @@
-use Rattle.std.proofs.Common.{IfErr, sym, subst}
+use Rattle.std.proofs.Common.{IfErr, refl, sym, subst}
 use Rattle.mi_source.specs.Counts.{Rose}
 use Rattle.mi_schema.specs.Answers.{Fails}
 use Rattle.mi_schema.specs.Rows.{table_fault}
@@ -6,8 +6,70 @@ use Rattle.mi_schema.specs.declared.known.Known.{Known}
 use Rattle.mi_schema.specs.declared.known.Known.TheVariants as known
 use Rattle.mi_schema.specs.Checks.{content_of}
 use Rattle.mi_schema.specs.Listed.{layout_of}
+use Rattle.mi_schema.specs.Tables as table
+use Rattle.mi_schema.proofs.KeyLaws.{text_told, number_told, texts_told, text_number_told, upgrade_told}
 use Rattle.mi_schema.proofs.LoadLemmas.{on_ok}
 use Rattle.mi_schema.proofs.load.load_known.Goals as goal
+
+pub load_rows-requires : goal.load_rows-requires
+load_rows-requires g c = text_told table.component.columns refl
+
+pub load_rows-requires-in-Condition : goal.load_rows-requires-in-Condition
+load_rows-requires-in-Condition g c = text_number_told table.condition.columns refl
+
+pub load_rows-requires-in-CreateFolder : goal.load_rows-requires-in-CreateFolder
+load_rows-requires-in-CreateFolder g c = texts_told table.create_folder.columns refl
+
+pub load_rows-requires-in-CustomAction : goal.load_rows-requires-in-CustomAction
+load_rows-requires-in-CustomAction g c = text_told table.custom_action.columns refl
+
+pub load_rows-requires-in-Directory : goal.load_rows-requires-in-Directory
+load_rows-requires-in-Directory g c = text_told table.directory.columns refl
+
+pub load_rows-requires-in-DuplicateFile : goal.load_rows-requires-in-DuplicateFile
+load_rows-requires-in-DuplicateFile g c = text_told table.duplicate_file.columns refl
+
+pub load_rows-requires-in-Environment : goal.load_rows-requires-in-Environment
+load_rows-requires-in-Environment g c = text_told table.environment.columns refl
+
+pub load_rows-requires-in-Feature : goal.load_rows-requires-in-Feature
+load_rows-requires-in-Feature g c = text_told table.feature.columns refl
+
+pub load_rows-requires-in-FeatureComponents : goal.load_rows-requires-in-FeatureComponents
+load_rows-requires-in-FeatureComponents g c = texts_told table.feature_components.columns refl
+
+pub load_rows-requires-in-File : goal.load_rows-requires-in-File
+load_rows-requires-in-File g c = text_told table.file.columns refl
+
+pub load_rows-requires-in-InstallExecuteSequence : goal.load_rows-requires-in-InstallExecuteSequence
+load_rows-requires-in-InstallExecuteSequence g c = text_told table.install_execute_sequence.columns refl
+
+pub load_rows-requires-in-LaunchCondition : goal.load_rows-requires-in-LaunchCondition
+load_rows-requires-in-LaunchCondition g c = text_told table.launch_condition.columns refl
+
+pub load_rows-requires-in-MsiFileHash : goal.load_rows-requires-in-MsiFileHash
+load_rows-requires-in-MsiFileHash g c = text_told table.msi_file_hash.columns refl
+
+pub load_rows-requires-in-Property : goal.load_rows-requires-in-Property
+load_rows-requires-in-Property g c = text_told table.property.columns refl
+
+pub load_rows-requires-in-Registry : goal.load_rows-requires-in-Registry
+load_rows-requires-in-Registry g c = text_told table.registry.columns refl
+
+pub load_rows-requires-in-RemoveFile : goal.load_rows-requires-in-RemoveFile
+load_rows-requires-in-RemoveFile g c = text_told table.remove_file.columns refl
+
+pub load_rows-requires-in-RemoveRegistry : goal.load_rows-requires-in-RemoveRegistry
+load_rows-requires-in-RemoveRegistry g c = text_told table.remove_registry.columns refl
+
+pub load_rows-requires-in-Shortcut : goal.load_rows-requires-in-Shortcut
+load_rows-requires-in-Shortcut g c = text_told table.shortcut.columns refl
+
+pub load_rows-requires-in-SummaryInformation : goal.load_rows-requires-in-SummaryInformation
+load_rows-requires-in-SummaryInformation g c = number_told table.summary_information.columns refl
+
+pub load_rows-requires-in-Upgrade : goal.load_rows-requires-in-Upgrade
+load_rows-requires-in-Upgrade g c = upgrade_told table.upgrade.columns refl
 
 pub returns-in-Component-clause-put : goal.returns-in-Component-clause-put
 returns-in-Component-clause-put g c = rw c.in-Component.is (on_ok c.load_rows.result c.load_rows.ensures.read (λ read. record { found = read.found; same = read.same; right = read.right; holds = λ content h. elim [ known.Component ↦ read.are | other ↦ h other ] }))

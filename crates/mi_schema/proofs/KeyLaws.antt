@@ -1,4 +1,4 @@
--- The key of a row tells the values of its key columns, and keys that compare equal are one.
+-- Keys of rows that compare equal have the same values in the key columns.
 use Rattle.std.proofs.Common.{◌≡◌, ◌&&◌, ℕ, ℤ, Bool, true, false, List, [], ◌∷◌, Option, Some, None, refl, sym, ap, ◌∙◌, cond}
 use Rattle.std.specs.Prelude.{not, option_map, unwrap_or, nat_eq}
 use Rattle.std.specs.Option.{option_eq}
@@ -10,9 +10,9 @@ use Rattle.mi_schema.specs.declared.cell.Cell.TheVariants.{Text, Integer, Code, 
 use Rattle.mi_schema.specs.declared.column.Kind.{Kind}
 use Rattle.mi_schema.specs.declared.column.Kind.TheVariants as kind
 use Rattle.mi_schema.specs.Read.{has_text}
-use Rattle.mi_schema.specs.Suits.{suits, suits_kind, all_suit, key_cell, key_cells}
+use Rattle.mi_schema.specs.Suits.{suits, suits_kind, all_suit, key_cell, key_cells, KeysTell}
 use Rattle.mi_schema.specs.Tables.{Column}
-use Rattle.mi_schema.specs.KeyCells.{text_cells, number_cells, texts_cells, text_number_cells, UpgradeKey, upgrade_cells}
+use Rattle.mi_schema.specs.TypedRows.{text_key, number_key, texts_key, text_number_key, upgrade_key}
 use Rattle.mi_schema.specs.Values.{Row, cell_at, text_in, text_at, number_in}
 
 both : (a b : Bool) → (a && b) ≡ true → (a ≡ true) × (b ≡ true)
@@ -107,7 +107,26 @@ parts (p ∷ ps) (c ∷ cs) is (x ∷ xs) so =
     ∙ ap (λ (y : Option Cell). y ∷ key_cells cs xs) (part p c x more.0 fits.0)
     ∙ ap (λ (ys : Row). part_of p x ∷ ys) (parts ps cs more.1 xs fits.1)
 
--- ---- the five shapes of keys
+-- ---- the five shapes of keys, and the values in the key columns; a condition stands as its text
+
+abbrev pub text_cells : List ℕ → Row
+text_cells text = Some (Text text) ∷ []
+
+abbrev pub number_cells : ℤ → Row
+number_cells z = Some (Integer z) ∷ []
+
+abbrev pub texts_cells : List ℕ × List ℕ → Row
+texts_cells key = Some (Text key.0) ∷ Some (Text key.1) ∷ []
+
+abbrev pub text_number_cells : List ℕ × ℤ → Row
+text_number_cells key = Some (Text key.0) ∷ Some (Integer key.1) ∷ []
+
+-- of Upgrade: the code, the two versions and the languages, the attributes
+abbrev pub UpgradeKey : Type 0
+UpgradeKey = List ℕ × Option (List ℕ) × Option (List ℕ) × Option (List ℕ) × ℤ
+
+abbrev pub upgrade_cells : UpgradeKey → Row
+upgrade_cells key = Some (Text key.0) ∷ option_map Text key.1 ∷ option_map Text key.2 ∷ option_map Text key.3 ∷ Some (Integer key.4) ∷ []
 
 one : (p : Part) (row : Row) → parts_of (p ∷ []) row ≡ part_of p (cell_at row 0) ∷ []
 one p [] = refl
@@ -147,10 +166,10 @@ module _ (cs : List Column) where
 
 -- ---- keys that compare equal are one
 
-pub text_exact : (a b : List ℕ) → pointwise nat_eq a b ≡ true → a ≡ b
+text_exact : (a b : List ℕ) → pointwise nat_eq a b ≡ true → a ≡ b
 text_exact a b = (bytes_decides a b).0
 
-pub number_exact : (a b : ℤ) → int_eq a b ≡ true → a ≡ b
+number_exact : (a b : ℤ) → int_eq a b ≡ true → a ≡ b
 number_exact a b = (Decides-int_eq a b).0
 
 some_exact : (a b : Option (List ℕ)) → option_eq (pointwise nat_eq) a b ≡ true → a ≡ b
@@ -159,17 +178,17 @@ some_exact None (Some y) e = cc
 some_exact (Some x) None e = cc
 some_exact (Some x) (Some y) e = ap Some (text_exact x y e)
 
-pub texts_exact : (a b : List ℕ × List ℕ) → (pointwise nat_eq a.0 b.0 && pointwise nat_eq a.1 b.1) ≡ true → a ≡ b
+texts_exact : (a b : List ℕ × List ℕ) → (pointwise nat_eq a.0 b.0 && pointwise nat_eq a.1 b.1) ≡ true → a ≡ b
 texts_exact a b e =
     let h = both (pointwise nat_eq a.0 b.0) (pointwise nat_eq a.1 b.1) e in
     ap (λ (x : List ℕ). (x, a.1)) (text_exact a.0 b.0 h.0) ∙ ap (λ (y : List ℕ). (b.0, y)) (text_exact a.1 b.1 h.1)
 
-pub text_number_exact : (a b : List ℕ × ℤ) → (pointwise nat_eq a.0 b.0 && int_eq a.1 b.1) ≡ true → a ≡ b
+text_number_exact : (a b : List ℕ × ℤ) → (pointwise nat_eq a.0 b.0 && int_eq a.1 b.1) ≡ true → a ≡ b
 text_number_exact a b e =
     let h = both (pointwise nat_eq a.0 b.0) (int_eq a.1 b.1) e in
     ap (λ (x : List ℕ). (x, a.1)) (text_exact a.0 b.0 h.0) ∙ ap (λ (y : ℤ). (b.0, y)) (number_exact a.1 b.1 h.1)
 
-pub upgrade_exact : (a b : UpgradeKey) → ((((pointwise nat_eq a.0 b.0 && option_eq (pointwise nat_eq) a.1 b.1) && option_eq (pointwise nat_eq) a.2 b.2) && option_eq (pointwise nat_eq) a.3 b.3) && int_eq a.4 b.4) ≡ true → a ≡ b
+upgrade_exact : (a b : UpgradeKey) → ((((pointwise nat_eq a.0 b.0 && option_eq (pointwise nat_eq) a.1 b.1) && option_eq (pointwise nat_eq) a.2 b.2) && option_eq (pointwise nat_eq) a.3 b.3) && int_eq a.4 b.4) ≡ true → a ≡ b
 upgrade_exact a b e =
     let h = both (((pointwise nat_eq a.0 b.0 && option_eq (pointwise nat_eq) a.1 b.1) && option_eq (pointwise nat_eq) a.2 b.2) && option_eq (pointwise nat_eq) a.3 b.3) (int_eq a.4 b.4) e in
     let i = both ((pointwise nat_eq a.0 b.0 && option_eq (pointwise nat_eq) a.1 b.1) && option_eq (pointwise nat_eq) a.2 b.2) (option_eq (pointwise nat_eq) a.3 b.3) h.0 in
@@ -180,3 +199,26 @@ upgrade_exact a b e =
     ∙ ap (λ (x : Option (List ℕ)). (b.0, b.1, x, a.3, a.4)) (some_exact a.2 b.2 j.1)
     ∙ ap (λ (x : Option (List ℕ)). (b.0, b.1, b.2, x, a.4)) (some_exact a.3 b.3 i.1)
     ∙ ap (λ (x : ℤ). (b.0, b.1, b.2, b.3, x)) (number_exact a.4 b.4 h.1)
+
+-- ---- and so they have the same values in the key columns
+
+told : {K : Type 0} (eq : K → K → Bool) (key : Row → K) (cells : K → Row) (cs : List Column) → ((a b : K) → eq a b ≡ true → a ≡ b) → ((row : Row) → all_suit cs row ≡ true → key_cells cs row ≡ cells (key row)) → KeysTell eq key cs
+told eq key cells cs exact tells = λ a b suits also e. tells a suits ∙ ap cells (exact (key a) (key b) e) ∙ sym (tells b also)
+
+pub text_told : (cs : List Column) → are_parts (a_text ∷ []) cs ≡ true → KeysTell (pointwise nat_eq) text_key cs
+text_told cs is = told (pointwise nat_eq) text_key text_cells cs text_exact (text_tells cs is)
+
+pub number_told : (cs : List Column) → are_parts (a_number ∷ []) cs ≡ true → KeysTell int_eq number_key cs
+number_told cs is = told int_eq number_key number_cells cs number_exact (number_tells cs is)
+
+pub texts_told : (cs : List Column) → are_parts (a_text ∷ a_text ∷ []) cs ≡ true → KeysTell (λ (a b : List ℕ × List ℕ). pointwise nat_eq a.0 b.0 && pointwise nat_eq a.1 b.1) texts_key cs
+texts_told cs is = told (λ (a b : List ℕ × List ℕ). pointwise nat_eq a.0 b.0 && pointwise nat_eq a.1 b.1) texts_key texts_cells cs texts_exact (texts_tell cs is)
+
+pub text_number_told : (cs : List Column) → are_parts (a_text ∷ a_number ∷ []) cs ≡ true → KeysTell (λ (a b : List ℕ × ℤ). pointwise nat_eq a.0 b.0 && int_eq a.1 b.1) text_number_key cs
+text_number_told cs is = told (λ (a b : List ℕ × ℤ). pointwise nat_eq a.0 b.0 && int_eq a.1 b.1) text_number_key text_number_cells cs text_number_exact (text_number_tell cs is)
+
+abbrev pub same_upgrade : UpgradeKey → UpgradeKey → Bool
+same_upgrade a b = (((pointwise nat_eq a.0 b.0 && option_eq (pointwise nat_eq) a.1 b.1) && option_eq (pointwise nat_eq) a.2 b.2) && option_eq (pointwise nat_eq) a.3 b.3) && int_eq a.4 b.4
+
+pub upgrade_told : (cs : List Column) → are_parts (a_text ∷ text_or_null ∷ text_or_null ∷ text_or_null ∷ a_number ∷ []) cs ≡ true → KeysTell same_upgrade upgrade_key cs
+upgrade_told cs is = told same_upgrade upgrade_key upgrade_cells cs upgrade_exact (upgrade_tells cs is)

@@ -4,7 +4,7 @@ use Rattle.mi_schema.specs.Described.{table_as}
 use Rattle.mi_schema.specs.Keys.{KnowsKeys}
 use Rattle.mi_schema.specs.Rows.{keys_of}
 use Rattle.mi_schema.specs.Values.{row_of}
-use Rattle.mi_schema.proofs.row.index_of.Given as goal
+use Rattle.mi_schema.proofs.row.index_all.Given as goal
 
 abbrev pub invariant-loop-number : goal.invariant-loop-number
 invariant-loop-number l = KnowsKeys l.index (keys_of (map (row_of (table_as l.layout).columns) (take l.number (meaning l.table).rows)))
