@@ -10,7 +10,7 @@ use Rattle.mi_script.specs.Scripts.{touched_names}
 use Rattle.mi_undo.specs.Names.{is_inside}
 use Rattle.mi_undo.specs.Notes.{notes_for, new_names, spelled}
 use Rattle.mi_undo.specs.Stands.{StandsFor, outside}
-use Rattle.mi_undo.specs.Area.{volume, Works}
+use Rattle.mi_undo.specs.Area.{entries_for, volume, Works}
 use Rattle.mi_undo.specs.Answers.{Notes}
 use Rattle.mi_undo.specs.Room.{KeepsRoom, TakesAtMost, LeavesAtMost, NeverShort, entry_size}
 use Rattle.mi_undo.specs.Steps.{AddsBytes}
@@ -93,6 +93,10 @@ carry_full s t noted names rs is capacity same_outside more over =
     let same_entry : entry_size (notes_for s.held (new_names noted names)) ≡ entry_size (notes_for s.held (new_names noted (touched_names rs))) = ap (λ (l : List Name). entry_size (notes_for s.held (new_names noted l))) is in
     subst (λ (c : Option ℕ). Exceeds c (most_held s.held noted rs)) capacity
     (exceeds_more t.capacity (size t.held + growth (outside t.held) rs (touched_names rs)) (most_held s.held noted rs) (omega (arith, grows, same_entry, more)) over)
+
+pub at_most_one : (names : List Name) → entries_for names ≤ 1
+at_most_one [] = omega arith
+at_most_one (n ∷ names) = omega arith
 
 -- ---- what a segment leaves
 

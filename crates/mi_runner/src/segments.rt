@@ -46,6 +46,7 @@ fn carry_out<S: Source, V: Volume>(
     ensures working { OnOk result (IsWorking area.new) }
     ensures noted { OnOk result (noted_names area.new ≡ noted_names area.old ++ new_names (noted_names area.old) (touched_names script.now)) }
     ensures entries { OnOk result (entry_count area.new ≡ entry_count area.old + entries_for (new_names (noted_names area.old) (touched_names script.now))) }
+    ensures entries_most { entry_count area.new ≤ entry_count area.old + 1 }
     ensures map { V.told → S.told → (F : Map) → Works (V.state (volume area.old)) area.old.kept F
         → OnOk result (outside (V.state (volume area.new)).held ≡ after_script (S.files src.old) (outside (V.state (volume area.old)).held) script.now) }
     ensures carries { V.told → (F : Map) → Works (V.state (volume area.old)) area.old.kept F
@@ -87,6 +88,7 @@ pub fn segment<S: Source, V: Volume>(
     ensures working { OnOk result (IsWorking area.new) }
     ensures noted { OnOk result (noted_names area.new ≡ noted_names area.old ++ new_names (noted_names area.old) (touched_names script.now)) }
     ensures entries { OnOk result (entry_count area.new ≡ entry_count area.old + entries_for (new_names (noted_names area.old) (touched_names script.now))) }
+    ensures entries_most { entry_count area.new ≤ entry_count area.old + 1 }
     ensures map { V.told → S.told → (F : Map) → Works (V.state (volume area.old)) area.old.kept F
         → OnOk result (outside (V.state (volume area.new)).held ≡ after_script (S.files src.old) (outside (V.state (volume area.old)).held) script.now) }
     ensures carries { V.told → (F : Map) → Works (V.state (volume area.old)) area.old.kept F

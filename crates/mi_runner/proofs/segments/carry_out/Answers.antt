@@ -17,7 +17,7 @@ use Rattle.mi_runner.specs.Answers.{Carries}
 use Rattle.mi_runner.proofs.StepLemmas.{room_then}
 use Rattle.mi_runner.proofs.FaultLemmas.{fault_handed, full_handed, op_differs, reads_op}
 use Rattle.mi_runner.proofs.RecordLemmas.{all_are_noted}
-use Rattle.mi_runner.proofs.SegmentLemmas.{note_full, noted_size, carry_full, not_noted, carries, memory_not_full}
+use Rattle.mi_runner.proofs.SegmentLemmas.{at_most_one, note_full, noted_size, carry_full, not_noted, carries, memory_not_full}
 use Rattle.mi_runner.proofs.segments.carry_out.Goals as goal
 
 pub returns-in_err-note-clause-carries : goal.returns-in_err-note-clause-carries
@@ -162,3 +162,18 @@ returns-clause-reads g c =
 pub returns-clause-differs : goal.returns-clause-differs
 returns-clause-differs g c =
     subst (λ (rs : List Rec). Differs {T = Unit {0}} g.S.Source.told rs (Ok _)) c.recs.ensures c.in_ok-carry_records.ensures.differs
+
+pub returns-in_err-note-clause-entries_most : goal.returns-in_err-note-clause-entries_most
+returns-in_err-note-clause-entries_most g c = omega (arith, c.in_err-note.ensures.entries_stay)
+
+pub returns-in_err-carry_records-clause-entries_most : goal.returns-in_err-carry_records-clause-entries_most
+returns-in_err-carry_records-clause-entries_most g c =
+    let kept = ap (λ (k : Kept). k.entries) c.in_err-carry_records.ensures.keeps.kept in
+    let most = at_most_one (new_names (noted_names c.args.area.now) c.args.names.now) in
+    omega (arith, kept, c.in_ok-note.ensures.entries, most)
+
+pub returns-clause-entries_most : goal.returns-clause-entries_most
+returns-clause-entries_most g c =
+    let kept = ap (λ (k : Kept). k.entries) c.in_ok-carry_records.ensures.keeps.kept in
+    let most = at_most_one (new_names (noted_names c.args.area.now) c.args.names.now) in
+    omega (arith, kept, c.in_ok-note.ensures.entries, most)
