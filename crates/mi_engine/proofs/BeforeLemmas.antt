@@ -190,5 +190,6 @@ module _ (volume told : Type 0) (s t u : State) (out out' : Outcome) (command : 
     caused = licensed_from volume told s t u out out' source_fails of_told is pass then kind serves.caused;
     suspends = suspends_as volume told out out' of_told is kind serves.suspends;
     answers = serves.answers;
+    built = serves.built;
     log = says_as volume told out out' of_told is found found (λ x found_is. found_is) (walks (Ok command)) kind bytes serves.log;
   }

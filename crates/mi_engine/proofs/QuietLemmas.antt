@@ -16,7 +16,7 @@ use Rattle.mi_model.specs.Leaves.{MayStand, AtExit, Cleans}
 use Rattle.mi_model.specs.Logs.{IsLog}
 use Rattle.mi_model.specs.PackageOutcome.{Outcome}
 use Rattle.mi_model.specs.Words.{Command, Package, Selftest, Clients, Products, Recover, walks}
-use Rattle.mi_engine.specs.Answers.{Suspends}
+use Rattle.mi_engine.specs.Answers.{Suspends, IsBuiltKind}
 use Rattle.mi_engine.specs.declared.reply.Reply.{Reply}
 use Rattle.mi_engine.specs.Ends as ends
 use Rattle.mi_engine.specs.Looks.{Looks}
@@ -117,8 +117,8 @@ module _ (volume told : Type 0) (found : Settled → Type 0) (says : Bool) (out 
   memory_log settled is = record { settled = settled; begun = out.begun; tells = is; begins = λ t. refl; is = refl }
 
 module _ (volume told : Type 0) (s t : State) (out : Outcome) (command : Command) (found : Settled → Type 0) (settled : Settled) (is_found : found settled) (source_fails : Type 0) (free : volume → IsFree s) (looks : volume → Looks s t) where
-  pub quiet_serves : (kind : Kind) (bytes : List ℕ) → IsQuiet kind → Caused s.faults t.faults volume told out (Rose s t) source_fails kind → AnswersCommand command kind → Says (IsLog volume told found (walks (Ok command)) out kind 0) kind bytes → Serves volume told s t out command found source_fails kind bytes
-  quiet_serves kind bytes quiet caused answers log = record {
+  pub quiet_serves : (kind : Kind) (bytes : List ℕ) → IsQuiet kind → Caused s.faults t.faults volume told out (Rose s t) source_fails kind → AnswersCommand command kind → IsBuiltKind kind → Says (IsLog volume told found (walks (Ok command)) out kind 0) kind bytes → Serves volume told s t out command found source_fails kind bytes
+  quiet_serves kind bytes quiet caused answers built log = record {
     stops = λ v. weaker s t (StandsFor s.held) (MayStand told s.held out (BelowCount s.faults t.faults) kind) (λ d is. inl is) (looks_go s t (free v) (looks v));
     leaves = λ v d image. at_exit told s.held out kind quiet d (looks_leave s t (free v) (looks v) d image);
     reads = λ v. quiet_reads told s.held out kind quiet t.held (looks_read s t (free v) (looks v));
@@ -126,14 +126,15 @@ module _ (volume told : Type 0) (s t : State) (out : Outcome) (command : Command
     caused = inr caused;
     suspends = quiet_suspends told out kind quiet;
     answers = answers;
+    built = built;
     log = log;
   }
 
   -- this answer with its log, or want of memory with a front of its own
-  pub replied : (kind : Kind) (log : List ℕ) (r : Reply) → IsQuiet kind → Caused s.faults t.faults volume told out (Rose s t) source_fails kind → AnswersCommand command kind → IsLog volume told found (walks (Ok command)) out kind 0 log → ((r.kind ≡ kind) × (log_in r ≡ log)) ⊎ ((r.kind ≡ NoMemory) × ((x : Settled) → IsFront (log_of (walks (Ok command)) x NoMemory) (log_in r))) → Serves volume told s t out command found source_fails r.kind (log_in r)
-  replied kind log r quiet caused answers is_log is = ⊎_elim
-      (λ e. at kind e.0 (quiet_serves kind (log_in r) quiet caused answers (says_whole (IsLog volume told found (walks (Ok command)) out kind 0) kind (log_in r) log e.1 is_log)))
-      (λ e. at NoMemory e.0 (quiet_serves NoMemory (log_in r) tt tt (answers_memory command) (says_front (IsLog volume told found (walks (Ok command)) out NoMemory 0) (log_in r) (log_of (walks (Ok command)) settled NoMemory) (e.1 settled) (memory_log volume told found (walks (Ok command)) out settled is_found))))
+  pub replied : (kind : Kind) (log : List ℕ) (r : Reply) → IsQuiet kind → Caused s.faults t.faults volume told out (Rose s t) source_fails kind → AnswersCommand command kind → IsBuiltKind kind → IsLog volume told found (walks (Ok command)) out kind 0 log → ((r.kind ≡ kind) × (log_in r ≡ log)) ⊎ ((r.kind ≡ NoMemory) × ((x : Settled) → IsFront (log_of (walks (Ok command)) x NoMemory) (log_in r))) → Serves volume told s t out command found source_fails r.kind (log_in r)
+  replied kind log r quiet caused answers built is_log is = ⊎_elim
+      (λ e. at kind e.0 (quiet_serves kind (log_in r) quiet caused answers built (says_whole (IsLog volume told found (walks (Ok command)) out kind 0) kind (log_in r) log e.1 is_log)))
+      (λ e. at NoMemory e.0 (quiet_serves NoMemory (log_in r) tt tt (answers_memory command) tt (says_front (IsLog volume told found (walks (Ok command)) out NoMemory 0) (log_in r) (log_of (walks (Ok command)) settled NoMemory) (e.1 settled) (memory_log volume told found (walks (Ok command)) out settled is_found))))
       is
     where
       at : (k : Kind) → r.kind ≡ k → Serves volume told s t out command found source_fails k (log_in r) → Serves volume told s t out command found source_fails r.kind (log_in r)

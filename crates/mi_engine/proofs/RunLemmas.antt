@@ -37,7 +37,7 @@ use Rattle.mi_model.specs.Texts.{Text}
 use Rattle.mi_model.specs.TopCall.{handed}
 use Rattle.mi_model.specs.Words.{Command, Package, Selftest, Clients, Products, Recover, walks}
 use Rattle.mi_engine.specs.declared.reply.Reply.{Reply}
-use Rattle.mi_engine.specs.Answers.{IsTold, Suspends}
+use Rattle.mi_engine.specs.Answers.{IsTold, Suspends, IsBuiltKind}
 use Rattle.mi_engine.specs.Endings.{RepliesUnsettled}
 use Rattle.mi_engine.specs.Replies.{log_in, log_of, IsFront, Replies, Says, SettledReads, Serves, IsUndecided, Leaves, Runs}
 use Rattle.mi_engine.proofs.BeforeLemmas.{may_stand_as, exit_as, reads_as, licensed_from, suspends_as, says_as, cleans_from}
@@ -129,6 +129,7 @@ module _ (volume source : Type 0) (s t u : State) (files : Files) (words : List 
     unread_stays = λ v bad stood. absurd (not_bad (stands s.held) t.held bad (value v) stood);
     cleans = λ v. cleans_from s t u pass kind (serves.cleans v);
     answers = serves.answers;
+    built = serves.built;
   }
 
 -- ---- a volume that isn't settled
@@ -236,10 +237,16 @@ module _ (volume source : Type 0) (s t : State) (files : Files) (words : List Te
       early_runs (undo.Full name) (RecoveryFull name) r out tt u (λ v. ap (λ (x : Outcome). x.end) (full_outcome out comes name (u.full name refl))) (λ v. inr (ap (λ (x : Outcome). x.reached) (full_outcome out comes name (u.full name refl)))) is
 
   early_leaves : (e : UndoError) (cause : Cause) (r : Reply) → IsEarly cause → Unsettled volume s t e → Replies (walks (Ok command)) Clean (Refused cause) r → Leaves volume s t (Ok command) r.kind
-  early_leaves e cause r early u is = ⊎_elim (λ x. at (Refused cause) x.0 (refused_cleans cause early) (before_answers cause early command)) (λ x. at NoMemory x.0 tt (answers_memory command)) is
+  early_leaves e cause r early u is = ⊎_elim (λ x. at (Refused cause) x.0 (refused_cleans cause early) (before_answers cause early command) (early_built cause early)) (λ x. at NoMemory x.0 tt (answers_memory command) tt) is
     where
-      at : (kind : Kind) → r.kind ≡ kind → Cleans s t kind → AnswersCommand command kind → Leaves volume s t (Ok command) r.kind
-      at kind is cleans answers = subst (λ (k : Kind). Leaves volume s t (Ok command) k) (sym is) (record { unread = u.unread; unread_stays = u.unread_stays; cleans = λ v. cleans; answers = answers })
+      at : (kind : Kind) → r.kind ≡ kind → Cleans s t kind → AnswersCommand command kind → IsBuiltKind kind → Leaves volume s t (Ok command) r.kind
+      at kind is cleans answers built = subst (λ (k : Kind). Leaves volume s t (Ok command) k) (sym is) (record { unread = u.unread; unread_stays = u.unread_stays; cleans = λ v. cleans; answers = answers; built = built })
+
+      early_built : (cause : Cause) → IsEarly cause → IsBuiltKind (Refused cause)
+      early_built VolumeFault is = tt
+      early_built (BadRollback name) is = tt
+      early_built (RecoveryFull name) is = tt
+      early_built other is = absurd is
 
       refused_cleans : (cause : Cause) → IsEarly cause → Cleans s t (Refused cause)
       refused_cleans VolumeFault is = tt
@@ -248,7 +255,7 @@ module _ (volume source : Type 0) (s t : State) (files : Files) (words : List Te
       refused_cleans other is = absurd is
 
   pub unsettled_leaves : (e : UndoError) (r : Reply) → Unsettled volume s t e → RepliesUnsettled (walks (Ok command)) e r → Leaves volume s t (Ok command) r.kind
-  unsettled_leaves undo.NoMemory r u is = subst (λ (k : Kind). Leaves volume s t (Ok command) k) (sym is.0) (record { unread = u.unread; unread_stays = u.unread_stays; cleans = λ v. tt; answers = answers_memory command })
+  unsettled_leaves undo.NoMemory r u is = subst (λ (k : Kind). Leaves volume s t (Ok command) k) (sym is.0) (record { unread = u.unread; unread_stays = u.unread_stays; cleans = λ v. tt; answers = answers_memory command; built = tt })
   unsettled_leaves undo.Fault r u is = early_leaves undo.Fault VolumeFault r tt u is
   unsettled_leaves (undo.BadRollback name) r u is = early_leaves (undo.BadRollback name) (BadRollback name) r tt u is
   unsettled_leaves (undo.Full name) r u is = early_leaves (undo.Full name) (RecoveryFull name) r tt u is
@@ -293,14 +300,15 @@ module _ (volume source : Type 0) (s : State) (files : Files) (words : List Text
       at kind is runs = subst (λ (k : Kind). Runs volume words_told s s out (Err place) source_fails k (log_in r)) (sym is) runs
 
   pub words_leave : (r : Reply) → Replies false Clean (Refused (BadWords place)) r → Leaves volume s s (Err place) r.kind
-  words_leave r is = ⊎_elim (λ x. at (Refused (BadWords place)) x.0 tt (inl refl)) (λ x. at NoMemory x.0 tt (inr refl)) is
+  words_leave r is = ⊎_elim (λ x. at (Refused (BadWords place)) x.0 tt (inl refl) tt) (λ x. at NoMemory x.0 tt (inr refl) tt) is
     where
-      at : (kind : Kind) → r.kind ≡ kind → Cleans s s kind → (kind ≡ Refused (BadWords place)) ⊎ (kind ≡ NoMemory) → Leaves volume s s (Err place) r.kind
-      at kind is cleans answers = subst (λ (k : Kind). Leaves volume s s (Err place) k) (sym is) (record {
+      at : (kind : Kind) → r.kind ≡ kind → Cleans s s kind → (kind ≡ Refused (BadWords place)) ⊎ (kind ≡ NoMemory) → IsBuiltKind kind → Leaves volume s s (Err place) r.kind
+      at kind is cleans answers built = subst (λ (k : Kind). Leaves volume s s (Err place) k) (sym is) (record {
         unread = λ v clean bad stood. started s (λ d. d ≡ s.held);
         unread_stays = λ v bad stood. refl;
         cleans = λ v. cleans;
         answers = answers;
+        built = built;
       })
 
 -- ---- the same, of the words

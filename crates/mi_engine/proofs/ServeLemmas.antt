@@ -37,7 +37,7 @@ use Rattle.mi_model.specs.Words.{Command, Package, Selftest, Clients, Products, 
 use Rattle.mi_engine.specs.declared.stop.Stop.{Stop}
 use Rattle.mi_engine.specs.declared.stop.Stop.TheVariants as stop
 use Rattle.mi_engine.specs.declared.reply.Reply.{Reply}
-use Rattle.mi_engine.specs.Answers.{IsTold, IsPausedByVolume, MeetsFull, Suspends}
+use Rattle.mi_engine.specs.Answers.{IsTold, IsPausedByVolume, MeetsFull, Suspends, IsBuiltKind}
 use Rattle.mi_engine.specs.Calls.{CausedStop, IsSourceStop}
 use Rattle.mi_engine.specs.Rows.{unless_fault, rows_of}
 use Rattle.mi_engine.specs.Ends.{Ends, WritePaused, WriteCaused, IsWriteKind}
@@ -84,12 +84,17 @@ module _ (volume told : Type 0) (s t : State) (files : Files) (found : Settled) 
 
   pub unscanned_serves : (e : ImageError) (r : Reply) → (volume → IsFree s) → (volume → Looks s t) → (volume → (name : Name) → e ≡ scan.BadImage name → machine_of s.held ≡ Err name) → (e ≡ scan.Fault → Rose s t) → Replies (walks (Ok command)) found (kind_unscanned e) r → Serves volume told s t scanned command (λ x. x ≡ found) source_fails r.kind (log_in r)
   unscanned_serves e r free looks bad rose is =
-      replied volume told s t scanned command (λ x. x ≡ found) found refl source_fails free looks (kind_unscanned e) (log_of (walks (Ok command)) found (kind_unscanned e)) r (quiet e) (scan_caused e bad rose) (scan_answers e command) (scan_log e) is
+      replied volume told s t scanned command (λ x. x ≡ found) found refl source_fails free looks (kind_unscanned e) (log_of (walks (Ok command)) found (kind_unscanned e)) r (quiet e) (scan_caused e bad rose) (scan_answers e command) (built e) (scan_log e) is
     where
       quiet : (e : ImageError) → IsQuiet (kind_unscanned e)
       quiet scan.NoMemory = tt
       quiet scan.Fault = tt
       quiet (scan.BadImage name) = tt
+
+      built : (e : ImageError) → IsBuiltKind (kind_unscanned e)
+      built scan.NoMemory = tt
+      built scan.Fault = tt
+      built (scan.BadImage name) = tt
 
 -- the outcome over the scanned machine
 pub scanned_outcome : (files : Files) (found : Settled) (h h' : Map) (image : Items) (command : Command) (r : Result Machine Name) → h' ≡ h → IsOkAnd r (ImageOf h files image) → of_command files (machine_over h' files image) found command ≡ of_machine files found command r
@@ -104,12 +109,12 @@ module _ (volume told : Type 0) (s : State) (files : Files) (found : Settled) (s
 
   pub recover_serves : (m : Machine) (r : Reply) → Replies false found (Recovered found) r → Serves volume told s s (only (o.Recovered found)) Recover (λ x. x ≡ found) source_fails r.kind (log_in r)
   recover_serves m r is =
-      replied volume told s s (only (o.Recovered found)) Recover (λ x. x ≡ found) found refl source_fails free looks (Recovered found) (log_of false found (Recovered found)) r tt (λ v. refl) tt
+      replied volume told s s (only (o.Recovered found)) Recover (λ x. x ≡ found) found refl source_fails free looks (Recovered found) (log_of false found (Recovered found)) r tt (λ v. refl) tt tt
       (record { settled = found; begun = []; tells = refl; begins = λ t. refl; is = refl }) is
 
   pub list_serves : (image : Items) (r : Reply) → Lists image r → Serves volume told s s (only (o.Listed (products_text_of (machine_over s.held files image)))) Products (λ x. x ≡ found) source_fails r.kind (log_in r)
   list_serves image r is =
-      replied volume told s s (only (o.Listed text)) Products (λ x. x ≡ found) found refl source_fails free looks Listed text r tt (λ v. (text, refl)) tt (λ v. refl)
+      replied volume told s s (only (o.Listed text)) Products (λ x. x ≡ found) found refl source_fails free looks Listed text r tt (λ v. (text, refl)) tt tt (λ v. refl)
       (⊎_elim (λ e. inl (e.0, e.1 s.held files)) (λ e. inr e) is)
     where
       text : List ℕ
@@ -147,6 +152,12 @@ module _ (volume source : Type 0) (folder : List ℕ) (found : Settled) (source_
   load_answers (stop.Refuse (Table fault)) is = tt
   load_answers (stop.Refuse other) is = absurd is
 
+  load_built : (e : Stop) → IsSourceStop source_fails e → IsBuiltKind (kind_unloaded e)
+  load_built stop.NoMemory is = tt
+  load_built (stop.Refuse SourceFault) is = tt
+  load_built (stop.Refuse (Table fault)) is = tt
+  load_built (stop.Refuse other) is = absurd is
+
   load_log : (e : Stop) → IsSourceStop source_fails e → IsLog volume told (λ x. x ≡ found) true out (kind_unloaded e) 0 (log_of true found (kind_unloaded e))
   load_log stop.NoMemory is = record { settled = found; begun = []; tells = refl; begins = λ t. refl; is = refl }
   load_log (stop.Refuse SourceFault) is = record { settled = found; begun = []; tells = refl; begins = λ t. refl; is = refl }
@@ -155,7 +166,7 @@ module _ (volume source : Type 0) (folder : List ℕ) (found : Settled) (source_
 
   pub unloaded_serves : (s : State) (e : Stop) (r : Reply) → (volume → IsFree s) → (source → CausedStop source_fails loaded e) → IsSourceStop source_fails e → Replies true found (kind_unloaded e) r → Serves volume told s s out install (λ x. x ≡ found) source_fails r.kind (log_in r)
   unloaded_serves s e r free caused is replies =
-      replied volume told s s out install (λ x. x ≡ found) found refl source_fails free (λ v. looks_none s) (kind_unloaded e) (log_of true found (kind_unloaded e)) r (quiet e) (load_caused s e caused is) (load_answers e is) (load_log e is) replies
+      replied volume told s s out install (λ x. x ≡ found) found refl source_fails free (λ v. looks_none s) (kind_unloaded e) (log_of true found (kind_unloaded e)) r (quiet e) (load_caused s e caused is) (load_answers e is) (load_built e is) (load_log e is) replies
     where
       quiet : (e : Stop) → IsQuiet (kind_unloaded e)
       quiet stop.NoMemory = tt
@@ -252,6 +263,15 @@ module _ (volume source : Type 0) (folder : List ℕ) (found : Settled) (source_
     write_answers (Suspended pause) is = tt
     write_answers NoMemory is = tt
 
+    write_built : (kind : Kind) → IsWriteKind kind → IsBuiltKind kind
+    write_built Done is = tt
+    write_built Listed is = tt
+    write_built (Recovered settled) is = tt
+    write_built (Refused VolumeFault) is = tt
+    write_built (Refused other) is = absurd is
+    write_built (Suspended pause) is = tt
+    write_built NoMemory is = tt
+
     write_cleans : (kind : Kind) → (kind ≡ Done → IsFreeUnlessRose s u) → IsWriteKind kind → Cleans s u kind
     write_cleans Done free is = free refl
     write_cleans Listed free is = absurd is
@@ -279,5 +299,6 @@ module _ (volume source : Type 0) (folder : List ℕ) (found : Settled) (source_
       caused = caused_either s.capacity refl le kind caused;
       suspends = write_suspends kind caused;
       answers = write_answers kind is;
+      built = write_built kind is;
       log = record { log = log.log; is = write_log kind log.log is log.is; whole = log.whole; front = log.front };
     }

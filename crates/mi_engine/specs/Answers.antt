@@ -1,9 +1,9 @@
 -- What is said of a run besides the clauses of the top call, until it walks over its sequence: what its words have told, what is answered
--- where room is wanting, and when it is suspended. (This project's own.)
+-- where room is wanting, which refusals there are, and when it is suspended. (This project's own.)
 use Rattle.std.specs.Prelude.{◌≡◌, ℕ, Option, None, Some, Result, IsSome}
 use Rattle.mi_volume.specs.State.{State}
 use Rattle.mi_base.specs.declared.answers.Cause.{Cause}
-use Rattle.mi_base.specs.declared.answers.Cause.TheVariants.{VolumeFault}
+use Rattle.mi_base.specs.declared.answers.Cause.TheVariants.{BadWords, VolumeFault, BadRollback, RecoveryFull, BadImage, SourceFault, Table}
 use Rattle.mi_base.specs.declared.answers.Kind.{Kind}
 use Rattle.mi_base.specs.declared.answers.Kind.TheVariants.{Refused, Suspended}
 use Rattle.mi_base.specs.declared.answers.Place.{Place}
@@ -37,6 +37,23 @@ pub record MeetsFull (told : Type 0) (old : State) (out : Outcome) (kind : Kind)
   pub limited : IsSome old.capacity
   pub writes : told → IsDone out
   pub is : IsFullKind kind
+
+-- ---- refusals
+
+-- those that there are
+abbrev pub IsBuiltCause : Cause → Type 0
+IsBuiltCause (BadWords place) = Unit {0}
+IsBuiltCause VolumeFault = Unit {0}
+IsBuiltCause (BadRollback name) = Unit {0}
+IsBuiltCause (RecoveryFull name) = Unit {0}
+IsBuiltCause (BadImage name) = Unit {0}
+IsBuiltCause SourceFault = Unit {0}
+IsBuiltCause (Table fault) = Unit {0}
+IsBuiltCause other = ⊥
+
+abbrev pub IsBuiltKind : Kind → Type 0
+IsBuiltKind (Refused cause) = IsBuiltCause cause
+IsBuiltKind other = Unit {0}
 
 -- ---- suspended runs
 

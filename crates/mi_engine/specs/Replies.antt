@@ -19,7 +19,7 @@ use Rattle.mi_model.specs.PackageOutcome as o
 use Rattle.mi_model.specs.Report.{report_of}
 use Rattle.mi_model.specs.Words.{Command, walks}
 use Rattle.mi_engine.specs.declared.reply.Reply.{Reply}
-use Rattle.mi_engine.specs.Answers.{MeetsFull, Suspends}
+use Rattle.mi_engine.specs.Answers.{MeetsFull, Suspends, IsBuiltKind}
 
 -- ---- logs
 
@@ -75,6 +75,7 @@ pub record Serves (volume told : Type 0) (old new : State) (out : Outcome) (comm
   pub caused : MeetsFull told old out kind ⊎ Caused old.faults new.faults volume told out (Rose old new) source_fails kind
   pub suspends : Suspends told out kind
   pub answers : AnswersCommand command kind
+  pub built : IsBuiltKind kind
   pub log : Says (IsLog volume told found (walks (Ok command)) out kind 0) kind bytes
 
 -- ---- a run on any volume
@@ -91,6 +92,7 @@ pub record Leaves (volume : Type 0) (old new : State) (words : Result Command �
   pub unread_stays : volume → (bad : List ℕ) → stands old.held ≡ Err bad → new.held ≡ old.held
   pub cleans : volume → Cleans old new kind
   pub answers : AnswersWords words kind
+  pub built : IsBuiltKind kind
 
 -- What a run leaves that comes to this outcome; no action is begun.
 pub record Runs (volume told : Type 0) (old new : State) (out : Outcome) (words : Result Command ℕ) (source_fails : Type 0) (kind : Kind) (bytes : List ℕ) : Type 0 where

@@ -17,7 +17,7 @@ ghost use Rattle.mi_model.specs.PlainOutcome.{ComesTo};
 ghost use Rattle.mi_model.specs.PlainWords.{command_of};
 ghost use Rattle.mi_model.specs.TopCall.{handed};
 ghost use Rattle.mi_model.specs.Words.{Installs, walks};
-ghost use Rattle.mi_engine.specs.Answers.{IsTold, IsStill, MeetsFull, Suspends};
+ghost use Rattle.mi_engine.specs.Answers.{IsTold, IsStill, MeetsFull, Suspends, IsBuiltKind};
 ghost use Rattle.mi_engine.specs.Replies.{Leaves, Runs, log_in};
 
 use crate::answer::Answer;
@@ -41,10 +41,11 @@ pub fn run<S: Source, V: Volume, K: Sink>(
     _now: u64,
 ) -> Answer
     // Which answers the words allow. Refused words leave both devices alone, and a command without a package the
-    // source.
+    // source. No refusal of a walk comes yet.
     ensures words { AnswersWords (command_of (texts_of words.now)) result.kind }
     ensures untouched { (place : ℕ) → command_of (texts_of words.now) ≡ Err place → vol.new ≡ vol.old }
     ensures no_package { (Installs (command_of (texts_of words.now)) → ⊥) → src.new ≡ src.old }
+    ensures only_built { IsBuiltKind result.kind }
 
     // What follows holds of each outcome that the run comes to. An answer comes only for its cause, or, on a volume that
     // tells a capacity, where room is wanting; and a run is suspended only where its package makes a machine.
