@@ -26,8 +26,8 @@ struct History {
     lengths: &'static [usize],
     deeds: &'static [Deed],
     trips: &'static [Trip],
-    // Whether the power is cut at each call of the next opening of the volume, too.
-    cuts_opening: bool,
+    // Behind one of how many stops the power is cut at each call of the next opening of the volume, too.
+    cuts_opening: usize,
 }
 
 /// Names of one part and of two: each kind of change, of names that are listed and that aren't, few bytes over many, and a
@@ -61,7 +61,7 @@ const SHORT: History = History {
         Trip::Fail(Failure::Full),
         Trip::Fail(Failure::Interrupted),
     ],
-    cuts_opening: true,
+    cuts_opening: 1,
 };
 
 /// A name of eleven parts.
@@ -74,7 +74,7 @@ const LONG: History = History {
         Deed::Sync,
     ],
     trips: &[Trip::Stop],
-    cuts_opening: false,
+    cuts_opening: 7,
 };
 
 /// What the disk may have after the power was cut.
@@ -271,6 +271,15 @@ fn outlives(
     Ok(())
 }
 
+/// Whether the power is cut at each call of the opening behind this stop.
+fn is_opening_cut(history: &History, trip: Option<(usize, Trip)>) -> bool {
+    let each = history.cuts_opening;
+    match trip {
+        Some((call, _)) => each > 0 && call % each == 0,
+        None => true,
+    }
+}
+
 /// A process whose call of this number goes wrong, and what is found on its disk. How many calls it made.
 fn trial(alloc: Global, history: &History, trip: Option<(usize, Trip)>) -> Result<usize, Wrong> {
     let mut names = names_of(alloc, history)?;
@@ -284,7 +293,7 @@ fn trial(alloc: Global, history: &History, trip: Option<(usize, Trip)>) -> Resul
         Some((_, Trip::Fail(_))) => outlives(alloc, &device, &names, &CUTS)?,
         Some((_, Trip::Stop)) | None => {
             outlives(alloc, &device, &names, &CHOICES)?;
-            if history.cuts_opening {
+            if is_opening_cut(history, trip) {
                 outlives_cuts(alloc, &device, &names)?;
             }
             goes_on(alloc, &device, history)?;
