@@ -5,7 +5,7 @@ use Rattle.std.specs.List.{slice_get}
 use Rattle.mi_text.specs.Maps.{Name}
 use Rattle.mi_text.specs.declared.answers.IdtFault.{IdtFault}
 use Rattle.mi_base.specs.declared.answers.Fault.{Fault}
-use Rattle.mi_base.specs.declared.answers.Fault.TheVariants.{Idt, Columns, Value, Condition}
+use Rattle.mi_base.specs.declared.answers.Fault.TheVariants.{Idt, Columns, Condition}
 use Rattle.mi_cond.specs.Place.{IsPlace}
 use Rattle.mi_cond.specs.Tree.{Tree}
 use Rattle.mi_idt.specs.Cells as raw

@@ -1,5 +1,5 @@
 -- Rows whose keys differ stand one behind the other in a map.
-use Rattle.std.proofs.Common.{◌≡◌, ◌&&◌, ℕ, zero, suc, Bool, true, false, List, [], ◌∷◌, ◌++◌, length, map, take, refl, sym, ap, ◌∙◌, cond}
+use Rattle.std.proofs.Common.{◌≡◌, ℕ, zero, suc, Bool, true, false, List, [], ◌∷◌, ◌++◌, length, map, take, refl, sym, ap, ◌∙◌, cond}
 use Rattle.indexmap.specs.IndexMap.{insert_entry}
 use Rattle.mi_idt.specs.Cells as raw
 use Rattle.mi_schema.specs.Package.{keyed}

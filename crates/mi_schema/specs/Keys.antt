@@ -9,7 +9,7 @@ use Rattle.mi_idt.specs.Cells as raw
 use Rattle.mi_schema.specs.declared.column.Rule.{Rule}
 use Rattle.mi_schema.specs.declared.column.Rule.TheVariants.{VersionOrKey}
 use Rattle.mi_schema.specs.Rows.{keys_of, rows_in}
-use Rattle.mi_schema.specs.Tables.{Column, Table}
+use Rattle.mi_schema.specs.Tables.{Table}
 
 -- the place of the first row of each key
 abbrev pub KnowsKeys : BTreeMap (String Global) ℕ → List Name → Type 0
