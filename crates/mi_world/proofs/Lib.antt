@@ -1,0 +1,10 @@
+mod BoundLemmas
+mod TableLemmas
+mod VariableLemmas
+mod RowLemmas
+mod DirectoryLemmas
+mod SystemLemmas
+mod RecallLemmas
+mod CostLemmas
+pub mod LookLemmas
+pub mod WorldLemmas

@@ -1,0 +1,15 @@
+pub mod Bounds
+pub mod Flags
+pub mod Variables
+pub mod Rows
+pub mod Ground
+pub mod Known
+pub mod Places
+pub mod Directories
+pub mod Systems
+pub mod Firsts
+pub mod Recall
+pub mod Costs
+pub mod Choices
+pub mod Never
+pub mod Seen
