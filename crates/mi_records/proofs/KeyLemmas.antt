@@ -1,5 +1,5 @@
 -- Keys that are made, one after the other, and plans that calls leave.
-use Rattle.std.proofs.Common.{◌≡◌, ℕ, suc, ◌+◌, ◌-◌, ◌<◌, Bool, true, false, cond, List, [], ◌∷◌, ◌++◌, length, map, take, drop, Option, Some, None, refl, sym, ap, ◌∙◌, subst, arith, add-one, append_assoc}
+use Rattle.std.proofs.Common.{◌≡◌, ℕ, suc, ◌+◌, ◌-◌, ◌<◌, true, false, cond, List, [], ◌∷◌, ◌++◌, length, map, take, drop, Option, Some, None, refl, sym, ap, ◌∙◌, subst, arith, add-one, append_assoc}
 use Rattle.std.specs.Prelude.{◌==◌, ◌&&◌, is_none, is_some, option_map, nat_lt, Result, Ok, Err, OnOk}
 use Rattle.std.proofs.lemmas.Bool.Decides.{nat_tests}
 use Rattle.std.specs.List.{slice_index_or, slice_range}
@@ -13,16 +13,16 @@ use Rattle.mi_base.specs.Limits.{fits, is_key}
 use Rattle.mi_base.specs.Machine.{Machine, as_key}
 use Rattle.mi_base.specs.Names.{key_name}
 use Rattle.mi_source.specs.Paths.{Files}
-use Rattle.mi_changes.specs.Touches.{Touch, Set}
+use Rattle.mi_changes.specs.Touches.{Set}
 use Rattle.mi_image.specs.Items.{Items, entry_over, machine_over}
 use Rattle.mi_image.specs.declared.item.Item.{Item}
 use Rattle.mi_script.specs.declared.rec.Rec.{Rec}
 use Rattle.mi_script.specs.Spelled.{is_file_name}
-use Rattle.mi_model.specs.Parents.{or_new, key_touch, keys_down_to, key_with_parents}
+use Rattle.mi_model.specs.Parents.{or_new, key_touch, key_with_parents}
 use Rattle.mi_steps.specs.declared.plan.Plan.{Plan}
 use Rattle.mi_steps.specs.Follows.{Follows, put_touch}
 use Rattle.mi_steps.proofs.FollowLemmas.{started, joined, same_touch, no_step}
-use Rattle.mi_steps.proofs.StepLemmas.{grows_not, grows_on, get-over, held-over}
+use Rattle.mi_steps.proofs.StepLemmas.{grows_not, grows_on, get-over}
 use Rattle.mi_records.specs.Keeps.{Keeps}
 use Rattle.mi_records.proofs.PartLemmas.{ends_from, cut_at, keys_at_ends}
 

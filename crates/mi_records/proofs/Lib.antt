@@ -8,3 +8,4 @@ pub mod MeaningLemmas
 pub mod WriteLemmas
 pub mod PhaseLemmas
 pub mod TextLemmas
+pub mod PublishLemmas

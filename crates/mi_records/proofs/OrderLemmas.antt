@@ -1,5 +1,5 @@
 -- Rows by their keys: a tree has, in order, the rows in key order.
-use Rattle.std.proofs.Common.{◌≡◌, ℕ, zero, suc, ◌+◌, ◌-◌, ◌<◌, ◌≤◌, List, [], ◌∷◌, map, drop, Option, Some, None, refl, sym, ap, ◌∙◌, subst, add-one, length, arith}
+use Rattle.std.proofs.Common.{◌≡◌, ℕ, zero, suc, ◌+◌, ◌-◌, ◌<◌, ◌≤◌, List, [], ◌∷◌, map, drop, Some, None, refl, sym, ap, ◌∙◌, subst, add-one, length, arith}
 use Rattle.std.specs.Prelude.{slice_get, All, Contains, option_map}
 use Rattle.std.specs.List.{AllByRecursion}
 use Rattle.std.proofs.lemmas.List.{length-map}
@@ -15,7 +15,7 @@ use denote.Ref.{Bor}
 use Rattle.mi_text.specs.Maps.{Name, name_cmp}
 use Rattle.mi_schema.specs.RowsOf.{behind}
 use Rattle.mi_schema.specs.TableRows.{Numbered, numbered_from, in_key_order}
-use Rattle.mi_records.specs.Order.{Place, key_cmp, as_numbered, as_entry, keyed_from, by_keys, AreOrdered, AreRowsOf}
+use Rattle.mi_records.specs.Order.{Place, key_cmp, as_numbered, as_entry, by_keys, AreOrdered, AreRowsOf}
 
 -- what is inserted in the tree is put among its rows
 shown-insert : {R : Type 0} (k : Bor Name) (v : ℕ × Bor R) (es : List (Place R)) → map as_entry (insert_entry key_cmp es k v) ≡ put name_cmp k.now (as_numbered v) (map as_entry es)

@@ -1,15 +1,15 @@
 -- Keys as parts between backslashes.
-use Rattle.std.proofs.Common.{◌≡◌, ℕ, suc, ◌+◌, ◌<◌, Bool, true, false, not, cond, ◌&&◌, List, [], ◌∷◌, ◌++◌, length, map, take, drop, Bor, refl, sym, ap, ◌∙◌, arith, add-one, append_assoc, length-append, eqb-true}
+use Rattle.std.proofs.Common.{◌≡◌, ℕ, suc, ◌+◌, ◌<◌, Bool, true, false, not, cond, ◌&&◌, List, [], ◌∷◌, ◌++◌, length, map, take, drop, Bor, refl, sym, ap, ◌∙◌, arith, append_assoc, length-append, eqb-true}
 use Rattle.std.specs.Prelude.{filter, ◌==◌, nat_le}
-use Rattle.std.specs.List.{slice_split, onto_first, list_all, slice_index_or, join_by, join_with_byte, flat_map}
-use Rattle.std.proofs.lemmas.List.{append-nil, take-append-drop, map-append}
+use Rattle.std.specs.List.{slice_split, onto_first, list_all, slice_index_or, join_by}
+use Rattle.std.proofs.lemmas.List.{append-nil, take-append-drop}
 use Rattle.std.proofs.lemmas.List.Folds.{list_all-append}
-use Rattle.std.proofs.lemmas.List.Splits.{length-slice_split, join_with_byte-slice_split}
+use Rattle.std.proofs.lemmas.List.Splits.{length-slice_split}
 use Rattle.std.proofs.lemmas.Bool.Decides.{nat_tests}
-use Rattle.std.proofs.Math.Seq.{drop-cons, drop-length, take-length}
+use Rattle.std.proofs.Math.Seq.{drop-cons}
 use Rattle.mi_base.specs.Limits.{is_key, has_no_zero, has_whole_parts}
 use Rattle.mi_text.specs.Path.{is_backslash}
-use Rattle.mi_model.specs.Parents.{parts_of, key_text, fronts, keys_down_to}
+use Rattle.mi_model.specs.Parents.{key_text, fronts, keys_down_to}
 
 -- ---- parts that are joined
 

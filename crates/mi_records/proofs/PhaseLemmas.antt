@@ -7,16 +7,15 @@ use Rattle.std.proofs.lemmas.List.Elements.{filter-append, recursion_from_All, A
 use Rattle.std.specs.declared.alloc.Global.{Global}
 use Rattle.mi_text.specs.Maps.{Name, Map}
 use Rattle.mi_text.specs.Lookups.{Lookups}
-use Rattle.mi_base.specs.declared.answers.Fault.{Fault}
 use Rattle.mi_source.specs.Paths.{Files}
 use Rattle.mi_schema.specs.declared.package.Package.{Package}
 use Rattle.mi_schema.specs.declared.typed_rows.RegistryRow.{RegistryRow}
 use Rattle.mi_schema.specs.RowsOf.{rows_in, behind}
 use Rattle.mi_schema.specs.TableRows.{Numbered, in_key_order, Rows as TableRows}
 use Rattle.mi_model.specs.World.{World, RowEffect, Effect}
-use Rattle.mi_model.specs.Asked.{comes, lookups}
+use Rattle.mi_model.specs.Asked.{comes}
 use Rattle.mi_model.specs.ComponentRows.{has_mode}
-use Rattle.mi_model.specs.PhaseRows.{by_rows, phase_rows}
+use Rattle.mi_model.specs.PhaseRows.{by_rows}
 use Rattle.mi_model.specs.RegistryRows.{root_of}
 use Rattle.mi_model.specs.WriteRegistryValues.{is_of_user, is_written, is_asked_anew, written_rows, write_row, write_registry_values}
 use Rattle.mi_steps.specs.declared.plan.Plan.{Plan}

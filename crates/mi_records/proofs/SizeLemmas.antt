@@ -1,5 +1,5 @@
 -- Which values are too large.
-use Rattle.std.proofs.Common.{◌≡◌, ℕ, suc, ◌+◌, ◌^◌, ◌<◌, ◌≤◌, Bool, true, false, cond, List, [], ◌∷◌, ◌++◌, length, Option, Some, None, refl, sym, ap, ◌∙◌, subst, arith, length-append}
+use Rattle.std.proofs.Common.{◌≡◌, ℕ, ◌^◌, Bool, true, false, List, [], ◌∷◌, ◌++◌, length, refl, sym, ap, ◌∙◌, arith, length-append}
 use Rattle.std.specs.Prelude.{◌&&◌, ◌||◌, nat_lt, Result, Ok, Err}
 use Rattle.mi_base.specs.declared.rec_error.EncError.{EncError}
 use Rattle.mi_base.specs.declared.rec_error.EncError.TheVariants.{Field}
@@ -12,7 +12,7 @@ use Rattle.mi_base.specs.declared.entry.Entry.TheVariants as entry
 use Rattle.mi_base.specs.declared.entry.RegValue.{RegValue}
 use Rattle.mi_base.specs.declared.entry.RegValue.TheVariants as value
 use Rattle.mi_base.specs.declared.entry.ValueKey.{ValueKey}
-use Rattle.mi_base.specs.Fields.{string, strings, payload}
+use Rattle.mi_base.specs.Fields.{string, strings}
 use Rattle.mi_base.specs.Limits.{fits, fits_value, is_key, is_folded, is_value_name, is_short, are_few}
 use Rattle.mi_base.specs.Spelling.{record_of}
 use Rattle.mi_base.proofs.FoldLemmas.{key-folded, is_folded-folded}

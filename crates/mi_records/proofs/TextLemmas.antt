@@ -1,5 +1,5 @@
 -- Columns that are expanded and judged.
-use Rattle.std.proofs.Common.{◌≡◌, ℕ, ◌<◌, ◌≤◌, Bool, true, false, cond, List, [], ◌∷◌, length, Option, Some, None, refl, sym, ap, ◌∙◌, subst, arith}
+use Rattle.std.proofs.Common.{◌≡◌, ℕ, ◌<◌, Bool, true, false, cond, length, Option, refl, ap, ◌∙◌, arith}
 use Rattle.std.specs.Prelude.{◌&&◌, nat_le, ℤ, pos, negsuc, ◌≤ℤ◌, Result, Ok, Err}
 use Rattle.std.proofs.lemmas.Bool.Decides.{nat_tests}
 use Rattle.std.proofs.lemmas.Int.{to_z-of_z, ints}
@@ -12,7 +12,6 @@ use Rattle.mi_format.specs.Expansion as format
 use Rattle.mi_format.specs.Expansion.{expanded_within, within}
 use Rattle.mi_format.specs.declared.error.LimitFault.{LimitFault}
 use Rattle.mi_format.specs.declared.error.LimitFault.TheVariants as limited
-use Rattle.mi_format.specs.declared.error.FormatFault.{FormatFault}
 use Rattle.mi_format.specs.declared.error.FormatFault.TheVariants.{TooDeep}
 use Rattle.mi_schema.specs.Laws.{IsWithin}
 use Rattle.mi_model.specs.Texts.{Text}

@@ -1,35 +1,33 @@
 -- Values that texts make at places.
-use Rattle.std.proofs.Common.{◌≡◌, ℕ, Bool, true, false, cond, List, [], ◌∷◌, ◌++◌, Option, Some, None, refl, sym, ap, ◌∙◌, subst, arith}
+use Rattle.std.proofs.Common.{◌≡◌, ℕ, true, false, cond, List, [], ◌∷◌, ◌++◌, Option, Some, None, refl, sym, ap, ◌∙◌, arith}
 use Rattle.std.proofs.lemmas.Bool.Decides.{nat_tests}
-use Rattle.std.specs.Prelude.{codes, Result, Ok, Err, option_map, ◌||◌, nat_lt, length}
+use Rattle.std.specs.Prelude.{codes, Result, Ok, Err, option_map, nat_lt}
 use Rattle.std.specs.Result.{result_ok}
 use Rattle.std.specs.FinMap.{get}
-use Rattle.mi_text.specs.Maps.{Name, Map}
+use Rattle.mi_text.specs.Maps.{Name}
 use Rattle.mi_base.specs.declared.entry.Entry.{Entry}
 use Rattle.mi_base.specs.declared.entry.RegValue.{RegValue}
 use Rattle.mi_base.specs.declared.entry.RegValue.TheVariants as value
-use Rattle.mi_base.specs.declared.answers.Fault.{Fault}
 use Rattle.mi_base.specs.declared.answers.Fault.TheVariants.{BadValue}
 use Rattle.mi_base.specs.Limits.{fits}
 use Rattle.mi_base.specs.Machine.{Machine}
 use Rattle.mi_base.specs.Names.{value_name, key_name}
-use Rattle.mi_regval.specs.declared.change.Change.{Change}
 use Rattle.mi_regval.specs.declared.change.Change.TheVariants as change
 use Rattle.mi_regval.specs.declared.error.ValueFault.{ValueFault}
 use Rattle.mi_regval.specs.Values.{value_of, old_items}
-use Rattle.mi_regval.specs.Changes.{change_of, change_in, changed, list_change}
+use Rattle.mi_regval.specs.Changes.{change_of, change_in, changed}
 use Rattle.mi_source.specs.Paths.{Files}
-use Rattle.mi_changes.specs.Touches.{Touch, Set, by_touch, left_at}
-use Rattle.mi_changes.specs.Changes.{Change as MapChange, changes}
+use Rattle.mi_changes.specs.Touches.{Set, by_touch}
+use Rattle.mi_changes.specs.Changes.{changes}
 use Rattle.mi_changes.proofs.TouchLemmas.{get-by_touch}
 use Rattle.mi_changes.proofs.ChangeLemmas.{changes-append}
 use Rattle.mi_script.specs.declared.rec.Rec.{Rec}
 use Rattle.mi_model.specs.Texts.{Text}
 use Rattle.mi_model.specs.Parents.{key_with_parents}
-use Rattle.mi_model.specs.Refusals.{size_fault, has_too_many, unless}
+use Rattle.mi_model.specs.Refusals.{size_fault}
 use Rattle.mi_model.specs.RegistryRows.{RegistryPlace, name_of_value}
 use Rattle.mi_model.specs.RegistryRows as model
-use Rattle.mi_model.specs.WriteRegistryValues.{old_value, value_entry, value_after, read_fault, written_fault, place_touches}
+use Rattle.mi_model.specs.WriteRegistryValues.{value_entry, value_after, read_fault, written_fault, place_touches}
 use Rattle.mi_model_laws.proofs.ParentLemmas.{IsNoKey, keys_elsewhere}
 use Rattle.mi_steps.specs.Follows.{Follows, put_touch}
 use Rattle.mi_steps.proofs.FollowLemmas.{same_changes}

@@ -1,5 +1,5 @@
 -- What rows of WriteRegistryValues make of a plan.
-use Rattle.std.proofs.Common.{◌≡◌, ℕ, ◌<◌, map, take, get_or, Bool, true, false, cond, List, [], ◌∷◌, ◌++◌, length, Option, Some, None, refl, sym, ap, ◌∙◌, subst}
+use Rattle.std.proofs.Common.{◌≡◌, ℕ, ◌<◌, map, take, get_or, false, List, [], ◌∷◌, ◌++◌, length, Option, sym, ap, ◌∙◌}
 use Rattle.std.specs.Prelude.{codes, Result, Ok, Err, OnOk}
 use Rattle.mi_text.specs.Maps.{Map}
 use Rattle.mi_text.specs.Fold.{folded}
@@ -7,7 +7,6 @@ use Rattle.mi_text.specs.Lookups.{Lookups}
 use Rattle.mi_base.specs.declared.entry.Entry.{Entry}
 use Rattle.mi_base.specs.declared.entry.RegValue.{RegValue}
 use Rattle.mi_base.specs.declared.answers.Fault.{Fault}
-use Rattle.mi_base.specs.declared.answers.Fault.TheVariants as faults
 use Rattle.mi_base.specs.Machine.{Machine}
 use Rattle.mi_base.specs.Names.{value_name, digit, four_digits}
 use Rattle.mi_base.specs.Spelling.{name_of}
@@ -20,7 +19,6 @@ use Rattle.mi_model.specs.Texts.{Text}
 use Rattle.mi_model.specs.World.{World, RowEffect}
 use Rattle.mi_model.specs.Asked.{lookups}
 use Rattle.mi_model.specs.Parents.{key_with_parents}
-use Rattle.mi_model.specs.PhaseRows.{by_rows}
 use Rattle.mi_model.specs.Refusals.{◌>>=◌, unless}
 use Rattle.mi_model.specs.RegistryRows as model
 use Rattle.mi_model.specs.RegistryRows.{RegistryPlace, RegistryMeaning, name_of_value, registry_meaning}
@@ -33,11 +31,10 @@ use Rattle.mi_records.specs.declared.error.PlanError.{PlanError}
 use Rattle.mi_records.specs.declared.error.PlanError.TheVariants as error
 use Rattle.mi_records.specs.declared.stop.Stop.{Stop}
 use Rattle.mi_records.specs.declared.stop.Why.{Why}
-use Rattle.mi_records.specs.declared.stop.Why.TheVariants.{BadValue}
 use Rattle.mi_records.specs.declared.stop.Stop.TheVariants.{NoMemory, Refused}
 use Rattle.mi_records.specs.Stops.{fault_of, stop_of, IsRefusal, AnswersBy}
-use Rattle.mi_records.specs.Rows.{Made, Only, RowIn, Row, Rows}
-use Rattle.mi_records.specs.Values.{IsValueAt, IsRefusedAt, MakesValue}
+use Rattle.mi_records.specs.Rows.{Only, RowIn, Row, Rows}
+use Rattle.mi_records.specs.Values.{IsValueAt, MakesValue}
 use Rattle.mi_records.proofs.ValueLemmas.{written_ok, written_refused, value_made}
 use Rattle.mi_records.proofs.RowLemmas.{refused_row}
 

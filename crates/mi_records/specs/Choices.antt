@@ -1,5 +1,5 @@
--- What phases ask of what an action sees. (Component Table; Feature Table; REINSTALLMODE Property.)
-use Rattle.std.specs.Prelude.{◌≡◌, Bool, List}
+-- What phases ask of what an action sees. (Component Table; REINSTALLMODE Property.)
+use Rattle.std.specs.Prelude.{◌≡◌, Bool}
 use Rattle.mi_text.specs.Maps.{Name}
 use Rattle.mi_text.specs.Lookups.{Lookups}
 use Rattle.mi_fver.specs.declared.mode.Mode.{Mode}
@@ -7,12 +7,12 @@ use Rattle.mi_schema.specs.declared.package.Package.{Package}
 use Rattle.mi_schema.specs.declared.typed_rows.RegistryRow.{RegistryRow}
 use Rattle.mi_schema.specs.RowsOf.{rows_in}
 use Rattle.mi_model.specs.World.{World}
-use Rattle.mi_model.specs.Asked.{comes, leaves, keeps, chosen, lookups}
+use Rattle.mi_model.specs.Asked.{comes, leaves, keeps, lookups}
 use Rattle.mi_model.specs.ComponentRows.{is_local, has_mode}
 use Rattle.mi_model.specs.WriteRegistryValues.{was_present}
 
--- of components by their names: which come, which leave, which are kept, which are made local and which were present; the
--- letters of REINSTALLMODE; and the features that are local after the run
+-- of components by their names: which come, which leave, which are kept, which are made local and which were present; and the
+-- letters of REINSTALLMODE
 pub record Choices : Type 0 where
   pub coming : Name → Bool
   pub leaving : Name → Bool
@@ -20,7 +20,6 @@ pub record Choices : Type 0 where
   pub local : Name → Bool
   pub present : Name → Bool
   pub mode : Mode
-  pub features : List Name
 
 -- an action that sees this world asks so
 pub record IsAsked (L : Lookups) (c : Choices) (p : Package) (w : World) : Type 0 where
@@ -32,4 +31,3 @@ pub record IsAsked (L : Lookups) (c : Choices) (p : Package) (w : World) : Type 
   pub local : (name : Name) → is_local w name ≡ c.local name
   pub present : (r : RegistryRow) → was_present w r ≡ c.present r.component
   pub mode : (letter : Mode → Bool) → has_mode letter w ≡ letter c.mode
-  pub features : chosen w (λ s. s.local_after) ≡ c.features

@@ -3,6 +3,7 @@ pub mod Columns
 pub mod Keeps
 pub mod Meaning
 pub mod Order
+pub mod Products
 pub mod Rows
 pub mod Stops
 pub mod Values

@@ -1,6 +1,5 @@
 -- What the program's rows mean. (Registry Table; RemoveRegistry Table.)
 use Rattle.std.specs.Prelude.{ℕ}
-use denote.Ref.{Bor}
 use Rattle.mi_schema.specs.TableRows.{Numbered}
 use Rattle.mi_model.specs.RegistryRows as model
 use Rattle.mi_records.specs.declared.says.Says.{Says}

@@ -1,5 +1,5 @@
 -- What a call has made of a plan, or its refusal. (This project's own.)
-use Rattle.std.specs.Prelude.{◌≡◌, ℕ, List, codes, Result, Ok, Err}
+use Rattle.std.specs.Prelude.{◌≡◌, ℕ, List, Result, Ok, Err}
 use Rattle.mi_text.specs.Maps.{Map}
 use Rattle.mi_base.specs.declared.entry.Entry.{Entry}
 use Rattle.mi_source.specs.Paths.{Files}

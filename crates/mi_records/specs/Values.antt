@@ -1,5 +1,5 @@
 -- The value that a text makes at a place, as the program tells it. (Registry Table, column Value.)
-use Rattle.std.specs.Prelude.{◌≡◌, ◌<◌, ℕ, ◌||◌, nat_lt, Bool, true, false, length, Result, Ok, Err}
+use Rattle.std.specs.Prelude.{◌≡◌, ◌<◌, ◌||◌, nat_lt, Bool, true, false, length, Result, Ok, Err}
 use Rattle.std.specs.FinMap.{get}
 use Rattle.mi_base.specs.declared.entry.Entry.{Entry}
 use Rattle.mi_base.specs.declared.entry.RegValue.{RegValue}

@@ -16,8 +16,8 @@ use mi_image::Image;
 use mi_steps::Plan;
 use std::alloc::Global;
 
-// The name of an entry.
-fn name_of(alloc: Global, entry: &Entry) -> Result<Name, NoMemory>
+/// The name of an entry.
+pub fn name_of(alloc: Global, entry: &Entry) -> Result<Name, NoMemory>
     requires { fits entry.now ≡ true }
     ensures { IfOk result (λ name. name ≡ name_of entry.now) }
 {

@@ -1,5 +1,5 @@
-//! What rows of the registry tables name, say and write, and the phases of the registry, of clients and of products as plan calls
-//! (Registry table; RemoveRegistry table; Component table; ProductCode property).
+//! What rows of the registry tables name, say and write, and phases of the registry and of products as plan calls
+//! (Registry table; RemoveRegistry table; WriteRegistryValues and PublishProduct actions).
 #![tactic(auto)]
 
 mod error;
@@ -9,6 +9,7 @@ mod order;
 mod parts;
 mod phase;
 mod place;
+mod publish;
 mod says;
 mod sees;
 mod stop;
@@ -21,5 +22,6 @@ pub use error::PlanError;
 pub use meaning::{RegistryMeaning, registry_meaning, registry_place, removal_place};
 pub use phase::plan_write_registry;
 pub use place::RegistryPlace;
+pub use publish::plan_publish_product;
 pub use says::Says;
 pub use sees::Sees;

@@ -1,5 +1,5 @@
 -- A key that is there is no step.
-use Rattle.std.proofs.Common.{◌≡◌, ap, sym, ◌∙◌}
+use Rattle.std.proofs.Common.{ap, sym, ◌∙◌}
 use Rattle.std.specs.Prelude.{is_some}
 use Rattle.mi_base.specs.Limits.{is_key}
 use Rattle.mi_base.specs.Machine.{key_at}

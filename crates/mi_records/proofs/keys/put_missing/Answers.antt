@@ -1,5 +1,5 @@
 -- Where nothing stands the entry is put, and else nothing is done.
-use Rattle.std.proofs.Common.{◌≡◌, ap, sym, ◌∙◌}
+use Rattle.std.proofs.Common.{ap, sym, ◌∙◌}
 use Rattle.std.specs.Prelude.{is_none}
 use Rattle.std.specs.FinMap.{get}
 use Rattle.mi_base.specs.Spelling.{name_of}

@@ -1,4 +1,4 @@
-use Rattle.std.proofs.Common.{◌≡◌, List, ℕ, Ok, Err, codes, ap, sym, ◌∙◌}
+use Rattle.std.proofs.Common.{List, ℕ, codes, ap, sym, ◌∙◌}
 use Rattle.mi_model.specs.Refusals.{expanded}
 use Rattle.mi_model.specs.RegistryRows.{said, registry_meaning}
 use Rattle.mi_records.specs.Meaning.{meant, numbered, whole}

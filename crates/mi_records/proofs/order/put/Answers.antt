@@ -1,5 +1,5 @@
 -- The row at the place, by its key.
-use Rattle.std.proofs.Common.{◌≡◌, ◌+◌, List, ℕ, refl, sym, subst, ◌∙◌}
+use Rattle.std.proofs.Common.{◌+◌, List, refl, sym, subst, ◌∙◌}
 use Rattle.mi_schema.specs.RowsOf.{behind}
 use Rattle.mi_records.specs.Order.{Place, AreOrdered, AreRowsOf}
 use Rattle.mi_records.proofs.OrderLemmas.{ordered_with, ordered_none, key_at, row_at, no_row_at, insert_each, contains_at}

@@ -1,5 +1,5 @@
 -- The parts that `split` gives, but for the empty ones.
-use Rattle.std.proofs.Common.{lit<, length, not, tests, rules, map}
+use Rattle.std.proofs.Common.{lit<, length, not, tests, rules}
 use Rattle.std.specs.Prelude.{◌==◌, List, ℕ}
 use Rattle.std.proofs.lemmas.Iterator.Consumers.{YieldsList-from_filter, YieldsList-at, map_from_collect}
 use Rattle.std.proofs.lemmas.Iterator.Splits.{YieldsList-from_str_split}

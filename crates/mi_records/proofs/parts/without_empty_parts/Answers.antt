@@ -1,4 +1,4 @@
-use Rattle.std.proofs.Common.{◌≡◌, Bor, List, ℕ, [], ◌∷◌, ap, ◌∙◌}
+use Rattle.std.proofs.Common.{Bor, List, ℕ, [], ◌∷◌, ap, ◌∙◌}
 use Rattle.std.specs.List.{join_by}
 use Rattle.mi_model.specs.Parents.{key_text}
 use Rattle.mi_records.proofs.PartLemmas.{joined_parts}

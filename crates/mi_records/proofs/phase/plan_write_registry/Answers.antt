@@ -1,6 +1,5 @@
 -- The rows of the phase, carried out.
-use Rattle.std.proofs.Common.{◌≡◌, List, ℕ, Bor, map, ap, ◌∙◌, subst}
-use Rattle.mi_schema.specs.declared.typed_rows.RegistryRow.{RegistryRow}
+use Rattle.std.proofs.Common.{◌≡◌, map, ap, ◌∙◌}
 use Rattle.mi_model.specs.WriteRegistryValues.{write_row, written_rows, write_registry_values}
 use Rattle.mi_records.specs.Order.{as_numbered}
 use Rattle.mi_records.proofs.PhaseLemmas.{phase_of, write_effect}

@@ -1,5 +1,5 @@
 -- The rows by their own keys; each is a row of the package.
-use Rattle.std.proofs.Common.{◌≡◌, List, ℕ, All, pos, negsuc}
+use Rattle.std.proofs.Common.{pos, negsuc}
 use Rattle.mi_schema.specs.declared.typed_rows.RegistryRow.{RegistryRow}
 use Rattle.mi_schema.specs.Laws.{IsWithin}
 use Rattle.mi_schema.specs.RowsOf.{rows_in}

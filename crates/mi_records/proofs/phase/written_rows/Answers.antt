@@ -1,6 +1,6 @@
 -- The rows of Registry, and those that are taken.
-use Rattle.std.proofs.Common.{◌≡◌, List, ℕ, Bor, pos, negsuc, map, ap, sym, ◌∙◌, subst}
-use Rattle.std.specs.Prelude.{filter, All}
+use Rattle.std.proofs.Common.{pos, negsuc, map, ap, ◌∙◌}
+use Rattle.std.specs.Prelude.{filter}
 use Rattle.mi_schema.specs.Laws.{IsWithin}
 use Rattle.mi_schema.specs.declared.package.Package.{Package}
 use Rattle.mi_schema.specs.declared.typed_rows.RegistryRow.{RegistryRow}

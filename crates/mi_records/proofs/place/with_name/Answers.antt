@@ -1,4 +1,4 @@
-use Rattle.std.proofs.Common.{◌≡◌, List, ℕ, Ok}
+use Rattle.std.proofs.Common.{List, ℕ}
 use Rattle.mi_model.specs.RegistryRows.{RegistryPlace}
 use Rattle.mi_records.specs.Columns.{name_of, named_at}
 use Rattle.mi_records.proofs.MeaningLemmas.{refused_as}

@@ -1,4 +1,4 @@
-use Rattle.std.proofs.Common.{List, ℕ, Option, Some, None, sym, ap, subst, ◌∙◌}
+use Rattle.std.proofs.Common.{List, ℕ, Option, Some, sym, ap, subst, ◌∙◌}
 use Rattle.mi_model.specs.RegistryRows.{good_name}
 use Rattle.mi_records.specs.Columns.{name_of}
 use Rattle.mi_records.specs.Stops.{Answers}

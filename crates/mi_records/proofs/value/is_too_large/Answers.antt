@@ -1,7 +1,4 @@
 -- By the length of the record.
-use Rattle.std.proofs.Common.{◌≡◌}
-use Rattle.std.specs.Prelude.{Result, Ok, Err}
-use Rattle.mi_base.specs.declared.rec_error.EncError.TheVariants.{Field}
 use Rattle.mi_records.proofs.SizeLemmas.{large_by_record, not_refused}
 use Rattle.mi_records.proofs.value.is_too_large.Goals as goal
 

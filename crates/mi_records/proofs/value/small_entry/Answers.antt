@@ -1,8 +1,7 @@
 -- An entry without a record is too large.
 use Rattle.std.proofs.Common.{ap, sym, ◌∙◌}
 use Rattle.mi_base.specs.Limits.{fits}
-use Rattle.mi_model.specs.WriteRegistryValues.{value_entry}
-use Rattle.mi_records.specs.Values.{is_too_large, KeepsSize}
+use Rattle.mi_records.specs.Values.{is_too_large}
 use Rattle.mi_records.proofs.ValueLemmas.{large_at}
 use Rattle.mi_records.proofs.value.small_entry.Goals as goal
 

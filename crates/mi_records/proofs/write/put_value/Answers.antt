@@ -1,5 +1,5 @@
 -- The keys, then the value.
-use Rattle.std.proofs.Common.{◌≡◌, List, ℕ, [], ◌∷◌, subst}
+use Rattle.std.proofs.Common.{List, ℕ, [], ◌∷◌, subst}
 use Rattle.mi_text.specs.Maps.{Name}
 use Rattle.mi_model.specs.Parents.{key_with_parents}
 use Rattle.mi_model.specs.RegistryRows.{name_of_value}

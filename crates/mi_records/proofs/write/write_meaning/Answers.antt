@@ -1,5 +1,5 @@
 -- By what the row says.
-use Rattle.std.proofs.Common.{List, ℕ, refl, sym, ap, subst, ◌∙◌}
+use Rattle.std.proofs.Common.{refl, sym, ap, subst, ◌∙◌}
 use Rattle.std.specs.Prelude.{codes}
 use Rattle.mi_model.specs.RegistryRows as model
 use Rattle.mi_records.specs.declared.says.Says.{Says}

@@ -1,6 +1,5 @@
 -- Row by row.
-use Rattle.std.proofs.Common.{◌≡◌, List, ℕ, Ok, Err, arith}
-use Rattle.mi_base.specs.declared.answers.Fault.{Fault}
+use Rattle.std.proofs.Common.{arith}
 use Rattle.mi_model.specs.WriteRegistryValues.{write_row}
 use Rattle.mi_steps.specs.Makes.{plan_machine}
 use Rattle.mi_steps.proofs.RowLemmas.{rows_started}

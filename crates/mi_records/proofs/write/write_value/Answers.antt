@@ -1,12 +1,11 @@
 -- The text is judged, then its key is made and the value put.
-use Rattle.std.proofs.Common.{◌≡◌, List, ℕ, ap, sym, subst, ◌∙◌}
+use Rattle.std.proofs.Common.{sym, subst}
 use Rattle.std.specs.Prelude.{codes, Result, Err}
 use Rattle.std.specs.FinMap.{empty}
 use Rattle.mi_image.specs.Items.{Items, machine_over}
 use Rattle.mi_model.specs.RegistryRows as model
 use Rattle.mi_records.specs.declared.stop.Stop.{Stop}
 use Rattle.mi_records.specs.Rows.{RowIn}
-use Rattle.mi_records.specs.Stops.{stop_of}
 use Rattle.mi_records.specs.Values.{IsValueAt, MakesValue}
 use Rattle.mi_records.proofs.WriteLemmas.{effect_of, value_named, value_plain, value_written, value_refused}
 use Rattle.mi_records.proofs.write.write_value.Goals as goal
