@@ -1,0 +1,11 @@
+pub mod PartLemmas
+pub mod KeyLemmas
+pub mod OrderLemmas
+pub mod SizeLemmas
+pub mod ValueLemmas
+pub mod RowLemmas
+pub mod MeaningLemmas
+pub mod WriteLemmas
+pub mod PhaseLemmas
+pub mod TextLemmas
+pub mod PublishLemmas

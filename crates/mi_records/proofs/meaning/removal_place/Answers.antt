@@ -1,0 +1,10 @@
+use Rattle.std.proofs.Common.{codes}
+use Rattle.mi_model.specs.RegistryRows.{RegistryPlace, removal_place}
+use Rattle.mi_records.specs.Meaning.{numbered}
+use Rattle.mi_records.proofs.MeaningLemmas.{tells_refused}
+use Rattle.mi_records.proofs.meaning.removal_place.Goals as goal
+
+pub returns-in-Err : goal.returns-in-Err
+returns-in-Err g c =
+    tells_refused (λ (p : RegistryPlace). p) (codes "RemoveRegistry") c.args.number (removal_place (g.E.Env.lookups c.args.env.now) (numbered c.args.number c.args.row.now)) c.in-Err.stop c.error.result
+    (c.in-Err.ensures c.args.number) c.error.ensures

@@ -1,0 +1,10 @@
+pub mod Choices
+pub mod Columns
+pub mod Keeps
+pub mod Meaning
+pub mod Order
+pub mod Products
+pub mod Rows
+pub mod Stops
+pub mod Values
+pub mod Written
