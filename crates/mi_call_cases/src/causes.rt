@@ -1,215 +1,171 @@
 //! The causes and faults that the fields of a step spell: the name, then the fields, as in a result line.
 
-use crate::arguments::Arguments;
-use crate::ill::Ill;
-use mi_base::{Cause, Fault, Guid, IdtFault, Name, NameError};
+use mi_base::{Cause, Fault, IdtFault, Name};
+use mi_lines::{Call, code, name};
 use mi_text::Text;
-use std::alloc::Global;
-
-fn text(alloc: Global, args: &Arguments<'_>, place: usize) -> Result<Text, Ill> {
-    Ok(Text::copy_of(alloc, args.text(place)?)?)
-}
-
-fn small(args: &Arguments<'_>, place: usize) -> Result<u32, Ill> {
-    Ok(args.text(place)?.parse::<u32>()?)
-}
-
-fn name(alloc: Global, args: &Arguments<'_>, place: usize) -> Result<Name, Ill> {
-    match Name::of(alloc, args.text(place)?) {
-        Ok(name) => Ok(name),
-        Err(NameError::NoMemory) => Err(Ill::NoMemory),
-        Err(NameError::Length) => Err(Ill::BadLine),
-    }
-}
-
-fn code(args: &Arguments<'_>, place: usize) -> Result<Guid, Ill> {
-    match Guid::read(args.text(place)?) {
-        Ok(code) => Ok(code),
-        Err(_) => Err(Ill::BadLine),
-    }
-}
 
 // A fault of a table's text that has one number.
-fn numbered_idt_fault(name: &str, number: u32) -> Result<IdtFault, Ill> {
+fn numbered_idt_fault(name: &str, number: u32) -> Option<IdtFault> {
     match name {
-        "NotUtf8" => Ok(IdtFault::NotUtf8(number)),
-        "ColumnName" => Ok(IdtFault::ColumnName(number)),
-        "ColumnCount" => Ok(IdtFault::ColumnCount(number)),
-        "Definition" => Ok(IdtFault::Definition(number)),
-        "CodePage" => Ok(IdtFault::CodePage(number)),
-        "TwoKeys" => Ok(IdtFault::TwoKeys(number)),
-        _ => Err(Ill::BadLine),
+        "NotUtf8" => Some(IdtFault::NotUtf8(number)),
+        "ColumnName" => Some(IdtFault::ColumnName(number)),
+        "ColumnCount" => Some(IdtFault::ColumnCount(number)),
+        "Definition" => Some(IdtFault::Definition(number)),
+        "CodePage" => Some(IdtFault::CodePage(number)),
+        "TwoKeys" => Some(IdtFault::TwoKeys(number)),
+        _ => None,
     }
 }
 
-fn idt_fault(alloc: Global, args: &Arguments<'_>) -> Result<IdtFault, Ill> {
-    match args.text(0)? {
-        "TooLarge" => Ok(IdtFault::TooLarge),
-        "TooFewLines" => Ok(IdtFault::TooFewLines),
-        "KeyColumn" => Ok(IdtFault::KeyColumn(text(alloc, args, 1)?)),
-        "Null" => Ok(IdtFault::Null(small(args, 1)?, small(args, 2)?)),
-        "Integer" => Ok(IdtFault::Integer(small(args, 1)?, small(args, 2)?)),
-        name => numbered_idt_fault(name, small(args, 1)?),
+fn idt_fault(call: &mut Call<'_>) -> Option<IdtFault> {
+    match call.text(0) {
+        "TooLarge" => Some(IdtFault::TooLarge),
+        "TooFewLines" => Some(IdtFault::TooFewLines),
+        "KeyColumn" => Some(IdtFault::KeyColumn(call.owned(1))),
+        "Null" => Some(IdtFault::Null(call.small(1), call.small(2))),
+        "Integer" => Some(IdtFault::Integer(call.small(1), call.small(2))),
+        name => numbered_idt_fault(name, call.small(1)),
     }
 }
 
 // A fault of an action.
-fn action_fault(name: &str, action: Text) -> Result<Fault, Ill> {
+fn action_fault(name: &str, action: Text) -> Option<Fault> {
     match name {
-        "UnknownAction" => Ok(Fault::UnknownAction(action)),
-        "Executable" => Ok(Fault::Executable(action)),
-        "SequenceOrder" => Ok(Fault::SequenceOrder(action)),
-        "BadName" => Ok(Fault::BadName(action)),
-        _ => Err(Ill::BadLine),
+        "UnknownAction" => Some(Fault::UnknownAction(action)),
+        "Executable" => Some(Fault::Executable(action)),
+        "SequenceOrder" => Some(Fault::SequenceOrder(action)),
+        "BadName" => Some(Fault::BadName(action)),
+        _ => None,
     }
 }
 
 // A fault of a property, a file or a feature.
-fn named_fault(name: &str, named: Text) -> Result<Fault, Ill> {
+fn named_fault(name: &str, named: Text) -> Option<Fault> {
     match name {
-        "MissingProperty" => Ok(Fault::MissingProperty(named)),
-        "BadProperty" => Ok(Fault::BadProperty(named)),
-        "Compressed" => Ok(Fault::Compressed(named)),
-        "Missing" => Ok(Fault::Missing(named)),
-        "UnknownFeature" => Ok(Fault::UnknownFeature(named)),
+        "MissingProperty" => Some(Fault::MissingProperty(named)),
+        "BadProperty" => Some(Fault::BadProperty(named)),
+        "Compressed" => Some(Fault::Compressed(named)),
+        "Missing" => Some(Fault::Missing(named)),
+        "UnknownFeature" => Some(Fault::UnknownFeature(named)),
         _ => action_fault(name, named),
     }
 }
 
-// A fault of a table as a whole, or of one thing.
-fn table_fault(name: &str, table: Text) -> Result<Fault, Ill> {
+// A fault with one field.
+fn one_field(name: &str, call: &mut Call<'_>) -> Option<Fault> {
     match name {
-        "MissingTable" => Ok(Fault::MissingTable(table)),
-        "Columns" => Ok(Fault::Columns(table)),
-        "Unsupported" => Ok(Fault::Unsupported(table)),
-        _ => named_fault(name, table),
+        "BadEnvironment" => Some(Fault::BadEnvironment(call.small(1))),
+        "MissingTable" => Some(Fault::MissingTable(call.owned(1))),
+        "Columns" => Some(Fault::Columns(call.owned(1))),
+        "Unsupported" => Some(Fault::Unsupported(call.owned(1))),
+        name => named_fault(name, call.owned(1)),
     }
 }
 
 // A fault of a row of a table.
-fn row_fault(name: &str, table: Text, row: u32) -> Result<Fault, Ill> {
+fn row_fault(name: &str, table: Text, row: u32) -> Option<Fault> {
     match name {
-        "NotYet" => Ok(Fault::NotYet(table, row)),
-        "Cycle" => Ok(Fault::Cycle(table, row)),
-        "BadPath" => Ok(Fault::BadPath(table, row)),
-        "TooDeep" => Ok(Fault::TooDeep(table, row)),
-        "BadKey" => Ok(Fault::BadKey(table, row)),
-        "BadValue" => Ok(Fault::BadValue(table, row)),
-        _ => Err(Ill::BadLine),
+        "NotYet" => Some(Fault::NotYet(table, row)),
+        "Cycle" => Some(Fault::Cycle(table, row)),
+        "BadPath" => Some(Fault::BadPath(table, row)),
+        "TooDeep" => Some(Fault::TooDeep(table, row)),
+        "BadKey" => Some(Fault::BadKey(table, row)),
+        "BadValue" => Some(Fault::BadValue(table, row)),
+        _ => None,
     }
-}
-
-// A fault of a row and a column of a table.
-fn cell_fault(name: &str, table: Text, row: u32, column: u32) -> Result<Fault, Ill> {
-    match name {
-        "Value" => Ok(Fault::Value(table, row, column)),
-        "Reference" => Ok(Fault::Reference(table, row, column)),
-        _ => Err(Ill::BadLine),
-    }
-}
-
-fn bare_fault(name: &str) -> Result<Fault, Ill> {
-    match name {
-        "AddSource" => Ok(Fault::AddSource),
-        "NoFinalize" => Ok(Fault::NoFinalize),
-        _ => Err(Ill::BadLine),
-    }
-}
-
-// A fault with one field.
-fn one_field(alloc: Global, args: &Arguments<'_>) -> Result<Fault, Ill> {
-    match args.text(0)? {
-        "BadEnvironment" => Ok(Fault::BadEnvironment(small(args, 1)?)),
-        name => table_fault(name, text(alloc, args, 1)?),
-    }
-}
-
-fn same_target(alloc: Global, args: &Arguments<'_>) -> Result<Fault, Ill> {
-    let former = text(alloc, args, 1)?;
-    let later = text(alloc, args, 2)?;
-    Ok(Fault::SameTarget(former, later))
 }
 
 // A fault with two fields.
-fn two_fields(alloc: Global, args: &Arguments<'_>) -> Result<Fault, Ill> {
-    match args.text(0)? {
-        "SameTarget" => same_target(alloc, args),
-        name => {
-            let row = small(args, 2)?;
-            row_fault(name, text(alloc, args, 1)?, row)
-        }
+fn two_fields(name: &str, call: &mut Call<'_>) -> Option<Fault> {
+    match name {
+        "SameTarget" => Some(Fault::SameTarget(call.owned(1), call.owned(2))),
+        name => row_fault(name, call.owned(1), call.small(2)),
     }
-}
-
-fn condition(alloc: Global, args: &Arguments<'_>) -> Result<Fault, Ill> {
-    let (row, place) = (small(args, 2)?, args.number(3)?);
-    Ok(Fault::Condition(text(alloc, args, 1)?, row, place))
-}
-
-fn size_differs(alloc: Global, args: &Arguments<'_>) -> Result<Fault, Ill> {
-    let (stated, found) = (args.number(2)?, args.number(3)?);
-    Ok(Fault::SizeDiffers(text(alloc, args, 1)?, stated, found))
 }
 
 // A fault with three fields.
-fn three_fields(alloc: Global, args: &Arguments<'_>) -> Result<Fault, Ill> {
-    match args.text(0)? {
-        "Condition" => condition(alloc, args),
-        "SizeDiffers" => size_differs(alloc, args),
-        name => {
-            let (row, column) = (small(args, 2)?, small(args, 3)?);
-            cell_fault(name, text(alloc, args, 1)?, row, column)
-        }
+fn three_fields(name: &str, call: &mut Call<'_>) -> Option<Fault> {
+    let named = call.owned(1);
+    match name {
+        "Condition" => Some(Fault::Condition(named, call.small(2), call.number(3))),
+        "SizeDiffers" => Some(Fault::SizeDiffers(named, call.number(2), call.number(3))),
+        "Value" => Some(Fault::Value(named, call.small(2), call.small(3))),
+        "Reference" => Some(Fault::Reference(named, call.small(2), call.small(3))),
+        _ => None,
     }
 }
 
-fn fault_of_text(alloc: Global, args: &Arguments<'_>) -> Result<Fault, Ill> {
-    let fault = idt_fault(alloc, &args.behind(2))?;
-    Ok(Fault::Idt(text(alloc, args, 1)?, fault))
+fn bare_fault(name: &str) -> Option<Fault> {
+    match name {
+        "AddSource" => Some(Fault::AddSource),
+        "NoFinalize" => Some(Fault::NoFinalize),
+        _ => None,
+    }
+}
+
+fn fault_of_text(call: &mut Call<'_>) -> Option<Fault> {
+    let table = call.owned(1);
+    call.skip(2);
+    match idt_fault(call) {
+        Some(fault) => Some(Fault::Idt(table, fault)),
+        None => None,
+    }
 }
 
 /// The fault that the arguments spell.
-fn fault(alloc: Global, args: &Arguments<'_>) -> Result<Fault, Ill> {
-    let name = args.text(0)?;
+fn fault(call: &mut Call<'_>) -> Option<Fault> {
+    let name = call.text(0);
     if name == "Idt" {
-        return fault_of_text(alloc, args);
+        return fault_of_text(call);
     }
-    match args.len() {
+    match call.len() {
         1 => bare_fault(name),
-        2 => one_field(alloc, args),
-        3 => two_fields(alloc, args),
-        4 => three_fields(alloc, args),
-        _ => Err(Ill::BadLine),
+        2 => one_field(name, call),
+        3 => two_fields(name, call),
+        4 => three_fields(name, call),
+        _ => None,
+    }
+}
+
+fn table_cause(call: &mut Call<'_>) -> Option<Cause> {
+    call.skip(1);
+    match fault(call) {
+        Some(fault) => Some(Cause::Table(fault)),
+        None => None,
+    }
+}
+
+// A cause that names what the rollback area or the image can't read.
+fn named_cause(kind: &str, name: Name) -> Option<Cause> {
+    match kind {
+        "BadRollback" => Some(Cause::BadRollback(name)),
+        "RecoveryFull" => Some(Cause::RecoveryFull(name)),
+        "BadImage" => Some(Cause::BadImage(name)),
+        _ => None,
     }
 }
 
 // A cause that comes of a run's own steps, and of the rollback area.
-fn device_cause(alloc: Global, args: &Arguments<'_>) -> Result<Cause, Ill> {
-    match args.text(0)? {
-        "VolumeFault" => Ok(Cause::VolumeFault),
-        "SourceFault" => Ok(Cause::SourceFault),
-        "BadRollback" => Ok(Cause::BadRollback(name(alloc, args, 1)?)),
-        "RecoveryFull" => Ok(Cause::RecoveryFull(name(alloc, args, 1)?)),
-        "BadImage" => Ok(Cause::BadImage(name(alloc, args, 1)?)),
-        "Full" => Ok(Cause::Full(args.number(1)?, args.number(2)?)),
-        _ => Err(Ill::BadLine),
+fn device_cause(kind: &str, call: &mut Call<'_>) -> Option<Cause> {
+    match kind {
+        "VolumeFault" => Some(Cause::VolumeFault),
+        "SourceFault" => Some(Cause::SourceFault),
+        "Full" => Some(Cause::Full(call.number(1), call.number(2))),
+        _ => match name(1, call) {
+            Some(name) => named_cause(kind, name),
+            None => None,
+        },
     }
 }
 
-fn error_action(alloc: Global, args: &Arguments<'_>) -> Result<Cause, Ill> {
-    let action = text(alloc, args, 1)?;
-    let shown = text(alloc, args, 2)?;
-    Ok(Cause::ErrorAction(action, shown))
-}
-
 /// The cause that the arguments spell.
-pub fn cause(alloc: Global, args: &Arguments<'_>) -> Result<Cause, Ill> {
-    match args.text(0)? {
-        "BadWords" => Ok(Cause::BadWords(args.number(1)?)),
-        "Table" => Ok(Cause::Table(fault(alloc, &args.behind(1))?)),
-        "UnknownProduct" => Ok(Cause::UnknownProduct(code(args, 1)?)),
-        "Launch" => Ok(Cause::Launch(text(alloc, args, 1)?)),
-        "ErrorAction" => error_action(alloc, args),
-        _ => device_cause(alloc, args),
+pub fn cause(call: &mut Call<'_>) -> Option<Cause> {
+    match call.text(0) {
+        "BadWords" => Some(Cause::BadWords(call.number(1))),
+        "Table" => table_cause(call),
+        "UnknownProduct" => Some(Cause::UnknownProduct(code(1, call))),
+        "Launch" => Some(Cause::Launch(call.owned(1))),
+        "ErrorAction" => Some(Cause::ErrorAction(call.owned(1), call.owned(2))),
+        kind => device_cause(kind, call),
     }
 }

@@ -1,85 +1,40 @@
 //! Calls of conditions and of formatted text, over the look-ups that are given.
 
-use crate::answer::{say, say_number, say_word};
-use crate::arguments::Arguments;
-use crate::ill::Ill;
 use mi_cond::{Cond, CondError, CondFault};
 use mi_format::{FormatError, FormatFault, LimitError, LimitFault, expand, expand_within};
+use mi_lines::Call;
 use mi_text::PlainEnv;
-use std::alloc::Global;
 
-fn say_condition(
-    alloc: Global,
-    lookups: &PlainEnv,
-    text: &str,
-    out: &mut Vec<u8>,
-) -> Result<(), Ill> {
-    match &Cond::read(alloc, text) {
-        Ok(condition) => say_word(
-            out,
-            if condition.value(lookups) {
-                "true"
-            } else {
-                "false"
-            },
-        ),
-        Err(CondError::NoMemory) => Err(Ill::NoMemory),
-        Err(CondError::Fault(CondFault::Syntax(place))) => say_number(out, "Syntax", *place),
-        Err(CondError::Fault(CondFault::TooDeep(place))) => say_number(out, "TooDeep", *place),
+/// Adds the value of a condition.
+pub fn say_condition(lookups: &PlainEnv, call: &mut Call<'_>) {
+    let text = call.text(0);
+    match &Cond::read(call.alloc(), text) {
+        Ok(condition) if condition.value(lookups) => call.say_word("true"),
+        Ok(_) => call.say_word("false"),
+        Err(CondError::NoMemory) => call.no_memory(),
+        Err(CondError::Fault(CondFault::Syntax(place))) => call.say_number("Syntax", *place),
+        Err(CondError::Fault(CondFault::TooDeep(place))) => call.say_number("TooDeep", *place),
     }
 }
 
-fn say_expanded(
-    alloc: Global,
-    lookups: &PlainEnv,
-    text: &str,
-    out: &mut Vec<u8>,
-) -> Result<(), Ill> {
-    match &expand(alloc, text, lookups) {
-        Ok(expanded) => say(out, expanded.as_bytes()),
-        Err(FormatError::NoMemory) => Err(Ill::NoMemory),
-        Err(FormatError::Fault(FormatFault::TooDeep)) => say_word(out, "TooDeep"),
+/// Adds the expansion of a text.
+pub fn say_expanded(lookups: &PlainEnv, call: &mut Call<'_>) {
+    let text = call.text(0);
+    match &expand(call.alloc(), text, lookups) {
+        Ok(expanded) => call.say(expanded.as_bytes()),
+        Err(FormatError::NoMemory) => call.no_memory(),
+        Err(FormatError::Fault(FormatFault::TooDeep)) => call.say_word("TooDeep"),
     }
 }
 
-fn say_within(
-    alloc: Global,
-    lookups: &PlainEnv,
-    limit: usize,
-    text: &str,
-    out: &mut Vec<u8>,
-) -> Result<(), Ill> {
-    match &expand_within(alloc, text, lookups, limit) {
-        Ok(expanded) => say(out, expanded.as_bytes()),
-        Err(LimitError::NoMemory) => Err(Ill::NoMemory),
-        Err(LimitError::Fault(LimitFault::TooDeep)) => say_word(out, "TooDeep"),
-        Err(LimitError::Fault(LimitFault::TooLong)) => say_word(out, "TooLong"),
+/// Adds the expansion of a text where it has at most so many bytes.
+pub fn say_within(lookups: &PlainEnv, call: &mut Call<'_>) {
+    let limit = call.size(0);
+    let text = call.text(1);
+    match &expand_within(call.alloc(), text, lookups, limit) {
+        Ok(expanded) => call.say(expanded.as_bytes()),
+        Err(LimitError::NoMemory) => call.no_memory(),
+        Err(LimitError::Fault(LimitFault::TooDeep)) => call.say_word("TooDeep"),
+        Err(LimitError::Fault(LimitFault::TooLong)) => call.say_word("TooLong"),
     }
-}
-
-fn call_within(
-    alloc: Global,
-    lookups: &PlainEnv,
-    args: &Arguments<'_>,
-    out: &mut Vec<u8>,
-) -> Result<(), Ill> {
-    let limit = args.text(0)?.parse::<usize>()?;
-    say_within(alloc, lookups, limit, args.text(1)?, out)
-}
-
-/// Makes the call of this name, and says whether there is one.
-pub fn call(
-    alloc: Global,
-    lookups: &PlainEnv,
-    name: &str,
-    args: &Arguments<'_>,
-    out: &mut Vec<u8>,
-) -> Result<bool, Ill> {
-    match name {
-        "condition" => say_condition(alloc, lookups, args.text(0)?, out)?,
-        "expand" => say_expanded(alloc, lookups, args.text(0)?, out)?,
-        "expand-within" => call_within(alloc, lookups, args, out)?,
-        _ => return Ok(false),
-    }
-    Ok(true)
 }

@@ -1,17 +1,13 @@
 //! What the calls of a case are given beside their arguments.
 
-use crate::arguments::Arguments;
-use crate::ill::Ill;
 use mi_dirs::DirRow;
+use mi_lines::{Call, Given as Volume, Stop, push_bytes};
 use mi_text::{PlainEnv, Sign, Text};
 use std::alloc::Global;
-use std::str;
 
 /// What the calls of a case are given.
 #[derive(Drop)]
 pub struct Given {
-    /// What the argument `<text>` stands for.
-    pub text: Vec<u8>,
     /// Properties, environment variables, paths, folders and states.
     pub lookups: PlainEnv,
     /// The properties of the system.
@@ -24,196 +20,116 @@ pub struct Given {
     pub remembered: Vec<(Text, Text)>,
     /// The files of the source.
     pub files: Vec<(Text, Vec<u8>)>,
-    /// The names that the volume holds.
-    pub held: Vec<(Text, Vec<u8>)>,
-    /// The volume's capacity.
-    pub capacity: Option<u64>,
-    /// The numbers of the calls that fail.
-    pub fails: Vec<u64>,
+    /// What the volume holds, its capacity, and the numbers of the calls that fail.
+    pub volume: Volume,
 }
 
-fn text(alloc: Global, args: &Arguments<'_>, place: usize) -> Result<Text, Ill> {
-    Ok(Text::copy_of(alloc, args.text(place)?)?)
-}
-
-fn string(alloc: Global, args: &Arguments<'_>, place: usize) -> Result<String, Ill> {
-    Ok(String::from_str(alloc, args.text(place)?)?)
-}
-
-fn push_strings(
-    alloc: Global,
-    list: &mut Vec<(String, String)>,
-    args: &Arguments<'_>,
-) -> Result<(), Ill> {
-    let name = string(alloc, args, 0)?;
-    let value = string(alloc, args, 1)?;
-    list.push((name, value))?;
+fn push_strings(list: &mut Vec<(String, String)>, call: &mut Call<'_>) -> Result<(), Stop> {
+    let (name, value) = (call.owned(0), call.owned(1));
+    list.push((name.into_string(), value.into_string()))?;
     Ok(())
 }
 
-fn push_texts(
-    alloc: Global,
-    list: &mut Vec<(Text, Text)>,
-    args: &Arguments<'_>,
-) -> Result<(), Ill> {
-    let name = text(alloc, args, 0)?;
-    let value = text(alloc, args, 1)?;
-    list.push((name, value))?;
-    Ok(())
-}
-
-fn push_bytes(
-    alloc: Global,
-    list: &mut Vec<(Text, Vec<u8>)>,
-    args: &Arguments<'_>,
-) -> Result<(), Ill> {
-    let name = text(alloc, args, 0)?;
-    let bytes = Vec::from_slice(alloc, args.bytes(1)?)?;
-    list.push((name, bytes))?;
-    Ok(())
-}
-
-fn push_numbers(list: &mut Vec<u64>, args: &Arguments<'_>) -> Result<(), Ill> {
-    for place in 0..args.len() {
-        list.push(args.number(place)?)?;
-    }
+fn push_texts(list: &mut Vec<(Text, Text)>, call: &mut Call<'_>) -> Result<(), Stop> {
+    list.push((call.owned(0), call.owned(1)))?;
     Ok(())
 }
 
 /// The sign at the front of a state's key, and the key.
-fn sign_of(text: &str) -> Option<(Sign, &str)> {
-    if let Some(key) = text.strip_prefix('$') {
-        return Some((Sign::Action, key));
+fn sign_of(text: &str) -> Result<(Sign, &str), Stop> {
+    let sign = match text.as_bytes() {
+        [b'$', ..] => Sign::Action,
+        [b'?', ..] => Sign::Installed,
+        [b'&', ..] => Sign::FeatureAction,
+        [b'!', ..] => Sign::FeatureInstalled,
+        _ => return Err(Stop::BadLine),
+    };
+    match text.split_at_checked(1) {
+        Some((_, key)) => Ok((sign, key)),
+        None => Err(Stop::BadLine),
     }
-    if let Some(key) = text.strip_prefix('?') {
-        return Some((Sign::Installed, key));
-    }
-    if let Some(key) = text.strip_prefix('&') {
-        return Some((Sign::FeatureAction, key));
-    }
-    let key = text.strip_prefix('!')?;
-    Some((Sign::FeatureInstalled, key))
 }
 
-fn push_state(
-    alloc: Global,
-    list: &mut Vec<(Sign, String, i32)>,
-    args: &Arguments<'_>,
-) -> Result<(), Ill> {
-    let Some((sign, key)) = sign_of(args.text(0)?) else {
-        return Err(Ill::BadLine);
-    };
-    let state = args.text(1)?.parse::<i32>()?;
-    let key = String::from_str(alloc, key)?;
-    list.push((sign, key, state))?;
+fn push_state(list: &mut Vec<(Sign, String, i32)>, call: &mut Call<'_>) -> Result<(), Stop> {
+    let (sign, key) = sign_of(call.text(0))?;
+    let state = call.text(1).parse::<i32>()?;
+    list.push((sign, call.copy(key).into_string(), state))?;
     Ok(())
 }
 
-/// A row of Directory; the empty text stands for no parent.
-fn row(
-    alloc: Global,
-    key: &str,
-    parent: &str,
-    target: &str,
-    short_source: &str,
-    long_source: &str,
-) -> Result<DirRow, Ill> {
-    let key = Text::copy_of(alloc, key)?;
-    let parent = if parent.is_empty() {
+/// The text of a row's parent; the empty one stands for none.
+fn parent(text: &str, call: &mut Call<'_>) -> Option<Text> {
+    if text.is_empty() {
         None
     } else {
-        Some(Text::copy_of(alloc, parent)?)
-    };
-    let target = Text::copy_of(alloc, target)?;
-    let short_source = Text::copy_of(alloc, short_source)?;
-    let long_source = Text::copy_of(alloc, long_source)?;
-    Ok(DirRow {
-        key,
-        parent,
-        target,
-        short_source,
-        long_source,
-    })
+        Some(call.copy(text))
+    }
 }
 
-fn push_row(alloc: Global, rows: &mut Vec<DirRow>, args: &Arguments<'_>) -> Result<(), Ill> {
-    let row = row(
-        alloc,
-        args.text(0)?,
-        args.text(1)?,
-        args.text(2)?,
-        args.text(3)?,
-        args.text(4)?,
-    )?;
-    rows.push(row)?;
+fn push_row(rows: &mut Vec<DirRow>, call: &mut Call<'_>) -> Result<(), Stop> {
+    let parent = parent(call.text(1), call);
+    rows.push(DirRow {
+        key: call.owned(0),
+        parent,
+        target: call.owned(2),
+        short_source: call.owned(3),
+        long_source: call.owned(4),
+    })?;
+    Ok(())
+}
+
+/// Adds a row of this key whose names are all the third argument.
+fn push_link(
+    rows: &mut Vec<DirRow>,
+    key: String,
+    parent: Text,
+    call: &mut Call<'_>,
+) -> Result<(), Stop> {
+    rows.push(DirRow {
+        key: Text::from_string(key),
+        parent: Some(parent),
+        target: call.owned(2),
+        short_source: call.owned(2),
+        long_source: call.owned(2),
+    })?;
     Ok(())
 }
 
 /// Adds row `D` and its number, whose parent is the next row.
-fn push_link(
-    alloc: Global,
-    rows: &mut Vec<DirRow>,
-    number: u32,
-    parent: &str,
-    name: &str,
-) -> Result<(), Ill> {
-    let key = format!(in alloc; "D{number}")?;
-    let row = row(alloc, key.as_str(), parent, name, name, name)?;
-    rows.push(row)?;
-    Ok(())
+fn push_middle(rows: &mut Vec<DirRow>, number: u32, call: &mut Call<'_>) -> Result<(), Stop> {
+    let alloc = call.alloc();
+    let before = number.saturating_sub(1);
+    let key = format!(in alloc; "D{before}")?;
+    let parent = format!(in alloc; "D{number}")?;
+    push_link(rows, key, Text::from_string(parent), call)
 }
 
 /// Adds so many rows of one name, each below the next, and the last below this parent.
-fn push_chain(alloc: Global, rows: &mut Vec<DirRow>, args: &Arguments<'_>) -> Result<(), Ill> {
-    let count: u32 = args.text(0)?.parse::<u32>()?;
-    let name = args.text(2)?;
+fn push_chain(rows: &mut Vec<DirRow>, call: &mut Call<'_>) -> Result<(), Stop> {
+    let count = call.small(0);
     for number in 1..count {
-        let parent = format!(in alloc; "D{number}")?;
-        push_link(alloc, rows, number - 1, parent.as_str(), name)?;
+        push_middle(rows, number, call)?;
     }
-    push_link(alloc, rows, count.saturating_sub(1), args.text(1)?, name)
+    let last = count.saturating_sub(1);
+    let alloc = call.alloc();
+    let key = format!(in alloc; "D{last}")?;
+    let parent = call.owned(1);
+    push_link(rows, key, parent, call)
 }
 
-/// Adds a text so many times.
-fn push_repeated(text: &mut Vec<u8>, count: &[u8], piece: &[u8]) -> Result<(), Ill> {
-    let count = str::from_utf8(count)?.parse::<u32>()?;
-    if let [byte] = piece {
-        let more = vec![in *text.allocator(); *byte; count as usize]?;
-        text.extend_from_slice(more.as_slice())?;
-        return Ok(());
-    }
-    for _ in 0..count {
-        text.extend_from_slice(piece)?;
-    }
-    Ok(())
-}
-
-/// Makes a text of these texts, each so many times.
-fn set_text(text: &mut Vec<u8>, fields: &[Vec<u8>]) -> Result<(), Ill> {
-    text.clear();
-    for pair in fields.chunks(2) {
-        match pair {
-            [count, piece] => push_repeated(text, count, piece)?,
-            _ => return Err(Ill::BadLine),
-        }
-    }
-    Ok(())
-}
-
-fn give_lookup(
-    alloc: Global,
-    lookups: &mut PlainEnv,
-    kind: &[u8],
-    args: &Arguments<'_>,
-) -> Result<(), Ill> {
+fn give_lookup(lookups: &mut PlainEnv, kind: &str, call: &mut Call<'_>) -> Result<(), Stop> {
     match kind {
-        b"property" => push_strings(alloc, &mut lookups.properties, args),
-        b"variable" => push_strings(alloc, &mut lookups.variables, args),
-        b"file" => push_strings(alloc, &mut lookups.files, args),
-        b"folder" => push_strings(alloc, &mut lookups.folders, args),
-        b"state" => push_state(alloc, &mut lookups.states, args),
-        _ => Err(Ill::BadLine),
+        "property" => push_strings(&mut lookups.properties, call),
+        "variable" => push_strings(&mut lookups.variables, call),
+        "file" => push_strings(&mut lookups.files, call),
+        "folder" => push_strings(&mut lookups.folders, call),
+        "state" => push_state(&mut lookups.states, call),
+        _ => Err(Stop::BadLine),
     }
+}
+
+fn is_lookup(kind: &str) -> bool {
+    matches!(kind, "property" | "variable" | "file" | "folder" | "state")
 }
 
 fn no_lookups(alloc: Global) -> PlainEnv {
@@ -238,65 +154,40 @@ impl Given {
     /// Nothing.
     pub fn new(alloc: Global) -> Given {
         Given {
-            text: Vec::new(alloc),
             lookups: no_lookups(alloc),
             system: Vec::new(alloc),
             words: Vec::new(alloc),
             rows: Vec::new(alloc),
             remembered: Vec::new(alloc),
             files: Vec::new(alloc),
-            held: Vec::new(alloc),
-            capacity: None,
-            fails: Vec::new(alloc),
+            volume: Volume::new(alloc),
         }
     }
 
     /// Takes away all that was given.
-    pub fn clear(&mut self) {
-        self.text.clear();
+    pub fn clear_all(&mut self) {
         clear_lookups(&mut self.lookups);
         self.system.clear();
         self.words.clear();
         self.rows.clear();
         self.remembered.clear();
         self.files.clear();
-        self.held.clear();
-        self.capacity = None;
-        self.fails.clear();
+        self.volume.clear();
     }
 
-    /// Gives what these fields say of this kind.
-    fn give_kind(&mut self, alloc: Global, kind: &[u8], fields: &[Vec<u8>]) -> Result<(), Ill> {
-        let args = Arguments {
-            fields,
-            text: self.text.as_slice(),
-        };
-        match kind {
-            b"system" => push_texts(alloc, &mut self.system, &args),
-            b"word" => push_texts(alloc, &mut self.words, &args),
-            b"row" => push_row(alloc, &mut self.rows, &args),
-            b"chain" => push_chain(alloc, &mut self.rows, &args),
-            b"remembered" => push_texts(alloc, &mut self.remembered, &args),
-            b"source" => push_bytes(alloc, &mut self.files, &args),
-            b"held" => push_bytes(alloc, &mut self.held, &args),
-            b"fails" => push_numbers(&mut self.fails, &args),
-            b"capacity" => {
-                self.capacity = Some(args.number(0)?);
-                Ok(())
-            }
-            _ => give_lookup(alloc, &mut self.lookups, kind, &args),
+    /// Gives what the arguments say of this kind.
+    pub fn give_kind(&mut self, kind: &str, call: &mut Call<'_>) -> Result<(), Stop> {
+        if is_lookup(kind) {
+            return give_lookup(&mut self.lookups, kind, call);
         }
-    }
-
-    /// Gives what these fields say.
-    pub fn give(&mut self, alloc: Global, fields: &[Vec<u8>]) -> Result<(), Ill> {
-        match fields {
-            [] => Err(Ill::BadLine),
-            [kind, rest @ ..] if kind.as_slice() == b"text".as_slice() => set_text(
-                &mut self.text,
-                rest,
-            ),
-            [kind, rest @ ..] => self.give_kind(alloc, kind, rest),
+        match kind {
+            "system" => push_texts(&mut self.system, call),
+            "word" => push_texts(&mut self.words, call),
+            "row" => push_row(&mut self.rows, call),
+            "chain" => push_chain(&mut self.rows, call),
+            "remembered" => push_texts(&mut self.remembered, call),
+            "source" => push_bytes(&mut self.files, call),
+            _ => self.volume.give(kind, call),
         }
     }
 }

@@ -1,14 +1,14 @@
 //! Carries out scripts of calls: each step makes one public call of a library, and prints its answer.
 #![tactic(auto)]
 
-mod answer;
-mod arguments;
+mod answers;
 mod causes;
 mod conditions;
 mod directories;
 mod given;
-mod ill;
 mod images;
+mod lists;
+mod paths;
 mod properties;
 mod records;
 mod reports;
@@ -19,98 +19,63 @@ mod values;
 mod versions;
 mod volumes;
 
-use arguments::Arguments;
 use given::Given;
-use ill::Ill;
-use mi_lines::{Carrier, Stop, push_line, push_step, run_scripts};
-use std::alloc::Global;
+use mi_lines::{Call, Caller, Stop, run_calls};
 use std::process::ExitCode;
-use std::str;
 
-// Makes the call of this name.
-fn call(
-    alloc: Global,
-    given: &Given,
-    name: &[u8],
-    fields: &[Vec<u8>],
-    out: &mut Vec<u8>,
-) -> Result<(), Ill> {
-    let name = str::from_utf8(name)?;
-    let args = Arguments {
-        fields,
-        text: given.text.as_slice(),
-    };
-    let found = call_plain(alloc, name, &args, out)?
-        || conditions::call(alloc, &given.lookups, name, &args, out)?
-        || call_given(alloc, given, name, &args, out)?;
-    if found { Ok(()) } else { Err(Ill::BadLine) }
+// Makes a call of texts and records.
+fn call_texts(name: &str, call: &mut Call<'_>) {
+    match name {
+        "record" => records::say_record(call),
+        "head" => records::say_head(call),
+        "entry" => records::say_entry(call),
+        "table" => tables::say_table(call),
+        "rows" => tables::say_rows(call),
+        "value" => values::say_change(call),
+        "list-text" => values::say_list_text(call),
+        "mode" => versions::say_mode(call),
+        "replaces" => versions::say_replaces(call),
+        "report" => reports::say_report(call),
+        _ => texts::call(name, call),
+    }
 }
 
-// Makes the call of this name, where it is one that takes its arguments alone.
-fn call_plain(
-    alloc: Global,
-    name: &str,
-    args: &Arguments<'_>,
-    out: &mut Vec<u8>,
-) -> Result<bool, Ill> {
-    Ok(
-        texts::call(alloc, name, args, out)?
-            || records::call(alloc, name, args, out)?
-            || tables::call(alloc, name, args, out)?
-            || values::call(alloc, name, args, out)?
-            || versions::call(alloc, name, args, out)?
-            || reports::call(alloc, name, args, out)?,
-    )
+// Makes a call of what is given.
+fn call_given(given: &Given, name: &str, call: &mut Call<'_>) {
+    match name {
+        "condition" => conditions::say_condition(&given.lookups, call),
+        "expand" => conditions::say_expanded(&given.lookups, call),
+        "expand-within" => conditions::say_within(&given.lookups, call),
+        "properties" => properties::say_properties(given, call),
+        "directories" => directories::say_directories(given, call),
+        "source" => sources::say_source(given, call),
+        "sink" => sources::say_sink(given, call),
+        "load" => sources::say_loaded(given, call),
+        "volume" => volumes::say_volume(&given.volume, call),
+        "settle" => volumes::say_settling(&given.volume, call),
+        _ => call_texts(name, call),
+    }
 }
 
-// Makes the call of this name, where it is one that takes what the case gives.
-fn call_given(
-    alloc: Global,
-    given: &Given,
-    name: &str,
-    args: &Arguments<'_>,
-    out: &mut Vec<u8>,
-) -> Result<bool, Ill> {
-    Ok(
-        properties::call(alloc, given, name, args, out)?
-            || directories::call(alloc, given, name, args, out)?
-            || volumes::call(alloc, given, name, args, out)?
-            || images::call(alloc, given, name, args, out)?
-            || sources::call(alloc, given, name, args, out)?,
-    )
-}
+impl Caller for Given {
+    fn clear(&mut self) {
+        self.clear_all();
+    }
 
-impl Carrier for Given {
-    fn step(
-        &mut self,
-        alloc: Global,
-        line: &[u8],
-        fields: &[Vec<u8>],
-        out: &mut Vec<u8>,
-    ) -> Result<(), Stop> {
-        let [verb, fields @ ..] = fields else {
-            return Err(Stop::BadLine);
-        };
-        match verb.as_slice() {
-            b"case" => {
-                self.clear();
-                push_line(out, line)?;
-            }
-            b"given" => self.give(alloc, fields)?,
-            b"call" => {
-                let [name, args @ ..] = fields else {
-                    return Err(Stop::BadLine);
-                };
-                push_step(out, line)?;
-                call(alloc, self, name, args, out)?;
-            }
-            _ => return Err(Stop::BadLine),
+    fn give(&mut self, kind: &str, call: &mut Call<'_>) -> Result<(), Stop> {
+        self.give_kind(kind, call)
+    }
+
+    fn call(&self, name: &str, call: &mut Call<'_>) {
+        if name == "scan" || name.starts_with("image-") || name.ends_with("s-text") {
+            images::call(self, name, call);
+        } else {
+            call_given(self, name, call);
         }
-        Ok(())
     }
 }
 
 fn main(rt: HostRuntime) -> ExitCode {
-    let mut given = Given::new(rt.alloc());
-    run_scripts(&rt, &mut given)
+    let given = Given::new(rt.alloc());
+    run_calls(&rt, given)
 }

@@ -1,103 +1,107 @@
 //! Calls of the log.
 
-use crate::arguments::Arguments;
 use crate::causes::cause;
-use crate::ill::Ill;
-use mi_base::{Kind, Pause, Place, Settled, Texts};
+use mi_base::{Kind, NoMemory, Pause, Place, Settled, Texts};
+use mi_lines::Call;
 use mi_report::{Outcome, report};
-use mi_text::Text;
-use std::alloc::Global;
 
-fn place(text: &str) -> Result<Place, Ill> {
-    match text {
-        "InRollback" => Ok(Place::InRollback),
-        "InCommit" => Ok(Place::InCommit),
-        _ => Err(Ill::BadLine),
-    }
-}
-
-fn suspended(text: &str) -> Result<Kind, Ill> {
-    Ok(Kind::Suspended(Pause {
-        place: place(text)?,
+fn suspended(place: Place) -> Kind {
+    Kind::Suspended(Pause {
+        place,
         why: None,
         begun: 0,
         again: 1,
-    }))
+    })
+}
+
+fn refused(call: &mut Call<'_>) -> Option<Kind> {
+    call.skip(1);
+    match cause(call) {
+        Some(cause) => Some(Kind::Refused(cause)),
+        None => None,
+    }
+}
+
+fn suspended_at(call: &mut Call<'_>) -> Option<Kind> {
+    match call.text(1) {
+        "InRollback" => Some(suspended(Place::InRollback)),
+        "InCommit" => Some(suspended(Place::InCommit)),
+        _ => None,
+    }
 }
 
 /// What a run answers.
-fn kind(alloc: Global, args: &Arguments<'_>) -> Result<Kind, Ill> {
-    match args.text(0)? {
-        "Done" => Ok(Kind::Done),
-        "Listed" => Ok(Kind::Listed),
-        "NoMemory" => Ok(Kind::NoMemory),
-        "Clean" => Ok(Kind::Recovered(Settled::Clean)),
-        "Undone" => Ok(Kind::Recovered(Settled::Undone(args.number(1)?))),
-        "Suspended" => suspended(args.text(1)?),
-        "Refused" => Ok(Kind::Refused(cause(alloc, &args.behind(1))?)),
-        _ => Err(Ill::BadLine),
+fn kind(call: &mut Call<'_>) -> Option<Kind> {
+    match call.text(0) {
+        "Done" => Some(Kind::Done),
+        "Listed" => Some(Kind::Listed),
+        "NoMemory" => Some(Kind::NoMemory),
+        "Clean" => Some(Kind::Recovered(Settled::Clean)),
+        "Undone" => Some(Kind::Recovered(Settled::Undone(call.number(1)))),
+        "Suspended" => suspended_at(call),
+        "Refused" => refused(call),
+        _ => None,
+    }
+}
+
+fn push_begun(begun: &mut Texts, name: &str, call: &mut Call<'_>) {
+    if !name.is_empty() && begun.push(call.copy(name)).is_err() {
+        call.no_memory();
     }
 }
 
 /// The begun actions, which are joined by `,`.
-fn begun(alloc: Global, text: &str) -> Result<Texts, Ill> {
-    let mut begun = Texts::new(alloc);
-    for name in text.split(',') {
-        if !name.is_empty() {
-            begun.push(Text::copy_of(alloc, name)?)?;
-        }
+fn begun(call: &mut Call<'_>) -> Texts {
+    let mut begun = Texts::new(call.alloc());
+    for name in call.text(3).split(',') {
+        push_begun(&mut begun, name, call);
     }
-    Ok(begun)
+    begun
 }
 
 /// What settling gave: the number of names that were put back, or `-`.
-fn settled(text: &str) -> Result<Settled, Ill> {
-    if text == "-" {
-        return Ok(Settled::Clean);
+fn settled(call: &mut Call<'_>) -> Settled {
+    match call.text(1) {
+        "-" => Settled::Clean,
+        _ => Settled::Undone(call.number(1)),
     }
-    Ok(Settled::Undone(text.parse::<u64>()?))
-}
-
-fn outcome(alloc: Global, args: &Arguments<'_>) -> Result<Outcome, Ill> {
-    let settled = settled(args.text(1)?)?;
-    let walks = args.text(0)? == "walks";
-    let begun = begun(alloc, args.text(3)?)?;
-    let kind = kind(alloc, &args.behind(4))?;
-    Ok(Outcome {
-        kind,
-        settled,
-        walks,
-        begun,
-    })
-}
-
-fn say_report(alloc: Global, args: &Arguments<'_>, out: &mut Vec<u8>) -> Result<(), Ill> {
-    let reached = args.text(2)?.parse::<u32>()?;
-    let outcome = outcome(alloc, args)?;
-    say_outcome(alloc, &outcome, reached, out)
 }
 
 /// Adds the log of an outcome.
-pub fn say_outcome(
-    alloc: Global,
-    outcome: &Outcome,
-    reached: u32,
-    out: &mut Vec<u8>,
-) -> Result<(), Ill> {
-    out.extend_from_slice(report(alloc, outcome, reached)?.as_slice())?;
-    Ok(())
+pub fn say_outcome(outcome: &Outcome, reached: u32, call: &mut Call<'_>) {
+    match &report(call.alloc(), outcome, reached) {
+        Ok(log) => call.push(log.as_slice()),
+        Err(NoMemory) => call.no_memory(),
+    }
 }
 
-/// Makes the call of this name, and says whether there is one.
-pub fn call(
-    alloc: Global,
-    name: &str,
-    args: &Arguments<'_>,
-    out: &mut Vec<u8>,
-) -> Result<bool, Ill> {
-    if name != "report" {
-        return Ok(false);
+fn outcome(call: &mut Call<'_>) -> Option<Outcome> {
+    let settled = settled(call);
+    let walks = call.text(0) == "walks";
+    let begun = begun(call);
+    call.skip(4);
+    match kind(call) {
+        Some(kind) => Some(Outcome {
+            kind,
+            settled,
+            walks,
+            begun,
+        }),
+        None => None,
     }
-    say_report(alloc, args, out)?;
-    Ok(true)
+}
+
+fn say_spelled(outcome: &Option<Outcome>, reached: u32, call: &mut Call<'_>) {
+    match outcome {
+        Some(outcome) => say_outcome(outcome, reached, call),
+        None => call.bad_line(),
+    }
+}
+
+/// Adds the log of the outcome that the arguments spell.
+pub fn say_report(call: &mut Call<'_>) {
+    let reached = call.small(2);
+    let outcome = outcome(call);
+    say_spelled(&outcome, reached, call);
+    drop(outcome);
 }

@@ -1,134 +1,102 @@
 //! Calls of registry texts.
 
-use crate::answer::{say_two, say_word};
-use crate::arguments::Arguments;
-use crate::ill::Ill;
-use mi_base::{Bytes, RegValue, Text, Texts};
-use mi_lines::push_field;
+use mi_base::{NoMemory, RegValue, Text};
+use mi_lines::{Call, value};
 use mi_regval::{Change, ListText, Side, ValueError, ValueFault, list_text, read_value};
-use std::alloc::Global;
+use std::alloc::AllocError;
 
-fn say_list(items: &[Text], out: &mut Vec<u8>) -> Result<(), Ill> {
-    out.extend_from_slice(b"list")?;
+fn say_items(items: &[Text], call: &mut Call<'_>) {
+    call.push(b"list");
     for item in items {
-        out.push(b'\t')?;
-        push_field(out, item.as_bytes())?;
+        call.next(item.as_bytes());
     }
-    out.push(b'\n')?;
-    Ok(())
+    call.push(b"\n");
 }
 
-fn say_int(number: u32, out: &mut Vec<u8>) -> Result<(), Ill> {
-    let alloc = *out.allocator();
-    let digits = number.to_string(alloc)?;
-    say_two(out, b"int", digits.as_bytes())
+fn say_binary(bytes: &[u8], call: &mut Call<'_>) {
+    match &hex::encode(call.alloc(), bytes) {
+        Ok(digits) => call.say_two(b"binary", digits.as_bytes()),
+        Err(AllocError) => call.no_memory(),
+    }
 }
 
-fn say_binary(bytes: &[u8], out: &mut Vec<u8>) -> Result<(), Ill> {
-    let alloc = *out.allocator();
-    let digits = hex::encode(alloc, bytes)?;
-    say_two(out, b"binary", digits.as_bytes())
+fn say_int(number: u32, call: &mut Call<'_>) {
+    match &number.to_string(call.alloc()) {
+        Ok(digits) => call.say_two(b"int", digits.as_bytes()),
+        Err(AllocError) => call.no_memory(),
+    }
 }
 
 /// Adds the kind of a value and what it holds.
-pub fn say_value(value: &RegValue, out: &mut Vec<u8>) -> Result<(), Ill> {
+pub fn say_value(value: &RegValue, call: &mut Call<'_>) {
     match value {
-        RegValue::Text(text) => say_two(out, b"text", text.as_bytes()),
-        RegValue::Expand(text) => say_two(out, b"expand", text.as_bytes()),
-        RegValue::Int(number) => say_int(*number, out),
-        RegValue::Binary(bytes) => say_binary(bytes.as_slice(), out),
-        RegValue::List(items) => say_list(items.as_slice(), out),
+        RegValue::Text(text) => call.say_two(b"text", text.as_bytes()),
+        RegValue::Expand(text) => call.say_two(b"expand", text.as_bytes()),
+        RegValue::Int(number) => say_int(*number, call),
+        RegValue::Binary(bytes) => say_binary(bytes.as_slice(), call),
+        RegValue::List(items) => say_items(items.as_slice(), call),
     }
 }
 
-fn list(alloc: Global, args: &Arguments<'_>) -> Result<RegValue, Ill> {
-    let mut items = Texts::new(alloc);
-    for place in 0..args.len() {
-        items.push(Text::copy_of(alloc, args.text(place)?)?)?;
-    }
-    Ok(RegValue::List(items))
-}
-
-/// The value that a kind and what it holds spell.
-pub fn value(alloc: Global, args: &Arguments<'_>) -> Result<RegValue, Ill> {
-    match args.text(0)? {
-        "text" => Ok(RegValue::Text(Text::copy_of(alloc, args.text(1)?)?)),
-        "expand" => Ok(RegValue::Expand(Text::copy_of(alloc, args.text(1)?)?)),
-        "int" => Ok(RegValue::Int(args.text(1)?.parse::<u32>()?)),
-        "bytes" => Ok(RegValue::Binary(Bytes::copy_of(alloc, args.bytes(1)?)?)),
-        "list" => list(alloc, &args.behind(1)),
-        _ => Err(Ill::BadLine),
+fn say_old(old: Option<&RegValue>, call: &mut Call<'_>) {
+    match old {
+        Some(old) => say_value(old, call),
+        None => call.say_word("none"),
     }
 }
 
-/// Adds the value that stands after a change; the old one where it stays.
-fn say_change(change: &Change, old: Option<&RegValue>, out: &mut Vec<u8>) -> Result<(), Ill> {
-    match (change, old) {
-        (Change::Value(value), _) => say_value(value, out),
-        (Change::Unchanged, Some(old)) => say_value(old, out),
-        (Change::Unchanged, None) => say_word(out, "none"),
-    }
-}
-
-fn say_read(
-    read: &Result<Change, ValueError>,
-    old: Option<&RegValue>,
-    out: &mut Vec<u8>,
-) -> Result<(), Ill> {
+/// Adds the value that stands after a change, which is the old one where it stays.
+fn say_changed(read: &Result<Change, ValueError>, old: Option<&RegValue>, call: &mut Call<'_>) {
     match read {
-        Ok(change) => say_change(change, old, out),
-        Err(ValueError::NoMemory) => Err(Ill::NoMemory),
-        Err(ValueError::Fault(ValueFault::BadInt)) => say_word(out, "BadInt"),
-        Err(ValueError::Fault(ValueFault::BadHex)) => say_word(out, "BadHex"),
+        Ok(Change::Value(value)) => say_value(value, call),
+        Ok(Change::Unchanged) => say_old(old, call),
+        Err(ValueError::NoMemory) => call.no_memory(),
+        Err(ValueError::Fault(ValueFault::BadInt)) => call.say_word("BadInt"),
+        Err(ValueError::Fault(ValueFault::BadHex)) => call.say_word("BadHex"),
     }
 }
 
-fn say_alone(alloc: Global, text: &str, out: &mut Vec<u8>) -> Result<(), Ill> {
-    say_read(&read_value(alloc, text, None), None, out)
+/// Adds the value that stands after a text beside an old one.
+fn say_read(text: &str, old: Option<&RegValue>, call: &mut Call<'_>) {
+    let read = read_value(call.alloc(), text, old);
+    say_changed(&read, old, call);
+    drop(read);
 }
 
-fn say_beside(alloc: Global, text: &str, old: &RegValue, out: &mut Vec<u8>) -> Result<(), Ill> {
-    say_read(&read_value(alloc, text, Some(old)), Some(old), out)
-}
-
-fn call_value(alloc: Global, args: &Arguments<'_>, out: &mut Vec<u8>) -> Result<(), Ill> {
-    let text = args.text(0)?;
-    if args.len() == 1 {
-        return say_alone(alloc, text, out);
+fn say_beside(text: &str, call: &mut Call<'_>) {
+    match &value(call) {
+        Some(old) => say_read(text, Some(old), call),
+        None => call.bad_line(),
     }
-    say_beside(alloc, text, &value(alloc, &args.behind(1))?, out)
+}
+
+/// Adds the value that stands after a text, alone or beside an old one.
+pub fn say_change(call: &mut Call<'_>) {
+    let text = call.text(0);
+    if call.len() == 1 {
+        say_read(text, None, call);
+    } else {
+        call.skip(1);
+        say_beside(text, call);
+    }
 }
 
 /// Adds where the items of a list text go, and these.
-fn say_list_text(text: &ListText, out: &mut Vec<u8>) -> Result<(), Ill> {
-    let side: &[u8] = match text.side {
-        Side::Instead => b"Instead",
-        Side::Behind => b"Behind",
-        Side::Before => b"Before",
-    };
-    out.extend_from_slice(side)?;
-    out.push(b'\t')?;
-    say_list(text.items.as_slice(), out)
+fn say_found(text: &ListText, call: &mut Call<'_>) {
+    call.push(match text.side {
+        Side::Instead => b"Instead\t",
+        Side::Behind => b"Behind\t",
+        Side::Before => b"Before\t",
+    });
+    say_items(text.items.as_slice(), call);
 }
 
-fn call_list_text(alloc: Global, text: &str, out: &mut Vec<u8>) -> Result<(), Ill> {
-    match &list_text(alloc, text)? {
-        Some(found) => say_list_text(found, out),
-        None => say_word(out, "none"),
+/// Adds the list that a text is.
+pub fn say_list_text(call: &mut Call<'_>) {
+    let text = call.text(0);
+    match &list_text(call.alloc(), text) {
+        Ok(Some(found)) => say_found(found, call),
+        Ok(None) => call.say_word("none"),
+        Err(NoMemory) => call.no_memory(),
     }
-}
-
-/// Makes the call of this name, and says whether there is one.
-pub fn call(
-    alloc: Global,
-    name: &str,
-    args: &Arguments<'_>,
-    out: &mut Vec<u8>,
-) -> Result<bool, Ill> {
-    match name {
-        "value" => call_value(alloc, args, out)?,
-        "list-text" => call_list_text(alloc, args.text(0)?, out)?,
-        _ => return Ok(false),
-    }
-    Ok(true)
 }

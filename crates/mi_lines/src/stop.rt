@@ -1,9 +1,12 @@
 //! Why a script can't go on.
 
+use mi_text::NoMemory;
 use std::alloc::{AllocError, AllocFailed};
+use std::num::ParseIntError;
+use std::str::Utf8Error;
 
 /// Why a script can't go on.
-#[derive(Clone, Copy, Debug, PartialEq, Eq)]
+#[derive(Clone, Copy)]
 pub enum Stop {
     /// Memory ran out.
     NoMemory,
@@ -20,5 +23,23 @@ impl From<AllocError> for Stop {
 impl<T: Drop> From<AllocFailed<T>> for Stop {
     fn from(_e: AllocFailed<T>) -> Stop {
         Stop::NoMemory
+    }
+}
+
+impl From<NoMemory> for Stop {
+    fn from(_e: NoMemory) -> Stop {
+        Stop::NoMemory
+    }
+}
+
+impl From<Utf8Error> for Stop {
+    fn from(_e: Utf8Error) -> Stop {
+        Stop::BadLine
+    }
+}
+
+impl From<ParseIntError> for Stop {
+    fn from(_e: ParseIntError) -> Stop {
+        Stop::BadLine
     }
 }
