@@ -1,0 +1,6 @@
+pub mod MarkLemmas
+mod ChainLemmas
+mod RowLemmas
+mod LevelLemmas
+mod LineLemmas
+mod RequestLemmas
