@@ -1,2 +1,3 @@
 mod AreaSteps
 mod NotedLemmas
+mod SegmentLemmas

@@ -10,6 +10,7 @@ use crate::answer::{say, say_number, say_word};
 use crate::arguments::Arguments;
 use crate::given::Given;
 use crate::ill::Ill;
+use crate::segments::segment;
 use crate::volumes::{holding, name_of, say_count, say_held, say_read, say_settled};
 use mi_lines::fields;
 use mi_text::Name;
@@ -56,7 +57,7 @@ fn say_back(answer: Result<(), BackFault>, out: &mut Vec<u8>) -> Result<(), Ill>
 }
 
 /// Whether a name stands inside the area.
-fn is_within(name: &Name) -> bool
+pub fn is_within(name: &Name) -> bool
     ensures { result ≡ is_inside name.now }
 {
     matches!(name.as_bytes(), [b'j', b'/', ..])
@@ -309,6 +310,7 @@ fn make<V: Volume>(
 {
     match step.text(0)? {
         "note" => note(alloc, area, noted, step, out),
+        "segment" => segment(alloc, area, noted, step, out),
         "back" => Ok(Next::Back),
         _ => make_other(alloc, area, noted.as_slice(), step, out),
     }

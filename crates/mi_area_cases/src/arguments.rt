@@ -54,6 +54,14 @@ impl<'a> Arguments<'a> {
         }
     }
 
+    /// Those from one place up to another.
+    pub fn part(&self, from: usize, end: usize) -> Arguments<'a> {
+        Arguments {
+            fields: self.fields.get(from..end).unwrap_or(&[]),
+            text: self.text,
+        }
+    }
+
     /// Those behind the first so many.
     pub fn behind(&self, count: usize) -> Arguments<'a> {
         Arguments {

@@ -7,6 +7,7 @@ mod arguments;
 mod given;
 mod ill;
 mod scripts;
+mod segments;
 mod volumes;
 
 use areas::say_area;

@@ -93,7 +93,7 @@ fn dup(alloc: Global, step: &Arguments<'_>) -> Result<Rec, Ill> {
 }
 
 /// The record that these words spell.
-fn rec(alloc: Global, step: &Arguments<'_>) -> Result<Rec, Ill> {
+pub fn rec(alloc: Global, step: &Arguments<'_>) -> Result<Rec, Ill> {
     match step.text(0)? {
         "put" => put(alloc, step),
         "drop" => drop_name(alloc, step),
