@@ -4,3 +4,5 @@ mod RowLemmas
 mod LevelLemmas
 mod LineLemmas
 mod RequestLemmas
+mod HolderLemmas
+mod ActionLemmas

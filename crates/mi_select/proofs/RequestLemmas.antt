@@ -1,13 +1,11 @@
 -- What becomes of features by their lines.
-use Rattle.std.proofs.Common.{◌≡◌, ℕ, zero, suc, ◌+◌, ◌<◌, ◌≤◌, ◌&&◌, ◌||◌, not, Bool, true, false, List, [], ◌∷◌, ◌++◌, length, map, take, get_or, Option, Some, None, refl, sym, ap, ◌∙◌, arith, add-one}
+use Rattle.std.proofs.Common.{◌≡◌, ℕ, zero, suc, ◌+◌, ◌<◌, ◌&&◌, ◌||◌, not, Bool, true, false, List, [], ◌∷◌, ◌++◌, length, map, take, get_or, Option, Some, None, refl, sym, ap, ◌∙◌, arith, add-one}
 use Rattle.std.specs.Prelude.{slice_get, codes, Result, Ok}
 use Rattle.mi_base.specs.declared.answers.Fault.{Fault}
 use Rattle.mi_fver.specs.declared.mode.Mode.{Mode}
 use Rattle.mi_model.specs.FeatureLists.{lists_fault}
 use Rattle.mi_model.specs.Refusals.{◌>>=◌, unless}
 use Rattle.mi_model.specs.Selecting.{setting, install_level_of, reinstall_mode_of}
-use Rattle.std.specs.BTreeSet.{contains}
-use Rattle.mi_text.specs.Maps.{name_cmp}
 use Rattle.mi_text.specs.Lookups.{Lookups}
 use Rattle.mi_schema.specs.declared.typed_rows.FeatureRow.{FeatureRow}
 use Rattle.mi_schema.specs.TableRows.{Rows}
