@@ -168,7 +168,7 @@ module _ (rows : Rows) (own : HasOwnKeys key rows.feature) (choice : FeatureRow 
 
 -- ---- actions
 
-told_if : (a b : Bool) → told (cond a (Some world.MakeLocal) (cond b (Some world.MakeAbsent) None)) ≡ cond a (Some action.Local) (cond b (Some action.Absent) None)
+told_if : (a b : Bool) → told (cond a (Some world.MakeLocal) (cond b (Some world.MakeAbsent) None)) ≡ cond a (Some action.MakeLocal) (cond b (Some action.MakeAbsent) None)
 told_if true b = refl
 told_if false true = refl
 told_if false false = refl
@@ -211,9 +211,9 @@ module _ (rows : Rows) (L : Lookups) (request : FeatureRow → Option world.Requ
       → h.wanted ≡ list_any local_after (owners_of rows c) → action_kept (has_id c) (holds L c.condition) (present c) h ≡ told (components.action_of rows L request local_after present c)
   unfolding components.action_of
   action-kept c h local reinstalled wanted =
-      ap (λ b. cond ((holds L c.condition || (has_id c && present c)) && b) (Some action.Local) (cond (has_id c && present c && not h.wanted) (Some action.Absent) None))
+      ap (λ b. cond ((holds L c.condition || (has_id c && present c)) && b) (Some action.MakeLocal) (cond (has_id c && present c && not h.wanted) (Some action.MakeAbsent) None))
       (ap (λ b. b || (has_id c && h.reinstalled)) local ∙ ap (λ b. list_any (λ f. held.is_local (choices.told (request f))) (owners_of rows c) || (has_id c && b)) reinstalled ∙ sym (asked_any c (owners_of rows c)))
-      ∙ ap (λ b. cond (components.is_enabled rows L request local_after present c && components.is_asked_for rows L request local_after present c) (Some action.Local) (cond (has_id c && present c && not b) (Some action.Absent) None)) wanted
+      ∙ ap (λ b. cond (components.is_enabled rows L request local_after present c && components.is_asked_for rows L request local_after present c) (Some action.MakeLocal) (cond (has_id c && present c && not b) (Some action.MakeAbsent) None)) wanted
       ∙ sym (told_if (components.is_enabled rows L request local_after present c && components.is_asked_for rows L request local_after present c) (has_id c && present c && not (components.is_wanted rows L request local_after present c)))
 
 made_is : (a : Option world.Action) (attributes : ℤ) (present other : Bool) → made (told a) attributes present other ≡ record {

@@ -15,7 +15,7 @@ use Rattle.mi_model.specs.Components.{has_other_client, has_id}
 use Rattle.mi_model.specs.States.{is_present}
 use Rattle.mi_model.specs.Selecting.{component_action, leaves_in, keeps_in}
 use Rattle.mi_select.specs.declared.component.Action.{Action}
-use Rattle.mi_select.specs.declared.component.Action.TheVariants.{Local, Absent}
+use Rattle.mi_select.specs.declared.component.Action.TheVariants.{MakeLocal, MakeAbsent}
 use Rattle.mi_select.specs.declared.component.ComponentChoice.{ComponentChoice}
 use Rattle.mi_select.specs.declared.holders.Holders.{Holders}
 use Rattle.mi_select.specs.Holders.{held_at}
@@ -23,12 +23,12 @@ use Rattle.mi_select.specs.Holders.{held_at}
 -- ---- actions as the program tells them
 
 abbrev pub action_from : world.Action → Action
-action_from world.MakeLocal = Local
-action_from world.MakeAbsent = Absent
+action_from world.MakeLocal = MakeLocal
+action_from world.MakeAbsent = MakeAbsent
 
 abbrev pub action_to : Action → world.Action
-action_to Local = world.MakeLocal
-action_to Absent = world.MakeAbsent
+action_to MakeLocal = world.MakeLocal
+action_to MakeAbsent = world.MakeAbsent
 
 abbrev pub told : Option world.Action → Option Action
 told action = option_map action_from action
@@ -49,19 +49,19 @@ component_choice g L dirs level c = record {
 -- ---- by what is kept
 
 abbrev pub is_local : Option Action → Bool
-is_local (Some Local) = true
-is_local (Some Absent) = false
+is_local (Some MakeLocal) = true
+is_local (Some MakeAbsent) = false
 is_local None = false
 
 abbrev pub is_absent : Option Action → Bool
-is_absent (Some Local) = false
-is_absent (Some Absent) = true
+is_absent (Some MakeLocal) = false
+is_absent (Some MakeAbsent) = true
 is_absent None = false
 
 abbrev pub action_kept : Bool → Bool → Bool → Holders → Option Action
 action_kept has_id holds present h =
-    if (holds || (has_id && present)) && (h.local || (has_id && h.reinstalled)) then Some Local
-    else if has_id && present && not h.wanted then Some Absent
+    if (holds || (has_id && present)) && (h.local || (has_id && h.reinstalled)) then Some MakeLocal
+    else if has_id && present && not h.wanted then Some MakeAbsent
     else None
 
 abbrev pub made : Option Action → ℤ → Bool → Bool → ComponentChoice

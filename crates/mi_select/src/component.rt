@@ -12,9 +12,9 @@ use mi_schema::ComponentRow;
 #[derive(Clone, Copy, Debug, PartialEq, Eq)]
 pub enum Action {
     /// It is installed, or repaired.
-    Local,
+    MakeLocal,
     /// It is removed.
-    Absent,
+    MakeAbsent,
 }
 
 /// What becomes of a component.
@@ -36,8 +36,8 @@ fn is_local(action: Option<Action>) -> bool
     ensures { result ≡ is_local action }
 {
     match action {
-        Some(Action::Local) => true,
-        Some(Action::Absent) => false,
+        Some(Action::MakeLocal) => true,
+        Some(Action::MakeAbsent) => false,
         None => false,
     }
 }
@@ -46,8 +46,8 @@ fn is_absent(action: Option<Action>) -> bool
     ensures { result ≡ is_absent action }
 {
     match action {
-        Some(Action::Local) => false,
-        Some(Action::Absent) => true,
+        Some(Action::MakeLocal) => false,
+        Some(Action::MakeAbsent) => true,
         None => false,
     }
 }
@@ -60,9 +60,9 @@ pub fn action_of(has_id: bool, holds: bool, present: bool, holders: Holders) -> 
     let enabled = holds || (has_id && present);
     let asked_for = holders.local || (has_id && holders.reinstalled);
     if enabled && asked_for {
-        Some(Action::Local)
+        Some(Action::MakeLocal)
     } else if has_id && present && !holders.wanted {
-        Some(Action::Absent)
+        Some(Action::MakeAbsent)
     } else {
         None
     }
