@@ -36,6 +36,7 @@ use Rattle.mi_select.specs.Holders.{says, choice_named, held_at, said_in, any_sa
 use Rattle.mi_select.specs.Records.{recorded_in}
 use Rattle.mi_select.specs.Requests.{choice_to}
 use Rattle.mi_select.proofs.ChainLemmas.{HasOwnKeys, row_of-with, row_of-own}
+use Rattle.mi_select.proofs.RequestLemmas.{and_all, and_none}
 use Rattle.mi_select.proofs.LineLemmas.{same_tests, and_both, and_left, and_right, any_there, any_at}
 
 -- ---- some item of a list
@@ -172,14 +173,6 @@ told_if : (a b : Bool) → told (cond a (Some world.MakeLocal) (cond b (Some wor
 told_if true b = refl
 told_if false true = refl
 told_if false false = refl
-
-and_none : (b : Bool) → false ≡ (b && false)
-and_none true = refl
-and_none false = refl
-
-and_all : (b : Bool) → b ≡ (b && true)
-and_all true = refl
-and_all false = refl
 
 either_shuffled : (h a b x y : Bool) → ((a || (h && b)) || (x || (h && y))) ≡ ((a || x) || (h && (b || y)))
 either_shuffled h true b x y = refl

@@ -26,11 +26,11 @@ use Rattle.mi_select.proofs.LineLemmas.{get_or_from}
 pub with_local : (r : Option Request) (a b : Bool) → a ≡ b → ◌≡◌ {A = FeatureChoice} (record { request = r; local_after = a }) (record { request = r; local_after = b })
 with_local r a b e = λ i. record { request = r; local_after = e i }
 
-and_all : (r : Bool) → r ≡ (r && true)
+pub and_all : (r : Bool) → r ≡ (r && true)
 and_all true = refl
 and_all false = refl
 
-and_none : (r : Bool) → false ≡ (r && false)
+pub and_none : (r : Bool) → false ≡ (r && false)
 and_none true = refl
 and_none false = refl
 
