@@ -1,7 +1,6 @@
 -- Features by their places, their parents, and the lines from them up.
-use Rattle.std.proofs.Common.{◌≡◌, ◌⊎◌, ℕ, zero, suc, ◌+◌, ◌-◌, ◌<◌, ◌≤◌, eqb, Bool, true, false, cond, List, [], ◌∷◌, length, map, take, Option, Some, None, refl, sym, ap, subst, ◌∙◌, arith, inl, inr, get_or, zero-add, ◌||◌, ltb}
-use Rattle.std.specs.Prelude.{slice_get, slice_index, option_map, option_and_then, find, All, AllPairs, Contains}
-use Rattle.std.specs.Map.{keys_of}
+use Rattle.std.proofs.Common.{◌≡◌, ◌⊎◌, ℕ, zero, suc, ◌+◌, ◌-◌, ◌<◌, ◌≤◌, eqb, Bool, true, false, cond, List, [], ◌∷◌, length, map, Option, Some, None, refl, sym, ap, subst, ◌∙◌, arith, inl, inr, get_or, ◌||◌, ltb}
+use Rattle.std.specs.Prelude.{slice_get, slice_index, option_map, option_and_then, All, AllPairs, Contains}
 use Rattle.std.specs.List.{list_any}
 use Rattle.std.proofs.lemmas.Bool.{cases_Bool, eqb-true}
 use Rattle.std.proofs.lemmas.Bool.Decides.{nat_tests}
@@ -13,10 +12,10 @@ use Rattle.std.proofs.lemmas.Map.Steps.{length-le_from_distinct_below}
 use Rattle.mi_text.specs.Maps.{Name, same_name}
 use Rattle.mi_text.proofs.MapLemmas.{from_same, same_itself}
 use Rattle.mi_dirs.specs.Chains.{ends_in, root_or}
-use Rattle.mi_dirs.specs.Order.{parent_in, AreRows, IsOrdered, IsOrder, IsFirstEndless}
+use Rattle.mi_dirs.specs.Order.{parent_in, IsOrder, IsFirstEndless}
 use Rattle.mi_dirs.proofs.ChainLemmas.{ends_later}
 use Rattle.mi_schema.specs.declared.typed_rows.FeatureRow.{FeatureRow}
-use Rattle.mi_schema.specs.Checks.{row_with, parents_of}
+use Rattle.mi_schema.specs.Checks.{row_with}
 use Rattle.mi_schema.specs.Laws.{EndsWithin}
 use Rattle.mi_schema.specs.RowsOf.{behind}
 use Rattle.mi_schema.specs.TableRows.{Rows, row_of, feature_row_of}

@@ -3,4 +3,6 @@ mod ChainLemmas
 mod RowLemmas
 mod LevelLemmas
 mod LineLemmas
-mod RequestLemmas
+pub mod RequestLemmas
+mod HolderLemmas
+mod ActionLemmas

@@ -1,8 +1,7 @@
 -- What is said of a feature with its ancestors.
-use Rattle.std.proofs.Common.{◌≡◌, ◌⊎◌, ℕ, zero, suc, ◌<◌, ◌+◌, eqb, ◌&&◌, ◌||◌, not, Bool, true, false, cond, List, [], ◌∷◌, length, map, Option, Some, None, refl, sym, ap, subst, ◌∙◌, arith, inl, inr, pos, ℤ, get_or, set, ◌≤◌, take, drop, ◌++◌}
-use Rattle.std.specs.Prelude.{slice_get, slice_index, option_map, option_and_then, unwrap_or, codes, is_none, int_lt, int_le, if◌then◌else◌}
+use Rattle.std.proofs.Common.{◌≡◌, ℕ, zero, suc, ◌<◌, ◌+◌, eqb, ◌&&◌, ◌||◌, not, Bool, true, false, List, [], ◌∷◌, length, map, Option, Some, None, refl, sym, ap, subst, ◌∙◌, arith, inl, inr, pos, ℤ, get_or, set, ◌≤◌, take, drop, ◌++◌}
+use Rattle.std.specs.Prelude.{slice_get, slice_index, option_and_then, unwrap_or, codes, is_none, int_lt, int_le, if◌then◌else◌}
 use Rattle.std.specs.List.{list_any, list_all}
-use Rattle.std.specs.Int.{int_max}
 use Rattle.std.specs.Ordering.{int_eq}
 use Rattle.std.proofs.lemmas.Bool.{cases_Bool, eqb-true}
 use Rattle.std.proofs.lemmas.List.{length-map}
@@ -10,7 +9,7 @@ use Rattle.mi_dirs.specs.Order.{parent_in, IsOrder}
 use Rattle.mi_schema.proofs.CheckLemmas.{are_rows}
 use Rattle.mi_select.specs.Chains.{parents_in}
 use Rattle.mi_select.proofs.MarkLemmas.{get-set_same, get-set_other, not_eqb, earlier_place, get_any}
-use Rattle.mi_text.specs.Maps.{Name, same_name}
+use Rattle.mi_text.specs.Maps.{same_name}
 use Rattle.mi_text.specs.Lookups.{Lookups}
 use Rattle.mi_text.proofs.MapLemmas.{from_same, same_itself}
 use Rattle.mi_dirs.specs.Chains.{ends_in, root_or}
@@ -29,7 +28,7 @@ use Rattle.mi_select.specs.declared.wishes.Wishes.{Wishes}
 use Rattle.mi_select.specs.Brought.{is_bringing, brings, is_brought}
 use Rattle.mi_select.specs.Choices.{told}
 use Rattle.mi_select.specs.Kept.{level_kept, names_kept, own_kept, line_above, line_kept, AreBrought}
-use Rattle.mi_select.specs.Levels.{greatest, levels_in, level_at}
+use Rattle.mi_select.specs.Levels.{greatest, levels_in}
 use Rattle.mi_select.specs.Lines as lines
 use Rattle.mi_select.specs.Lines.{no_line, line_below, own_of, is_first, line_to, parent_row, line_up}
 use Rattle.mi_select.specs.Lists.{IsList, none_is_set}
@@ -39,33 +38,33 @@ use Rattle.mi_select.specs.Marks.{is_marked, climbed, IsMarkedUp}
 use Rattle.mi_select.specs.Wishes.{AreWishes}
 use Rattle.mi_select.proofs.ChainLemmas.{up, HasOwnKeys, line_step, order_rows, parent_row-up, get-below, get-there, get-map}
 
-same_tests : (a b : Bool) → (a ≡ true → b ≡ true) → (b ≡ true → a ≡ true) → a ≡ b
+pub same_tests : (a b : Bool) → (a ≡ true → b ≡ true) → (b ≡ true → a ≡ true) → a ≡ b
 same_tests true b f g = sym (f refl)
 same_tests false true f g = g refl
 same_tests false false f g = refl
 
-or_true : (a b : Bool) → b ≡ true → (a || b) ≡ true
+pub or_true : (a b : Bool) → b ≡ true → (a || b) ≡ true
 or_true true b e = refl
 or_true false b e = e
 
-and_both : (a b : Bool) → a ≡ true → b ≡ true → (a && b) ≡ true
+pub and_both : (a b : Bool) → a ≡ true → b ≡ true → (a && b) ≡ true
 and_both true b e f = f
 and_both false b e f = e
 
-and_left : (a b : Bool) → (a && b) ≡ true → a ≡ true
+pub and_left : (a b : Bool) → (a && b) ≡ true → a ≡ true
 and_left true b e = refl
 and_left false b e = e
 
-and_right : (a b : Bool) → (a && b) ≡ true → b ≡ true
+pub and_right : (a b : Bool) → (a && b) ≡ true → b ≡ true
 and_right true b e = e
 and_right false b e = cc
 
-any_there : {A : Type 0} (p : A → Bool) (xs : List A) (k : ℕ) (x : A) → slice_get xs k ≡ Some x → p x ≡ true → list_any p xs ≡ true
+pub any_there : {A : Type 0} (p : A → Bool) (xs : List A) (k : ℕ) (x : A) → slice_get xs k ≡ Some x → p x ≡ true → list_any p xs ≡ true
 any_there p [] k x e h = cc
 any_there p (y ∷ xs) zero x e h = let same : y ≡ x = cc in ap (λ z. p z || list_any p xs) same ∙ ap (λ b. b || list_any p xs) h
 any_there p (y ∷ xs) (suc k) x e h = or_true (p y) (list_any p xs) (any_there p xs k x e h)
 
-any_at : {A : Type 0} (p : A → Bool) (xs : List A) → list_any p xs ≡ true → (k : ℕ) × (x : A) × (slice_get xs k ≡ Some x) × (p x ≡ true)
+pub any_at : {A : Type 0} (p : A → Bool) (xs : List A) → list_any p xs ≡ true → (k : ℕ) × (x : A) × (slice_get xs k ≡ Some x) × (p x ≡ true)
 any_at p [] e = cc
 any_at p (x ∷ xs) e = elim (cases_Bool (p x)) [
   | inl on ↦ (0, x, refl, on)

@@ -1,10 +1,10 @@
 -- Marks that rise to parents.
-use Rattle.std.proofs.Common.{◌≡◌, ℕ, zero, suc, ◌+◌, ◌-◌, ◌<◌, ◌≤◌, eqb, Bool, true, false, cond, List, [], ◌∷◌, length, take, Option, Some, None, refl, sym, ap, subst, ◌∙◌, arith, inl, inr, get_or, set}
+use Rattle.std.proofs.Common.{◌≡◌, ℕ, zero, suc, ◌+◌, ◌<◌, ◌≤◌, eqb, Bool, true, false, cond, List, [], ◌∷◌, length, take, Option, Some, None, refl, sym, ap, subst, ◌∙◌, arith, inl, inr, get_or, set}
 use Rattle.std.specs.Prelude.{slice_get, slice_index, option_and_then, unwrap_or, Contains}
 use Rattle.std.proofs.Math.ListN.{length-set}
 use Rattle.std.proofs.lemmas.Bool.{cases_Bool, eqb-true}
 use Rattle.std.proofs.lemmas.Bool.Decides.{nat_tests}
-use Rattle.mi_dirs.specs.Order.{parent_in, AreRows, IsOrdered, IsOrder}
+use Rattle.mi_dirs.specs.Order.{parent_in, AreRows, IsOrder}
 use Rattle.mi_select.specs.Marks.{is_marked, with_mark, with_parent, climbed, IsMarkedUp}
 
 pub get-set_same : {A : Type 0} (xs : List A) (i : ℕ) (v : A) → i < length xs → slice_get (set xs i v) i ≡ Some v

@@ -1,13 +1,11 @@
 -- What becomes of features by their lines.
-use Rattle.std.proofs.Common.{◌≡◌, ℕ, zero, suc, ◌+◌, ◌<◌, ◌≤◌, ◌&&◌, ◌||◌, not, Bool, true, false, List, [], ◌∷◌, ◌++◌, length, map, take, get_or, Option, Some, None, refl, sym, ap, ◌∙◌, arith, add-one}
-use Rattle.std.specs.Prelude.{slice_get, codes, Result, Ok}
+use Rattle.std.proofs.Common.{◌≡◌, ℕ, zero, suc, ◌+◌, ◌<◌, ◌&&◌, ◌||◌, not, Bool, true, false, List, [], ◌∷◌, ◌++◌, length, map, take, get_or, Option, Some, None, refl, sym, ap, ◌∙◌, arith, add-one}
+use Rattle.std.specs.Prelude.{slice_get, codes, Result, Ok, Err}
 use Rattle.mi_base.specs.declared.answers.Fault.{Fault}
 use Rattle.mi_fver.specs.declared.mode.Mode.{Mode}
 use Rattle.mi_model.specs.FeatureLists.{lists_fault}
 use Rattle.mi_model.specs.Refusals.{◌>>=◌, unless}
 use Rattle.mi_model.specs.Selecting.{setting, install_level_of, reinstall_mode_of}
-use Rattle.std.specs.BTreeSet.{contains}
-use Rattle.mi_text.specs.Maps.{name_cmp}
 use Rattle.mi_text.specs.Lookups.{Lookups}
 use Rattle.mi_schema.specs.declared.typed_rows.FeatureRow.{FeatureRow}
 use Rattle.mi_schema.specs.TableRows.{Rows}
@@ -28,11 +26,11 @@ use Rattle.mi_select.proofs.LineLemmas.{get_or_from}
 pub with_local : (r : Option Request) (a b : Bool) → a ≡ b → ◌≡◌ {A = FeatureChoice} (record { request = r; local_after = a }) (record { request = r; local_after = b })
 with_local r a b e = λ i. record { request = r; local_after = e i }
 
-and_all : (r : Bool) → r ≡ (r && true)
+pub and_all : (r : Bool) → r ≡ (r && true)
 and_all true = refl
 and_all false = refl
 
-and_none : (r : Bool) → false ≡ (r && false)
+pub and_none : (r : Bool) → false ≡ (r && false)
 and_none true = refl
 and_none false = refl
 
@@ -80,3 +78,24 @@ requested_is rows L recorded level mode made at_level at_mode none is =
     ∙ ap (λ (r : Result Mode Fault). r >>= λ (m : Mode). unless (lists_fault rows L) (Ok (map (choice_to rows L recorded level) rows.feature, m))) at_mode
     ∙ ap (λ (o : Option Fault). unless o (Ok (map (choice_to rows L recorded level) rows.feature, mode))) none
     ∙ ap (λ (l : List FeatureChoice). Ok (l, mode)) (sym is)
+
+abbrev answered : Rows → Lookups → Option (List Text) → Result ℕ Fault → Result Mode Fault → Option Fault → Result (List FeatureChoice × Mode) Fault
+answered rows L recorded a b o = do
+  level ← a
+  mode ← b
+  unless o (Ok (map (choice_to rows L recorded level) rows.feature, mode))
+
+-- what stands behind an answer
+pub requested_says : (rows : Rows) (L : Lookups) (recorded : Option (List Text)) (made : List FeatureChoice) (mode : Mode) → requested rows L recorded ≡ Ok (made, mode)
+    → (level : ℕ) × (setting install_level_of L (codes "INSTALLLEVEL") ≡ Ok level) × (setting reinstall_mode_of L (codes "REINSTALLMODE") ≡ Ok mode) × (lists_fault rows L ≡ None) × (made ≡ map (choice_to rows L recorded level) rows.feature)
+requested_says rows L recorded made mode is = by (setting install_level_of L (codes "INSTALLLEVEL")) refl (setting reinstall_mode_of L (codes "REINSTALLMODE")) refl (lists_fault rows L) refl is
+  where
+    by : (a : Result ℕ Fault) → setting install_level_of L (codes "INSTALLLEVEL") ≡ a → (b : Result Mode Fault) → setting reinstall_mode_of L (codes "REINSTALLMODE") ≡ b → (o : Option Fault) → lists_fault rows L ≡ o
+        → answered rows L recorded a b o ≡ Ok (made, mode)
+        → (level : ℕ) × (setting install_level_of L (codes "INSTALLLEVEL") ≡ Ok level) × (setting reinstall_mode_of L (codes "REINSTALLMODE") ≡ Ok mode) × (lists_fault rows L ≡ None) × (made ≡ map (choice_to rows L recorded level) rows.feature)
+    by (Err f) at_level b at_mode o none e = cc
+    by (Ok level) at_level (Err f) at_mode o none e = cc
+    by (Ok level) at_level (Ok m) at_mode (Some f) none e = cc
+    by (Ok level) at_level (Ok m) at_mode None none e =
+        let same : (map (choice_to rows L recorded level) rows.feature, m) ≡ (made, mode) = cc in
+        (level, at_level, at_mode ∙ ap (λ (p : List FeatureChoice × Mode). Ok p.1) same, none, sym (ap (λ (p : List FeatureChoice × Mode). p.0) same))

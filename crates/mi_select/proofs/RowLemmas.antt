@@ -1,5 +1,5 @@
 -- Rows of a package by their keys.
-use Rattle.std.proofs.Common.{◌≡◌, ℕ, zero, suc, ◌<◌, ◌||◌, Bool, true, false, cond, List, [], ◌∷◌, length, get_or, Option, Some, None, refl, sym, ap, ◌∙◌, arith, ◌++◌, map, append_assoc}
+use Rattle.std.proofs.Common.{◌≡◌, suc, ◌||◌, Bool, true, false, cond, List, [], ◌∷◌, Option, Some, refl, sym, ap, ◌∙◌, arith, ◌++◌, map, append_assoc}
 use Rattle.std.specs.Prelude.{All, nat_eq}
 use Rattle.std.specs.List.{list_any}
 use Rattle.std.specs.Map.{lookup, keys_of, update}

@@ -1,5 +1,5 @@
 -- Lines of features by what is kept of them.
-use Rattle.std.specs.Prelude.{◌≡◌, ℕ, ℤ, ◌&&◌, ◌||◌, not, pos, Bool, false, List, codes, Option, Some, None, slice_get, slice_index_or, unwrap_or, int_lt, int_le}
+use Rattle.std.specs.Prelude.{◌≡◌, ℕ, ℤ, ◌&&◌, ◌||◌, not, pos, Bool, List, codes, Option, Some, None, slice_get, slice_index_or, unwrap_or, int_lt, int_le}
 use Rattle.std.specs.BTreeSet.{contains}
 use Rattle.std.specs.Ordering.{int_eq}
 use Rattle.mi_text.specs.Maps.{name_cmp}

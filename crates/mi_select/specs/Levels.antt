@@ -1,5 +1,5 @@
 -- Levels of features as the program keeps them. (Condition Table; Feature Table, Level.)
-use Rattle.std.specs.Prelude.{◌≡◌, ℕ, ℤ, ◌&&◌, Bool, if◌then◌else◌, List, [], ◌∷◌, map, filter, fold, Option, Some, None, unwrap_or}
+use Rattle.std.specs.Prelude.{◌≡◌, ℕ, ℤ, ◌&&◌, Bool, List, [], ◌∷◌, map, filter, fold, Option, Some, None}
 use Rattle.std.specs.Int.{int_max}
 use Rattle.std.specs.Ordering.{nat_cmp}
 use Rattle.std.specs.Cmp.Lexicographic.{slice_cmp}

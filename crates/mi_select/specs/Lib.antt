@@ -1,7 +1,9 @@
+pub mod Actions
 pub mod Answers
 pub mod Brought
 pub mod Chains
 pub mod Choices
+pub mod Holders
 pub mod Kept
 pub mod Levels
 pub mod Lines

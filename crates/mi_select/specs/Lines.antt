@@ -1,11 +1,11 @@
 -- What is said of a feature with its ancestors, step by step from the root down. (Feature Table.)
-use Rattle.std.specs.Prelude.{◌≡◌, ℕ, ◌&&◌, ◌||◌, not, Bool, true, false, if◌then◌else◌, List, [], ◌∷◌, codes, Option, Some, None, is_none, option_and_then}
+use Rattle.std.specs.Prelude.{ℕ, ◌&&◌, ◌||◌, Bool, true, false, if◌then◌else◌, List, [], codes, Option, Some, None, is_none, option_and_then}
 use Rattle.std.specs.List.{list_any, list_all}
 use Rattle.mi_text.specs.Lookups.{Lookups}
 use Rattle.mi_schema.specs.declared.typed_rows.FeatureRow.{FeatureRow}
 use Rattle.mi_schema.specs.TableRows.{Rows, feature_row_of}
 use Rattle.mi_model.specs.Texts.{Text}
-use Rattle.mi_model.specs.FeatureLists.{is_listed, line_of, line_within}
+use Rattle.mi_model.specs.FeatureLists.{is_listed, line_of}
 use Rattle.mi_model.specs.Features as features
 use Rattle.mi_select.specs.declared.choice.Request.{Request}
 use Rattle.mi_select.specs.declared.choice.Request.TheVariants.{Local, Absent, Reinstall}

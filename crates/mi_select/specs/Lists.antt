@@ -1,8 +1,8 @@
 -- Lists of features as the program keeps them. (ADDLOCAL, REMOVE, ADDDEFAULT and REINSTALL Properties.)
-use Rattle.std.specs.Prelude.{◌≡◌, ◌==◌, ◌||◌, not, Bool, List, length, codes, is_some}
+use Rattle.std.specs.Prelude.{◌≡◌, ◌==◌, ◌||◌, not, Bool, length, codes, is_some}
 use Rattle.std.specs.List.{list_any}
 use Rattle.std.specs.BTreeSet.{contains}
-use Rattle.mi_text.specs.Maps.{Name, name_cmp, same_name, is_among}
+use Rattle.mi_text.specs.Maps.{Name, name_cmp, same_name}
 use Rattle.mi_text.specs.Lookups.{Lookups}
 use Rattle.mi_schema.specs.TableRows.{Rows, feature_row_of}
 use Rattle.mi_model.specs.Texts.{Text}

@@ -2,11 +2,14 @@
 //! Table).
 #![tactic(auto)]
 
+mod acting;
 mod asking;
 mod brought;
 mod chain;
 mod choice;
+mod component;
 mod error;
+mod holders;
 mod levels;
 mod lines;
 mod list;
@@ -16,6 +19,8 @@ mod record;
 mod settings;
 mod wishes;
 
+pub use acting::components;
 pub use asking::{Asked, requests};
 pub use choice::{FeatureChoice, Request};
+pub use component::{Action, ComponentChoice};
 pub use error::SelectError;

@@ -1,0 +1,98 @@
+//! What becomes of a component.
+
+ghost use Rattle.std.specs.Prelude.{◌≡◌};
+ghost use Rattle.mi_model.specs.Components.{is_coming};
+ghost use Rattle.mi_select.specs.Actions.{is_local, is_absent, action_kept, made, as_action};
+
+use crate::holders::Holders;
+use crate::own::has_attribute;
+use mi_schema::ComponentRow;
+
+/// What is done to a component (Component Table).
+#[derive(Clone, Copy, Debug, PartialEq, Eq)]
+pub enum Action {
+    /// It is installed, or repaired.
+    MakeLocal,
+    /// It is removed.
+    MakeAbsent,
+}
+
+/// What becomes of a component.
+#[derive(Clone, Copy, Debug, PartialEq, Eq)]
+pub struct ComponentChoice {
+    /// What is done to it.
+    pub action: Option<Action>,
+    /// Whether it was there before the run.
+    pub present: bool,
+    /// Whether another product or the system is its client.
+    pub other_client: bool,
+    /// Whether what it brought is taken away.
+    pub leaving: bool,
+    /// Whether what it brought stays.
+    pub kept: bool,
+}
+
+fn is_local(action: Option<Action>) -> bool
+    ensures { result ≡ is_local action }
+{
+    match action {
+        Some(Action::MakeLocal) => true,
+        Some(Action::MakeAbsent) => false,
+        None => false,
+    }
+}
+
+fn is_absent(action: Option<Action>) -> bool
+    ensures { result ≡ is_absent action }
+{
+    match action {
+        Some(Action::MakeLocal) => false,
+        Some(Action::MakeAbsent) => true,
+        None => false,
+    }
+}
+
+/// What is done to a component: `has_id` says that it has a code, `holds` that its condition does, `present` that it is
+/// there, and `holders` what its features say of it.
+pub fn action_of(has_id: bool, holds: bool, present: bool, holders: Holders) -> Option<Action>
+    ensures { result ≡ action_kept has_id holds present holders }
+{
+    let enabled = holds || (has_id && present);
+    let asked_for = holders.local || (has_id && holders.reinstalled);
+    if enabled && asked_for {
+        Some(Action::MakeLocal)
+    } else if has_id && present && !holders.wanted {
+        Some(Action::MakeAbsent)
+    } else {
+        None
+    }
+}
+
+impl ComponentChoice {
+    /// What becomes of a component with these attributes.
+    pub fn made(
+        action: Option<Action>,
+        attributes: i32,
+        present: bool,
+        other_client: bool,
+    ) -> ComponentChoice
+        ensures { result ≡ made action attributes present other_client }
+    {
+        let leaving = is_absent(action) && !has_attribute(16, attributes) && !other_client;
+        ComponentChoice {
+            action,
+            present,
+            other_client,
+            leaving,
+            kept: is_local(action) || (present && !leaving),
+        }
+    }
+
+    /// Whether the component of this row is installed. `key_path_there` says that its key path is there, which is asked where
+    /// attribute 128 is set (Component Table, Attributes).
+    pub fn is_coming(&self, row: &ComponentRow, key_path_there: bool) -> bool
+        ensures { result ≡ is_coming row.now (as_action self.now.action) key_path_there }
+    {
+        is_local(self.action) && !(has_attribute(128, row.attributes) && key_path_there)
+    }
+}
