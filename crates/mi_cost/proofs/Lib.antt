@@ -1,0 +1,4 @@
+pub mod NameLemmas
+pub mod ChangeLemmas
+pub mod RowLemmas
+pub mod WholeLemmas

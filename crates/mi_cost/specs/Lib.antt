@@ -1,0 +1,2 @@
+pub mod CostOfChanges
+pub mod CostLaw
