@@ -2,5 +2,7 @@
 #![tactic(auto)]
 
 mod laws;
+mod room;
 
 pub use laws::scripts_cost_what_the_walk_needs;
+pub use room::fits;
