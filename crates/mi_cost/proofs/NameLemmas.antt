@@ -43,7 +43,7 @@ as_tabulated : (names : List Name) → map {B = Name × Bool} (λ n. (n, true)) 
 as_tabulated [] = refl
 as_tabulated (n ∷ names) = ap (λ (es : List (Name × Bool)). (n, true) ∷ es) (as_tabulated names)
 
-get-set_of : (names : List Name) (q : Name) → get (set_of names) q ≡ cond (is_among q names) (Some true) None
+pub get-set_of : (names : List Name) (q : Name) → get (set_of names) q ≡ cond (is_among q names) (Some true) None
 unfolding tabulated
 get-set_of names q = ap (λ (es : List (Name × Bool)). get {R = name_cmp} (from_entries es) q) (as_tabulated names) ∙ get-tabulated (λ n. Some true) names q
 

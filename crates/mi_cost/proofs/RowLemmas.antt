@@ -26,7 +26,7 @@ use Rattle.mi_cost.proofs.ChangeLemmas.{differs, names_are, sizes_are}
 
 -- ---- the changes of a row's touches
 
-among_both : {X : Type 0} → (q : Name) (a b : List (Change X)) → is_among q (names_changed (a ++ b)) ≡ (is_among q (names_changed a) || is_among q (names_changed b))
+pub among_both : {X : Type 0} → (q : Name) (a b : List (Change X)) → is_among q (names_changed (a ++ b)) ≡ (is_among q (names_changed a) || is_among q (names_changed b))
 among_both q a b = ap (is_among q) (map-append (λ c. c.at) a b) ∙ is_among-append q (names_changed a) (names_changed b)
 
 names_gone : (names : List Name) → names_changed (map (gone {X = Entry}) names) ≡ names
@@ -167,7 +167,7 @@ rows_names m q (row ∷ rows) plain =
     ∙ sym (among_both q firsts (row_changes n rows))
     ∙ ap (λ s. is_among q (names_changed s)) (sym (first_row m row rows))
 
-greatest_both : (q : Name) (a b : Segment) → greatest_size q (a ++ b) ≡ max (greatest_size q a) (greatest_size q b)
+pub greatest_both : (q : Name) (a b : Segment) → greatest_size q (a ++ b) ≡ max (greatest_size q a) (greatest_size q b)
 greatest_both q [] b = omega arith
 greatest_both q (c ∷ a) b = by_name (slot_size q c.after) _ _ _ (same_name q c.at) (greatest_both q a b)
   where
