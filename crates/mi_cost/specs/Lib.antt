@@ -1,0 +1,4 @@
+pub mod CostOfChanges
+pub mod CostLaw
+pub mod Stated
+pub mod Tallies
