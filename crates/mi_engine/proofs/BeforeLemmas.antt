@@ -18,7 +18,7 @@ use Rattle.mi_model.specs.Leaves.{StandsAfter, MayStand, AtPause, AtExit, Cleans
 use Rattle.mi_model.specs.Logs.{Tells, IsReport, IsLog}
 use Rattle.mi_model.specs.PackageOutcome.{Outcome}
 use Rattle.mi_model.specs.Words.{Command, walks}
-use Rattle.mi_engine.specs.Answers.{MeetsFull, Suspends}
+use Rattle.mi_engine.specs.Answers.{IsPausedFull, IsFullKind, MeetsFull, Begins}
 use Rattle.mi_engine.specs.Looks.{Looks}
 use Rattle.mi_engine.specs.Replies.{Says, SettledReads, Serves}
 use Rattle.mi_engine.proofs.EndLemmas.{may_commit, below_before, looks_go, free_then}
@@ -100,24 +100,35 @@ module _ (volume told : Type 0) (out out' : Outcome) (of_told : told → volume)
     }
     caused_as NoMemory c = tt
 
-  pub full_as : (s t : State) (kind : Kind) → t.capacity ≡ s.capacity → MeetsFull told t out' kind → MeetsFull told s out kind
-  full_as s t kind same full = record {
+  full_pause : (source_fails : Type 0) (place : Place) (why : Option Cause) → IsPausedFull told out' source_fails place why → IsPausedFull told out source_fails place why
+  full_pause source_fails InRollback (Some cause) is = met_as (Unit {0}) source_fails cause is
+  full_pause source_fails InRollback None is = absurd is
+  full_pause source_fails InCommit why is = absurd is
+
+  full_kind : (source_fails : Type 0) (kind : Kind) → IsFullKind told out' source_fails kind → IsFullKind told out source_fails kind
+  full_kind source_fails Done is = is
+  full_kind source_fails Listed is = is
+  full_kind source_fails (Recovered settled) is = is
+  full_kind source_fails (Refused VolumeFault) is = is
+  full_kind source_fails (Refused other) is = absurd is
+  full_kind source_fails (Suspended pause) is = full_pause source_fails pause.place pause.why is
+  full_kind source_fails NoMemory is = is
+
+  pub full_as : (s t : State) (source_fails : Type 0) (kind : Kind) → t.capacity ≡ s.capacity → MeetsFull told t out' source_fails kind → MeetsFull told s out source_fails kind
+  full_as s t source_fails kind same full = record {
     limited = subst (λ (c : Option ℕ). IsSome c) same full.limited;
-    writes = λ x. done_as out out' (is (of_told x)) (full.writes x);
-    is = full.is;
+    walks = λ x. let walks = full.walks x in (walks.0, sym (is (of_told x)) ∙ walks.1);
+    is = full_kind source_fails kind full.is;
   }
 
-  pub suspends_as : (kind : Kind) → Suspends told out' kind → Suspends told out kind
-  suspends_as Done s = tt
-  suspends_as Listed s = tt
-  suspends_as (Recovered settled) s = tt
-  suspends_as (Refused cause) s = tt
-  suspends_as (Suspended pause) s = (s.0, λ t. done_as out out' (is (of_told t)) (s.1 t))
-  suspends_as NoMemory s = tt
+  -- ---- begun actions
+
+  pub begins_as : (n : ℕ) (kind : Kind) → (told → Begins out' n kind) → told → Begins out n kind
+  begins_as n kind begins t = subst (λ (x : Outcome). Begins x n kind) (is (of_told t)) (begins t)
 
   -- ---- the log
 
-  module _ (found found' : Settled → Type 0) (f : (s : Settled) → found' s → found s) (says : Bool) where
+  module _ (found found' : Settled → Type 0) (f : (s : Settled) → found' s → found s) (says : Bool) (n : ℕ) where
     told_refusal : (cause : Cause) (s : Settled) → Tells found' (Refused cause) s → Tells found (Refused cause) s
     told_refusal (BadWords place) s tells = tells
     told_refusal (BadRollback name) s tells = tells
@@ -133,7 +144,7 @@ module _ (volume told : Type 0) (out out' : Outcome) (of_told : told → volume)
     tells_as (Suspended pause) s tells = f s tells
     tells_as NoMemory s tells = f s tells
 
-    report_as : (kind : Kind) (log : List ℕ) → IsReport told found' says out' kind 0 log → IsReport told found says out kind 0 log
+    report_as : (kind : Kind) (log : List ℕ) → IsReport told found' says out' kind n log → IsReport told found says out kind n log
     report_as kind log r = record {
       settled = r.settled;
       begun = r.begun;
@@ -142,7 +153,7 @@ module _ (volume told : Type 0) (out out' : Outcome) (of_told : told → volume)
       is = r.is;
     }
 
-    log_as : (kind : Kind) (log : List ℕ) → IsLog volume told found' says out' kind 0 log → IsLog volume told found says out kind 0 log
+    log_as : (kind : Kind) (log : List ℕ) → IsLog volume told found' says out' kind n log → IsLog volume told found says out kind n log
     log_as Done log l = report_as Done log l
     log_as Listed log l = λ v. sym (ap (λ (x : Outcome). x.end) (is v)) ∙ l v
     log_as (Recovered settled) log l = report_as (Recovered settled) log l
@@ -150,7 +161,7 @@ module _ (volume told : Type 0) (out out' : Outcome) (of_told : told → volume)
     log_as (Suspended pause) log l = report_as (Suspended pause) log l
     log_as NoMemory log l = report_as NoMemory log l
 
-    pub says_as : (kind : Kind) (bytes : List ℕ) → Says (IsLog volume told found' says out' kind 0) kind bytes → Says (IsLog volume told found says out kind 0) kind bytes
+    pub says_as : (kind : Kind) (bytes : List ℕ) → Says (IsLog volume told found' says out' kind n) kind bytes → Says (IsLog volume told found says out kind n) kind bytes
     says_as kind bytes s = record { log = s.log; is = log_as kind s.log s.is; whole = s.whole; front = s.front }
 
 -- ---- what is left
@@ -169,15 +180,15 @@ cleans_from s t u pass NoMemory c = c
 
 -- what licenses the answer of the rest licenses that of the whole
 pub licensed_from : (volume told : Type 0) (s t u : State) (out out' : Outcome) (source_fails : Type 0) → (told → volume) → (volume → out' ≡ out) → Passes s t → Passes t u → (kind : Kind)
-    → MeetsFull told t out' kind ⊎ Caused t.faults u.faults volume told out' (Rose t u) source_fails kind → MeetsFull told s out kind ⊎ Caused s.faults u.faults volume told out (Rose s u) source_fails kind
+    → MeetsFull told t out' source_fails kind ⊎ Caused t.faults u.faults volume told out' (Rose t u) source_fails kind → MeetsFull told s out source_fails kind ⊎ Caused s.faults u.faults volume told out (Rose s u) source_fails kind
 licensed_from volume told s t u out out' source_fails of_told is pass then kind = ⊎_elim
-    (λ full. inl (full_as volume told out out' of_told is s t kind pass.capacity full))
+    (λ full. inl (full_as volume told out out' of_told is s t source_fails kind pass.capacity full))
     (λ c. inr (caused_as volume told out out' of_told is s.faults t.faults u.faults pass.faults (Rose s u) (Rose t u) source_fails (rose_before s t u pass) kind c))
 
 -- before a run that goes on from t the volume was only read
 module _ (volume told : Type 0) (s t u : State) (out out' : Outcome) (command : Command) (found : Settled → Type 0) (source_fails : Type 0) (of_told : told → volume) where
-  pub serves_from : (kind : Kind) (bytes : List ℕ) → (volume → IsFree s) → (volume → Looks s t) → Passes s t → Passes t u → (volume → out' ≡ out) → Serves volume told t u out' command found source_fails kind bytes → Serves volume told s u out command found source_fails kind bytes
-  serves_from kind bytes free looks pass then is serves = record {
+  pub serves_from : (kind : Kind) (n : ℕ) (bytes : List ℕ) → (volume → IsFree s) → (volume → Looks s t) → Passes s t → Passes t u → (volume → out' ≡ out) → Serves volume told t u out' command found source_fails kind n bytes → Serves volume told s u out command found source_fails kind n bytes
+  serves_from kind n bytes free looks pass then is serves = record {
     stops = λ v.
         joined s t u (MayStand told s.held out (BelowCount s.faults u.faults) kind)
         (weaker s t (StandsFor s.held) (MayStand told s.held out (BelowCount s.faults u.faults) kind) (λ d standing. inl standing) (looks_go s t (free v) (looks v)))
@@ -188,8 +199,65 @@ module _ (volume told : Type 0) (s t u : State) (out out' : Outcome) (command : 
     reads = λ v. reads_as volume told out out' of_told is s.held kind u.held (subst (λ (F : Map). SettledReads told F out' kind u.held) (looks v).stays.held (serves.reads v));
     cleans = λ v. cleans_from s t u pass kind (serves.cleans v);
     caused = licensed_from volume told s t u out out' source_fails of_told is pass then kind serves.caused;
-    suspends = suspends_as volume told out out' of_told is kind serves.suspends;
     answers = serves.answers;
-    built = serves.built;
-    log = says_as volume told out out' of_told is found found (λ x found_is. found_is) (walks (Ok command)) kind bytes serves.log;
+    begins = begins_as volume told out out' of_told is n kind serves.begins;
+    log = says_as volume told out out' of_told is found found (λ x found_is. found_is) (walks (Ok command)) n kind bytes serves.log;
+  }
+
+-- ---- the source fails, where it failed in a later step
+
+module _ (volume told : Type 0) (out : Outcome) (x y : Type 0) (f : x → y) where
+  refusal_on : (v : Type 0) (cause : Cause) → CausedRefusal volume told out v x cause → CausedRefusal volume told out v y cause
+  refusal_on v VolumeFault c = c
+  refusal_on v SourceFault c = f c
+  refusal_on v (BadRollback name) c = c
+  refusal_on v (RecoveryFull name) c = c
+  refusal_on v (BadImage name) c = c
+  refusal_on v other c = c
+
+  met_on : (fell : Type 0) (cause : Cause) → Met told out fell x cause → Met told out fell y cause
+  met_on fell VolumeFault met = met
+  met_on fell SourceFault met = f met
+  met_on fell (Table fault) met = met
+  met_on fell (Launch text) met = met
+  met_on fell (ErrorAction action text) met = met
+  met_on fell other met = absurd met
+
+  met_at_on : (fell : Type 0) (place : Place) (why : Option Cause) → MetAt place told out fell x why → MetAt place told out fell y why
+  met_at_on fell InRollback (Some cause) met = met_on fell cause met
+  met_at_on fell InRollback None met = absurd met
+  met_at_on fell InCommit why met = met
+
+  caused_on : (n m : ℕ) (v : Type 0) (kind : Kind) → Caused n m volume told out v x kind → Caused n m volume told out v y kind
+  caused_on n m v Done c = c
+  caused_on n m v Listed c = c
+  caused_on n m v (Recovered settled) c = c
+  caused_on n m v (Refused cause) c = refusal_on v cause c
+  caused_on n m v (Suspended pause) c = record { entry = c.entry; between = c.between; exit = c.exit; rose = c.rose; met = met_at_on (BelowCount pause.begun pause.again) pause.place pause.why c.met }
+  caused_on n m v NoMemory c = c
+
+  full_pause_on : (place : Place) (why : Option Cause) → IsPausedFull told out x place why → IsPausedFull told out y place why
+  full_pause_on InRollback (Some cause) is = met_on (Unit {0}) cause is
+  full_pause_on InRollback None is = absurd is
+  full_pause_on InCommit why is = absurd is
+
+  full_kind_on : (kind : Kind) → IsFullKind told out x kind → IsFullKind told out y kind
+  full_kind_on Done is = is
+  full_kind_on Listed is = is
+  full_kind_on (Recovered settled) is = is
+  full_kind_on (Refused VolumeFault) is = is
+  full_kind_on (Refused other) is = absurd is
+  full_kind_on (Suspended pause) is = full_pause_on pause.place pause.why is
+  full_kind_on NoMemory is = is
+
+  pub fails_on : (s u : State) (command : Command) (found : Settled → Type 0) (kind : Kind) (n : ℕ) (bytes : List ℕ) → Serves volume told s u out command found x kind n bytes → Serves volume told s u out command found y kind n bytes
+  fails_on s u command found kind n bytes serves = record {
+    stops = serves.stops;
+    leaves = serves.leaves;
+    reads = serves.reads;
+    cleans = serves.cleans;
+    caused = ⊎_elim (λ full. inl (record { limited = full.limited; walks = full.walks; is = full_kind_on kind full.is })) (λ c. inr (caused_on s.faults u.faults (Rose s u) kind c)) serves.caused;
+    answers = serves.answers;
+    begins = serves.begins;
+    log = serves.log;
   }

@@ -1,5 +1,5 @@
 -- Answers of a run that wrote nothing to its settled volume.
-use Rattle.std.proofs.Common.{◌≡◌, ◌⊎◌, inl, inr, ⊎_elim, ℕ, Bool, List, Ok, refl, sym, subst, ◌∙◌}
+use Rattle.std.proofs.Common.{◌≡◌, ◌⊎◌, inl, inr, ⊎_elim, ℕ, arith, Bool, List, Ok, refl, sym, subst, ◌∙◌}
 use Rattle.std.proofs.Math.Seq.{take-length}
 use Rattle.std.specs.Prelude.{length}
 use Rattle.mi_text.specs.declared.answers.Settled.{Settled}
@@ -16,11 +16,10 @@ use Rattle.mi_model.specs.Leaves.{MayStand, AtExit, Cleans}
 use Rattle.mi_model.specs.Logs.{IsLog}
 use Rattle.mi_model.specs.PackageOutcome.{Outcome}
 use Rattle.mi_model.specs.Words.{Command, Package, Selftest, Clients, Products, Recover, walks}
-use Rattle.mi_engine.specs.Answers.{Suspends, IsBuiltKind}
+use Rattle.mi_engine.specs.Answers.{Begins}
 use Rattle.mi_engine.specs.declared.reply.Reply.{Reply}
-use Rattle.mi_engine.specs.Ends as ends
 use Rattle.mi_engine.specs.Looks.{Looks}
-use Rattle.mi_engine.specs.Replies.{log_in, log_of, IsFront, Says, SettledReads, Serves}
+use Rattle.mi_engine.specs.Replies.{log_in, log_of, IsFront, WantsMemory, Says, SettledReads, Serves}
 use Rattle.mi_engine.proofs.EndLemmas.{free_looks, looks_go, looks_leave, looks_read}
 
 -- an answer behind which the volume is as it was
@@ -62,14 +61,6 @@ quiet_cleans s t (Refused other) quiet free = inl free
 quiet_cleans s t (Suspended pause) quiet free = absurd quiet
 quiet_cleans s t NoMemory quiet free = tt
 
-quiet_suspends : (told : Type 0) (out : Outcome) (kind : Kind) → IsQuiet kind → Suspends told out kind
-quiet_suspends told out Done quiet = tt
-quiet_suspends told out Listed quiet = tt
-quiet_suspends told out (Recovered settled) quiet = tt
-quiet_suspends told out (Refused cause) quiet = tt
-quiet_suspends told out (Suspended pause) quiet = absurd quiet
-quiet_suspends told out NoMemory quiet = tt
-
 pub answers_memory : (command : Command) → AnswersCommand command NoMemory
 answers_memory (Package recorded folder words) = tt
 answers_memory (Selftest files words) = tt
@@ -77,29 +68,9 @@ answers_memory Clients = tt
 answers_memory Products = tt
 answers_memory Recover = tt
 
--- what is left by a run that writes and ends so
-ends_exit : (F A : Map) (kind : Kind) → IsQuiet kind → (d : Map) → StandsFor F d → ends.AtExit F A kind d
-ends_exit F A Done quiet d is = absurd quiet
-ends_exit F A Listed quiet d is = is
-ends_exit F A (Recovered settled) quiet d is = is
-ends_exit F A (Refused cause) quiet d is = is
-ends_exit F A (Suspended pause) quiet d is = absurd quiet
-ends_exit F A NoMemory quiet d is = is
-
-ends_reads : (F A : Map) (kind : Kind) → IsQuiet kind → (m : Map) → m ≡ F → ends.Reads F A kind m
-ends_reads F A Done quiet m is = absurd quiet
-ends_reads F A Listed quiet m is = is
-ends_reads F A (Recovered settled) quiet m is = is
-ends_reads F A (Refused cause) quiet m is = is
-ends_reads F A (Suspended pause) quiet m is = absurd quiet
-ends_reads F A NoMemory quiet m is = tt
-
-pub quiet_ends : (s t : State) (A : Map) (kind : Kind) → IsQuiet kind → IsFree s → Looks s t → ends.Ends s.faults s t s.held A kind
-quiet_ends s t A kind quiet free looks = record {
-  stops = weaker s t (StandsFor s.held) (ends.Allowed s.held A (BelowCount s.faults t.faults) kind) (λ d is. inl is) (looks_go s t free looks);
-  leaves = λ d image. ends_exit s.held A kind quiet d (looks_leave s t free looks d image);
-  reads = ends_reads s.held A kind quiet (outside t.held) (looks_read s t free looks);
-}
+-- no action is begun
+pub memory_begins : (out : Outcome) → Begins out 0 NoMemory
+memory_begins out = record { own = λ own. absurd own; most = omega arith }
 
 -- ---- logs
 
@@ -117,25 +88,25 @@ module _ (volume told : Type 0) (found : Settled → Type 0) (says : Bool) (out 
   memory_log settled is = record { settled = settled; begun = out.begun; tells = is; begins = λ t. refl; is = refl }
 
 module _ (volume told : Type 0) (s t : State) (out : Outcome) (command : Command) (found : Settled → Type 0) (settled : Settled) (is_found : found settled) (source_fails : Type 0) (free : volume → IsFree s) (looks : volume → Looks s t) where
-  pub quiet_serves : (kind : Kind) (bytes : List ℕ) → IsQuiet kind → Caused s.faults t.faults volume told out (Rose s t) source_fails kind → AnswersCommand command kind → IsBuiltKind kind → Says (IsLog volume told found (walks (Ok command)) out kind 0) kind bytes → Serves volume told s t out command found source_fails kind bytes
-  quiet_serves kind bytes quiet caused answers built log = record {
+  pub quiet_serves : (kind : Kind) (bytes : List ℕ) → IsQuiet kind → Caused s.faults t.faults volume told out (Rose s t) source_fails kind → AnswersCommand command kind → (told → Begins out 0 kind) → Says (IsLog volume told found (walks (Ok command)) out kind 0) kind bytes → Serves volume told s t out command found source_fails kind 0 bytes
+  quiet_serves kind bytes quiet caused answers begins log = record {
     stops = λ v. weaker s t (StandsFor s.held) (MayStand told s.held out (BelowCount s.faults t.faults) kind) (λ d is. inl is) (looks_go s t (free v) (looks v));
     leaves = λ v d image. at_exit told s.held out kind quiet d (looks_leave s t (free v) (looks v) d image);
     reads = λ v. quiet_reads told s.held out kind quiet t.held (looks_read s t (free v) (looks v));
     cleans = λ v. quiet_cleans s t kind quiet (free_looks s t (free v) (looks v));
     caused = inr caused;
-    suspends = quiet_suspends told out kind quiet;
     answers = answers;
-    built = built;
+    begins = begins;
     log = log;
   }
 
   -- this answer with its log, or want of memory with a front of its own
-  pub replied : (kind : Kind) (log : List ℕ) (r : Reply) → IsQuiet kind → Caused s.faults t.faults volume told out (Rose s t) source_fails kind → AnswersCommand command kind → IsBuiltKind kind → IsLog volume told found (walks (Ok command)) out kind 0 log → ((r.kind ≡ kind) × (log_in r ≡ log)) ⊎ ((r.kind ≡ NoMemory) × ((x : Settled) → IsFront (log_of (walks (Ok command)) x NoMemory) (log_in r))) → Serves volume told s t out command found source_fails r.kind (log_in r)
-  replied kind log r quiet caused answers built is_log is = ⊎_elim
-      (λ e. at kind e.0 (quiet_serves kind (log_in r) quiet caused answers built (says_whole (IsLog volume told found (walks (Ok command)) out kind 0) kind (log_in r) log e.1 is_log)))
-      (λ e. at NoMemory e.0 (quiet_serves NoMemory (log_in r) tt tt (answers_memory command) tt (says_front (IsLog volume told found (walks (Ok command)) out NoMemory 0) (log_in r) (log_of (walks (Ok command)) settled NoMemory) (e.1 settled) (memory_log volume told found (walks (Ok command)) out settled is_found))))
+  pub replied : (kind : Kind) (log : List ℕ) (r : Reply) → IsQuiet kind → Caused s.faults t.faults volume told out (Rose s t) source_fails kind → AnswersCommand command kind → (told → Begins out 0 kind) → IsLog volume told found (walks (Ok command)) out kind 0 log → ((r.kind ≡ kind) × (log_in r ≡ log)) ⊎ WantsMemory (walks (Ok command)) r → r.reached ≡ 0
+      → Serves volume told s t out command found source_fails r.kind r.reached (log_in r)
+  replied kind log r quiet caused answers begins is_log is none = ⊎_elim
+      (λ e. at kind e.0 (quiet_serves kind (log_in r) quiet caused answers begins (says_whole (IsLog volume told found (walks (Ok command)) out kind 0) kind (log_in r) log e.1 is_log)))
+      (λ e. at NoMemory e.0 (quiet_serves NoMemory (log_in r) tt tt (answers_memory command) (λ t. memory_begins out) (says_front (IsLog volume told found (walks (Ok command)) out NoMemory 0) (log_in r) (log_of (walks (Ok command)) settled NoMemory) (e.1 settled) (memory_log volume told found (walks (Ok command)) out settled is_found))))
       is
     where
-      at : (k : Kind) → r.kind ≡ k → Serves volume told s t out command found source_fails k (log_in r) → Serves volume told s t out command found source_fails r.kind (log_in r)
-      at k e = subst (λ (x : Kind). Serves volume told s t out command found source_fails x (log_in r)) (sym e)
+      at : (k : Kind) → r.kind ≡ k → Serves volume told s t out command found source_fails k 0 (log_in r) → Serves volume told s t out command found source_fails r.kind r.reached (log_in r)
+      at k e serves = subst (λ (n : ℕ). Serves volume told s t out command found source_fails r.kind n (log_in r)) (sym none) (subst (λ (x : Kind). Serves volume told s t out command found source_fails x 0 (log_in r)) (sym e) serves)

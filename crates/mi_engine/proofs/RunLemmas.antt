@@ -1,5 +1,5 @@
 -- What a run leaves on any volume, by how it ends.
-use Rattle.std.proofs.Common.{◌≡◌, ◌⊎◌, inl, inr, ⊎_elim, ℕ, false, not, cond, List, Option, Some, None, Result, Ok, Err, refl, sym, ap, subst, ◌∙◌}
+use Rattle.std.proofs.Common.{◌≡◌, ◌⊎◌, inl, inr, ⊎_elim, ℕ, arith, false, not, cond, List, Option, None, Result, Ok, Err, refl, sym, ap, subst, ◌∙◌}
 use Rattle.std.specs.Prelude.{IsErr}
 use Rattle.std.specs.FinMap.{get}
 use Rattle.mi_text.specs.declared.answers.Settled.{Settled}
@@ -9,7 +9,6 @@ use Rattle.mi_volume.specs.Maps.{Map}
 use Rattle.mi_volume.specs.State.{State, GoesOn, Rose, Passes, NothingDirty}
 use Rattle.mi_volume.proofs.Moments.{started, weaker, joined}
 use Rattle.mi_source.specs.Paths.{Files}
-use Rattle.mi_schema.specs.Checks.{load_fault}
 use Rattle.mi_undo.specs.Names.{is_inside}
 use Rattle.mi_undo.specs.Notes.{Note, note_of}
 use Rattle.mi_undo.specs.Short.{IsShort}
@@ -19,8 +18,7 @@ use Rattle.mi_undo.specs.Answers.{IfBad, IfFull}
 use Rattle.mi_undo.specs.declared.fault.UndoError.{UndoError}
 use Rattle.mi_undo.specs.declared.fault.UndoError.TheVariants as undo
 use Rattle.mi_undo.proofs.StandsLemmas.{get-outside, clean_same}
-use Rattle.mi_base.specs.Machine.{Machine, machine_of}
-use Rattle.mi_base.specs.declared.answers.Fault.{Fault}
+use Rattle.mi_base.specs.Machine.{machine_of}
 use Rattle.mi_base.specs.declared.answers.Cause.{Cause}
 use Rattle.mi_base.specs.declared.answers.Cause.TheVariants.{BadWords, VolumeFault, BadRollback, RecoveryFull}
 use Rattle.mi_base.specs.declared.answers.Kind.{Kind}
@@ -29,20 +27,19 @@ use Rattle.mi_model.specs.Causes.{BelowCount, AnswersCommand, Caused}
 use Rattle.mi_model.specs.Leaves.{MayStand, AtExit, UnnotedStay, ReadsAfter, Cleans}
 use Rattle.mi_model.specs.Logs.{IsLog}
 use Rattle.mi_model.specs.Outcome.{Handed}
-use Rattle.mi_model.specs.PackageOutcome.{Outcome, only, of_loaded}
+use Rattle.mi_model.specs.PackageOutcome.{Outcome, only}
 use Rattle.mi_model.specs.PackageOutcome as o
-use Rattle.mi_model.specs.PlainOutcome.{of_package, of_command, of_machine, of_former, IsWithoutRoom, WordsComeTo}
-use Rattle.mi_model.specs.Selftest.{selftest_files}
+use Rattle.mi_model.specs.StageOutcome.{command_of, of_machine, of_former, of_words, IsWithoutRoom, ComesTo}
 use Rattle.mi_model.specs.Texts.{Text}
 use Rattle.mi_model.specs.TopCall.{handed}
 use Rattle.mi_model.specs.Words.{Command, Package, Selftest, Clients, Products, Recover, walks}
 use Rattle.mi_engine.specs.declared.reply.Reply.{Reply}
-use Rattle.mi_engine.specs.Answers.{IsTold, Suspends, IsBuiltKind}
+use Rattle.mi_engine.specs.Answers.{IsTold, Begins}
 use Rattle.mi_engine.specs.Endings.{RepliesUnsettled}
-use Rattle.mi_engine.specs.Replies.{log_in, log_of, IsFront, Replies, Says, SettledReads, Serves, IsUndecided, Leaves, Runs}
-use Rattle.mi_engine.proofs.BeforeLemmas.{may_stand_as, exit_as, reads_as, licensed_from, suspends_as, says_as, cleans_from}
+use Rattle.mi_engine.specs.Replies.{log_in, log_of, WantsMemory, Replies, Says, SettledReads, IsHanded, Serves, Leaves, Runs}
+use Rattle.mi_engine.proofs.BeforeLemmas.{may_stand_as, exit_as, reads_as, licensed_from, begins_as, says_as, cleans_from}
 use Rattle.mi_engine.proofs.EndLemmas.{below_before}
-use Rattle.mi_engine.proofs.QuietLemmas.{says_whole, says_front, memory_log, answers_memory}
+use Rattle.mi_engine.proofs.QuietLemmas.{says_whole, says_front, memory_log, memory_begins, answers_memory}
 
 pub ok_same : (r : Result Map Name) (F H : Map) → r ≡ Ok F → r ≡ Ok H → F ≡ H
 ok_same r F H is was = let both = sym is ∙ was in cc
@@ -67,40 +64,26 @@ reads_after told d0 F out (Refused other) h is = is
 reads_after told d0 F out (Suspended pause) h is = tt
 reads_after told d0 F out NoMemory h is = tt
 
--- no action is begun
-package_reached : (files : Files) (folder : Name) (m : Machine) → (of_package files folder m).reached ≡ 0
-package_reached files folder m = at (load_fault files folder) _
-  where
-    at : (fault : Option Fault) (e : o.End) → (of_loaded fault (only e)).reached ≡ 0
-    at (Some fault) e = refl
-    at None e = refl
+module _ (volume source : Type 0) (s t u : State) (files : Files) (words : List Text) (now : ℕ) (command : Command) (found : Settled) (source_fails : Type 0) (kind : Kind) (n : ℕ) (bytes : List ℕ) where
+  abbrev h : Handed
+  h = handed words files s now
 
-command_reached : (files : Files) (m : Machine) (found : Settled) (command : Command) → (of_command files m found command).reached ≡ 0
-command_reached files m found (Package recorded folder words) = package_reached files folder m
-command_reached files m found (Selftest n words) = package_reached (selftest_files n) _ m
-command_reached files m found Clients = refl
-command_reached files m found Products = refl
-command_reached files m found Recover = refl
-
-machine_reached : (files : Files) (found : Settled) (command : Command) (r : Result Machine Name) → (of_machine files found command r).reached ≡ 0
-machine_reached files found command (Ok m) = command_reached files m found command
-machine_reached files found command (Err name) = refl
-
-module _ (volume source : Type 0) (s t u : State) (files : Files) (words : List Text) (now : ℕ) (command : Command) (found : Settled) (source_fails : Type 0) (kind : Kind) (bytes : List ℕ) where
   abbrev inner : Outcome
-  inner = of_machine files found command (machine_of t.held)
+  inner = of_machine h command (machine_of t.held)
 
   abbrev told : Type 0
   told = IsTold volume source (Ok command)
 
-  same_outcome : (out : Outcome) → WordsComeTo (handed words files s now) (Ok command) out → (volume → found ≡ settled s.held) → (volume → stands s.held ≡ Ok t.held) → (volume → (name : Name) → ¬ IsShort s.capacity s.held name) → volume → inner ≡ out
-  same_outcome out comes is value room v =
-      ap (λ (x : Settled). of_former files x command (Ok t.held)) (is v) ∙ ap (of_former files (settled s.held) command) (sym (value v))
-      ∙ sym (comes.room (λ name without. room v name without.short))
+  pub is_handed : (volume → found ≡ settled s.held) → IsHanded volume h files now found
+  is_handed is = record { same_files = refl; same_now = refl; finds = λ v. sym (is v) }
+
+  same_outcome : (out : Outcome) → command_of words ≡ Ok command → ComesTo h out → (volume → stands s.held ≡ Ok t.held) → (volume → (name : Name) → ¬ IsShort s.capacity s.held name) → volume → inner ≡ out
+  same_outcome out asked comes value room v =
+      ap (of_former h command) (sym (value v)) ∙ ap (of_words h) (sym asked) ∙ sym (comes.room (λ name without. room v name without.short))
 
   pub served_runs : (volume → found ≡ settled s.held) → (volume → stands s.held ≡ Ok t.held) → (volume → (name : Name) → ¬ IsShort s.capacity s.held name) → (volume → NothingDirty s → (F : Map) → StandsFor F s.held → GoesOn s t (StandsFor F)) → Passes s t → Passes t u
-      → Serves volume told t u inner command (λ x. x ≡ found) source_fails kind bytes → (out : Outcome) → WordsComeTo (handed words files s now) (Ok command) out → Runs volume told s u out (Ok command) source_fails kind bytes
-  served_runs is value room goes pass then serves out comes = record {
+      → Serves volume told t u inner command (λ x. x ≡ found) source_fails kind n bytes → (out : Outcome) → command_of words ≡ Ok command → ComesTo h out → Runs volume told s u out (Ok command) source_fails kind n bytes
+  served_runs is value room goes pass then serves out asked comes = record {
     stops = λ v clean F stood.
         let at : t.held ≡ F = ok_same (stands s.held) t.held F (value v) stood in
         joined s t u (MayStand told F out (BelowCount s.faults u.faults) kind)
@@ -115,21 +98,19 @@ module _ (volume source : Type 0) (s t u : State) (files : Files) (words : List 
         let at : t.held ≡ F = ok_same (stands s.held) t.held F (value v) stood in
         reads_after told s.held F out kind u.held (reads_as volume told out inner (λ x. x.0) same F kind u.held (subst (λ (x : Map). SettledReads told x inner kind u.held) at (serves.reads v)));
     caused = licensed_from volume told s t u out inner source_fails (λ x. x.0) same pass then kind serves.caused;
-    suspends = suspends_as volume told out inner (λ x. x.0) same kind serves.suspends;
-    reached = λ v. inr (ap (λ (x : Outcome). x.reached) (sym (same v)) ∙ machine_reached files found command (machine_of t.held));
-    log = says_as volume told out inner (λ x. x.0) same (λ x. volume → x ≡ settled s.held) (λ x. x ≡ found) (λ x e v. e ∙ is v) (walks (Ok command)) kind bytes serves.log;
+    begins = begins_as volume told out inner (λ x. x.0) same n kind serves.begins;
+    log = says_as volume told out inner (λ x. x.0) same (λ x. volume → x ≡ settled s.held) (λ x. x ≡ found) (λ x e v. e ∙ is v) (walks (Ok command)) n kind bytes serves.log;
   }
     where
       same : volume → inner ≡ out
-      same = same_outcome out comes is value room
+      same = same_outcome out asked comes value room
 
-  pub served_leaves : (volume → stands s.held ≡ Ok t.held) → Passes s t → Serves volume told t u inner command (λ x. x ≡ found) source_fails kind bytes → Leaves volume s u (Ok command) kind
+  pub served_leaves : (volume → stands s.held ≡ Ok t.held) → Passes s t → Serves volume told t u inner command (λ x. x ≡ found) source_fails kind n bytes → Leaves volume s u (Ok command) kind
   served_leaves value pass serves = record {
     unread = λ v clean bad stood. absurd (not_bad (stands s.held) t.held bad (value v) stood);
     unread_stays = λ v bad stood. absurd (not_bad (stands s.held) t.held bad (value v) stood);
     cleans = λ v. cleans_from s t u pass kind (serves.cleans v);
     answers = serves.answers;
-    built = serves.built;
   }
 
 -- ---- a volume that isn't settled
@@ -161,12 +142,15 @@ module _ (volume source : Type 0) (s t : State) (files : Files) (words : List Te
   abbrev asked_told : Type 0
   asked_told = IsTold volume source (Ok command)
 
-  -- the refusal of a name that is read and bad
-  bad_outcome : (out : Outcome) → WordsComeTo (handed words files s now) (Ok command) out → (name : Name) → stands s.held ≡ Err name → out ≡ only (o.Refused (BadRollback name))
-  bad_outcome out comes name is = comes.room (λ other without. bad_not_short s.capacity s.held name other is without.short) ∙ ap (of_former files (settled s.held) command) is
+  abbrev asked_of : Handed
+  asked_of = handed words files s now
 
-  full_outcome : (out : Outcome) → WordsComeTo (handed words files s now) (Ok command) out → (name : Name) → IsShort s.capacity s.held name → out ≡ only (o.Refused (RecoveryFull name))
-  full_outcome out comes name short = comes.short name (record { command = command; asked = refl; short = short })
+  -- the refusal of a name that is read and bad
+  bad_outcome : (out : Outcome) → command_of words ≡ Ok command → ComesTo asked_of out → (name : Name) → stands s.held ≡ Err name → out ≡ only (o.Refused (BadRollback name))
+  bad_outcome out asked comes name is = comes.room (λ other without. bad_not_short s.capacity s.held name other is without.short) ∙ ap (of_words asked_of) asked ∙ ap (of_former asked_of command) is
+
+  full_outcome : (out : Outcome) → command_of words ≡ Ok command → ComesTo asked_of out → (name : Name) → IsShort s.capacity s.held name → out ≡ only (o.Refused (RecoveryFull name))
+  full_outcome out asked comes name short = comes.short name (record { command = command; asked = asked; short = short })
 
   before_answers : (cause : Cause) → IsEarly cause → (c : Command) → AnswersCommand c (Refused cause)
   before_answers VolumeFault is (Package recorded folder words) = tt
@@ -187,22 +171,26 @@ module _ (volume source : Type 0) (s t : State) (files : Files) (words : List Te
   before_answers other is c = absurd is
 
   -- one answer of a run whose volume isn't settled
-  unsettled_at : (e : UndoError) (kind : Kind) (bytes : List ℕ) (out : Outcome) → Unsettled volume s t e → Caused s.faults t.faults volume asked_told out (Rose s t) source_fails kind → Suspends asked_told out kind → (volume → IsUndecided kind ⊎ (out.reached ≡ 0))
-      → Says (IsLog volume asked_told (λ x. volume → x ≡ settled s.held) (walks (Ok command)) out kind 0) kind bytes → ((F d : Map) → StandsFor F d → AtExit asked_told F out kind d) → ((F : Map) → UnnotedStay s.held F t.held → ReadsAfter asked_told s.held F out kind t.held) → Runs volume asked_told s t out (Ok command) source_fails kind bytes
-  unsettled_at e kind bytes out u caused suspends reached log exit reads = record {
+  unsettled_at : (e : UndoError) (kind : Kind) (bytes : List ℕ) (out : Outcome) → Unsettled volume s t e → Caused s.faults t.faults volume asked_told out (Rose s t) source_fails kind → (asked_told → Begins out 0 kind)
+      → Says (IsLog volume asked_told (λ x. volume → x ≡ settled s.held) (walks (Ok command)) out kind 0) kind bytes → ((F d : Map) → StandsFor F d → AtExit asked_told F out kind d) → ((F : Map) → UnnotedStay s.held F t.held → ReadsAfter asked_told s.held F out kind t.held) → Runs volume asked_told s t out (Ok command) source_fails kind 0 bytes
+  unsettled_at e kind bytes out u caused begins log exit reads = record {
     stops = λ v clean F stood. weaker s t (StandsFor F) (MayStand asked_told F out (BelowCount s.faults t.faults) kind) (λ d standing. inl standing) (u.goes v clean F stood);
     leaves = λ v clean F stood d image. exit F d (u.leaves v clean F stood d image);
     reads = λ v F stood. reads F (λ ns is q outer none. u.others v F ns stood is q outer none);
     caused = inr caused;
-    suspends = suspends;
-    reached = reached;
+    begins = begins;
     log = log;
   }
 
-  memory_runs : (e : UndoError) (r : Reply) (out : Outcome) → Unsettled volume s t e → r.kind ≡ NoMemory → ((x : Settled) → IsFront (log_of (walks (Ok command)) x NoMemory) (log_in r)) → Runs volume asked_told s t out (Ok command) source_fails r.kind (log_in r)
-  memory_runs e r out u is front = subst (λ (k : Kind). Runs volume asked_told s t out (Ok command) source_fails k (log_in r)) (sym is)
-      (unsettled_at e NoMemory (log_in r) out u tt tt (λ v. inl tt)
-      (says_front (IsLog volume asked_told (λ x. volume → x ≡ settled s.held) (walks (Ok command)) out NoMemory 0) (log_in r) (log_of (walks (Ok command)) (settled s.held) NoMemory) (front (settled s.held)) (memory_log volume asked_told (λ x. volume → x ≡ settled s.held) (walks (Ok command)) out (settled s.held) (λ v. refl)))
+  at_reply : (r : Reply) (kind : Kind) (out : Outcome) → r.kind ≡ kind → r.reached ≡ 0 → Runs volume asked_told s t out (Ok command) source_fails kind 0 (log_in r) → Runs volume asked_told s t out (Ok command) source_fails r.kind r.reached (log_in r)
+  at_reply r kind out is none runs =
+      subst (λ (n : ℕ). Runs volume asked_told s t out (Ok command) source_fails r.kind n (log_in r)) (sym none)
+      (subst (λ (k : Kind). Runs volume asked_told s t out (Ok command) source_fails k 0 (log_in r)) (sym is) runs)
+
+  memory_runs : (e : UndoError) (r : Reply) (out : Outcome) → Unsettled volume s t e → WantsMemory (walks (Ok command)) r → r.reached ≡ 0 → Runs volume asked_told s t out (Ok command) source_fails r.kind r.reached (log_in r)
+  memory_runs e r out u wants none = at_reply r NoMemory out wants.0 none
+      (unsettled_at e NoMemory (log_in r) out u tt (λ t. memory_begins out)
+      (says_front (IsLog volume asked_told (λ x. volume → x ≡ settled s.held) (walks (Ok command)) out NoMemory 0) (log_in r) (log_of (walks (Ok command)) (settled s.held) NoMemory) (wants.1 (settled s.held)) (memory_log volume asked_told (λ x. volume → x ≡ settled s.held) (walks (Ok command)) out (settled s.held) (λ v. refl)))
       (λ F d standing. standing) (λ F others. tt))
 
   early_log : (cause : Cause) → IsEarly cause → (out : Outcome) → IsLog volume asked_told (λ x. volume → x ≡ settled s.held) (walks (Ok command)) out (Refused cause) 0 (log_of (walks (Ok command)) Clean (Refused cause))
@@ -217,36 +205,39 @@ module _ (volume source : Type 0) (s t : State) (files : Files) (words : List Te
   early_reads (RecoveryFull name) is out F others = tt
   early_reads other is out F others = absurd is
 
+  -- the same of a fault, and of a refusal that the outcome is
+  fault_begins : (out : Outcome) → asked_told → Begins out 0 (Refused VolumeFault)
+  fault_begins out t = record { own = λ own. absurd own; most = omega arith }
+
+  refusal_begins : (cause : Cause) (out : Outcome) → (volume → out ≡ only (o.Refused cause)) → asked_told → Begins out 0 (Refused cause)
+  refusal_begins cause out is t = record { own = λ own. sym (ap (λ (x : Outcome). x.reached) (is t.0)); most = omega arith }
+
   -- a refusal while settling, with its log, or want of memory
-  early_runs : (e : UndoError) (cause : Cause) (r : Reply) (out : Outcome) → IsEarly cause → Unsettled volume s t e → Caused s.faults t.faults volume asked_told out (Rose s t) source_fails (Refused cause) → (volume → IsUndecided (Refused cause) ⊎ (out.reached ≡ 0)) → Replies (walks (Ok command)) Clean (Refused cause) r
-      → Runs volume asked_told s t out (Ok command) source_fails r.kind (log_in r)
-  early_runs e cause r out early u caused reached is = ⊎_elim
-      (λ x. subst (λ (k : Kind). Runs volume asked_told s t out (Ok command) source_fails k (log_in r)) (sym x.0)
-      (unsettled_at e (Refused cause) (log_in r) out u caused tt reached
+  early_runs : (e : UndoError) (cause : Cause) (r : Reply) (out : Outcome) → IsEarly cause → Unsettled volume s t e → Caused s.faults t.faults volume asked_told out (Rose s t) source_fails (Refused cause) → (asked_told → Begins out 0 (Refused cause)) → Replies (walks (Ok command)) Clean (Refused cause) r
+      → Runs volume asked_told s t out (Ok command) source_fails r.kind r.reached (log_in r)
+  early_runs e cause r out early u caused begins is = ⊎_elim
+      (λ x. at_reply r (Refused cause) out x.0 is.reached
+      (unsettled_at e (Refused cause) (log_in r) out u caused begins
       (says_whole (IsLog volume asked_told (λ y. volume → y ≡ settled s.held) (walks (Ok command)) out (Refused cause) 0) (Refused cause) (log_in r) (log_of (walks (Ok command)) Clean (Refused cause)) x.1 (early_log cause early out))
       (λ F d standing. standing) (early_reads cause early out)))
-      (λ x. memory_runs e r out u x.0 x.1)
-      is
+      (λ x. memory_runs e r out u x is.reached)
+      is.answers
 
-  pub unsettled_runs : (e : UndoError) (r : Reply) → Unsettled volume s t e → RepliesUnsettled (walks (Ok command)) e r → (out : Outcome) → WordsComeTo (handed words files s now) (Ok command) out → Runs volume asked_told s t out (Ok command) source_fails r.kind (log_in r)
-  unsettled_runs undo.NoMemory r u is out comes = memory_runs undo.NoMemory r out u is.0 is.1
-  unsettled_runs undo.Fault r u is out comes = early_runs undo.Fault VolumeFault r out tt u (u.fault refl) (λ v. inl tt) is
-  unsettled_runs (undo.BadRollback name) r u is out comes =
-      early_runs (undo.BadRollback name) (BadRollback name) r out tt u (λ v. ap (λ (x : Outcome). x.end) (bad_outcome out comes name (u.bad v name refl))) (λ v. inr (ap (λ (x : Outcome). x.reached) (bad_outcome out comes name (u.bad v name refl)))) is
-  unsettled_runs (undo.Full name) r u is out comes =
-      early_runs (undo.Full name) (RecoveryFull name) r out tt u (λ v. ap (λ (x : Outcome). x.end) (full_outcome out comes name (u.full name refl))) (λ v. inr (ap (λ (x : Outcome). x.reached) (full_outcome out comes name (u.full name refl)))) is
+  pub unsettled_runs : (e : UndoError) (r : Reply) → Unsettled volume s t e → RepliesUnsettled (walks (Ok command)) e r → (out : Outcome) → command_of words ≡ Ok command → ComesTo asked_of out → Runs volume asked_told s t out (Ok command) source_fails r.kind r.reached (log_in r)
+  unsettled_runs undo.NoMemory r u is out asked comes = memory_runs undo.NoMemory r out u is.0 is.1
+  unsettled_runs undo.Fault r u is out asked comes = early_runs undo.Fault VolumeFault r out tt u (u.fault refl) (fault_begins out) is
+  unsettled_runs (undo.BadRollback name) r u is out asked comes =
+      let bad : volume → out ≡ only (o.Refused (BadRollback name)) = λ v. bad_outcome out asked comes name (u.bad v name refl) in
+      early_runs (undo.BadRollback name) (BadRollback name) r out tt u (λ v. ap (λ (x : Outcome). x.end) (bad v)) (refusal_begins (BadRollback name) out bad) is
+  unsettled_runs (undo.Full name) r u is out asked comes =
+      let full : volume → out ≡ only (o.Refused (RecoveryFull name)) = λ v. full_outcome out asked comes name (u.full name refl) in
+      early_runs (undo.Full name) (RecoveryFull name) r out tt u (λ v. ap (λ (x : Outcome). x.end) (full v)) (refusal_begins (RecoveryFull name) out full) is
 
   early_leaves : (e : UndoError) (cause : Cause) (r : Reply) → IsEarly cause → Unsettled volume s t e → Replies (walks (Ok command)) Clean (Refused cause) r → Leaves volume s t (Ok command) r.kind
-  early_leaves e cause r early u is = ⊎_elim (λ x. at (Refused cause) x.0 (refused_cleans cause early) (before_answers cause early command) (early_built cause early)) (λ x. at NoMemory x.0 tt (answers_memory command) tt) is
+  early_leaves e cause r early u is = ⊎_elim (λ x. at (Refused cause) x.0 (refused_cleans cause early) (before_answers cause early command)) (λ x. at NoMemory x.0 tt (answers_memory command)) is.answers
     where
-      at : (kind : Kind) → r.kind ≡ kind → Cleans s t kind → AnswersCommand command kind → IsBuiltKind kind → Leaves volume s t (Ok command) r.kind
-      at kind is cleans answers built = subst (λ (k : Kind). Leaves volume s t (Ok command) k) (sym is) (record { unread = u.unread; unread_stays = u.unread_stays; cleans = λ v. cleans; answers = answers; built = built })
-
-      early_built : (cause : Cause) → IsEarly cause → IsBuiltKind (Refused cause)
-      early_built VolumeFault is = tt
-      early_built (BadRollback name) is = tt
-      early_built (RecoveryFull name) is = tt
-      early_built other is = absurd is
+      at : (kind : Kind) → r.kind ≡ kind → Cleans s t kind → AnswersCommand command kind → Leaves volume s t (Ok command) r.kind
+      at kind is cleans answers = subst (λ (k : Kind). Leaves volume s t (Ok command) k) (sym is) (record { unread = u.unread; unread_stays = u.unread_stays; cleans = λ v. cleans; answers = answers })
 
       refused_cleans : (cause : Cause) → IsEarly cause → Cleans s t (Refused cause)
       refused_cleans VolumeFault is = tt
@@ -255,67 +246,67 @@ module _ (volume source : Type 0) (s t : State) (files : Files) (words : List Te
       refused_cleans other is = absurd is
 
   pub unsettled_leaves : (e : UndoError) (r : Reply) → Unsettled volume s t e → RepliesUnsettled (walks (Ok command)) e r → Leaves volume s t (Ok command) r.kind
-  unsettled_leaves undo.NoMemory r u is = subst (λ (k : Kind). Leaves volume s t (Ok command) k) (sym is.0) (record { unread = u.unread; unread_stays = u.unread_stays; cleans = λ v. tt; answers = answers_memory command; built = tt })
+  unsettled_leaves undo.NoMemory r u is = subst (λ (k : Kind). Leaves volume s t (Ok command) k) (sym is.0.0) (record { unread = u.unread; unread_stays = u.unread_stays; cleans = λ v. tt; answers = answers_memory command })
   unsettled_leaves undo.Fault r u is = early_leaves undo.Fault VolumeFault r tt u is
   unsettled_leaves (undo.BadRollback name) r u is = early_leaves (undo.BadRollback name) (BadRollback name) r tt u is
   unsettled_leaves (undo.Full name) r u is = early_leaves (undo.Full name) (RecoveryFull name) r tt u is
 
 -- ---- words that are refused
 
-module _ (volume source : Type 0) (s : State) (files : Files) (words : List Text) (now : ℕ) (source_fails : Type 0) (place : ℕ) where
+module _ (volume source : Type 0) (s : State) (files : Files) (words : List Text) (now : ℕ) (source_fails : Type 0) (place : ℕ) (bad : command_of words ≡ Err place) where
   abbrev words_told : Type 0
   words_told = IsTold volume source (Err place)
 
-  words_at : (kind : Kind) (bytes : List ℕ) (out : Outcome) → Caused s.faults s.faults volume words_told out (Rose s s) source_fails kind → Suspends words_told out kind → (volume → IsUndecided kind ⊎ (out.reached ≡ 0)) → Says (IsLog volume words_told (λ x. volume → x ≡ settled s.held) false out kind 0) kind bytes
-      → ((F d : Map) → StandsFor F d → AtExit words_told F out kind d) → ((F : Map) → ReadsAfter words_told s.held F out kind s.held) → Runs volume words_told s s out (Err place) source_fails kind bytes
-  words_at kind bytes out caused suspends reached log exit reads = record {
+  words_at : (kind : Kind) (bytes : List ℕ) (out : Outcome) → Caused s.faults s.faults volume words_told out (Rose s s) source_fails kind → (words_told → Begins out 0 kind) → Says (IsLog volume words_told (λ x. volume → x ≡ settled s.held) false out kind 0) kind bytes
+      → ((F d : Map) → StandsFor F d → AtExit words_told F out kind d) → ((F : Map) → ReadsAfter words_told s.held F out kind s.held) → Runs volume words_told s s out (Err place) source_fails kind 0 bytes
+  words_at kind bytes out caused begins log exit reads = record {
     stops = λ v clean F stood. started s (MayStand words_told F out (BelowCount s.faults s.faults) kind);
     leaves = λ v clean F stood d image. exit F d (ap stands (clean_same s s.held refl clean d image) ∙ stood);
     reads = λ v F stood. reads F;
     caused = inr caused;
-    suspends = suspends;
-    reached = reached;
+    begins = begins;
     log = log;
   }
 
-  pub words_runs : (r : Reply) → Replies false Clean (Refused (BadWords place)) r → (out : Outcome) → WordsComeTo (handed words files s now) (Err place) out → Runs volume words_told s s out (Err place) source_fails r.kind (log_in r)
+  pub words_runs : (r : Reply) → Replies false Clean (Refused (BadWords place)) r → (out : Outcome) → ComesTo (handed words files s now) out → Runs volume words_told s s out (Err place) source_fails r.kind r.reached (log_in r)
   words_runs r is out comes = ⊎_elim
       (λ x. at (Refused (BadWords place)) x.0
-      (words_at (Refused (BadWords place)) (log_in r) out (λ t. ap (λ (y : Outcome). y.end) refused) tt (λ v. inr (ap (λ (y : Outcome). y.reached) refused))
+      (words_at (Refused (BadWords place)) (log_in r) out (λ t. ap (λ (y : Outcome). y.end) refused) (λ t. record { own = λ own. sym (ap (λ (y : Outcome). y.reached) refused); most = omega arith })
       (says_whole (IsLog volume words_told (λ y. volume → y ≡ settled s.held) false out (Refused (BadWords place)) 0) (Refused (BadWords place)) (log_in r) (log_of false Clean (Refused (BadWords place))) x.1 (record { settled = Clean; begun = out.begun; tells = refl; begins = λ t. refl; is = refl }))
       (λ F d standing. standing) (λ F. tt)))
       (λ x. at NoMemory x.0
-      (words_at NoMemory (log_in r) out tt tt (λ v. inl tt)
+      (words_at NoMemory (log_in r) out tt (λ t. memory_begins out)
       (says_front (IsLog volume words_told (λ y. volume → y ≡ settled s.held) false out NoMemory 0) (log_in r) (log_of false (settled s.held) NoMemory) (x.1 (settled s.held)) (memory_log volume words_told (λ y. volume → y ≡ settled s.held) false out (settled s.held) (λ v. refl)))
       (λ F d standing. standing) (λ F. tt)))
-      is
+      is.answers
     where
-      no_command : (name : Name) → ¬ IsWithoutRoom (handed words files s now) (Err place) name
-      no_command name without = let clash : Err place ≡ Ok without.command = without.asked in cc
+      no_command : (name : Name) → ¬ IsWithoutRoom (handed words files s now) name
+      no_command name without = let clash : Err place ≡ Ok without.command = sym bad ∙ without.asked in cc
 
       refused : out ≡ only (o.Refused (BadWords place))
-      refused = comes.room no_command
+      refused = comes.room no_command ∙ ap (of_words (handed words files s now)) bad
 
-      at : (kind : Kind) → r.kind ≡ kind → Runs volume words_told s s out (Err place) source_fails kind (log_in r) → Runs volume words_told s s out (Err place) source_fails r.kind (log_in r)
-      at kind is runs = subst (λ (k : Kind). Runs volume words_told s s out (Err place) source_fails k (log_in r)) (sym is) runs
+      at : (kind : Kind) → r.kind ≡ kind → Runs volume words_told s s out (Err place) source_fails kind 0 (log_in r) → Runs volume words_told s s out (Err place) source_fails r.kind r.reached (log_in r)
+      at kind is_kind runs =
+          subst (λ (n : ℕ). Runs volume words_told s s out (Err place) source_fails r.kind n (log_in r)) (sym is.reached)
+          (subst (λ (k : Kind). Runs volume words_told s s out (Err place) source_fails k 0 (log_in r)) (sym is_kind) runs)
 
   pub words_leave : (r : Reply) → Replies false Clean (Refused (BadWords place)) r → Leaves volume s s (Err place) r.kind
-  words_leave r is = ⊎_elim (λ x. at (Refused (BadWords place)) x.0 tt (inl refl) tt) (λ x. at NoMemory x.0 tt (inr refl) tt) is
+  words_leave r is = ⊎_elim (λ x. at (Refused (BadWords place)) x.0 tt (inl refl)) (λ x. at NoMemory x.0 tt (inr refl)) is.answers
     where
-      at : (kind : Kind) → r.kind ≡ kind → Cleans s s kind → (kind ≡ Refused (BadWords place)) ⊎ (kind ≡ NoMemory) → IsBuiltKind kind → Leaves volume s s (Err place) r.kind
-      at kind is cleans answers built = subst (λ (k : Kind). Leaves volume s s (Err place) k) (sym is) (record {
+      at : (kind : Kind) → r.kind ≡ kind → Cleans s s kind → (kind ≡ Refused (BadWords place)) ⊎ (kind ≡ NoMemory) → Leaves volume s s (Err place) r.kind
+      at kind is cleans answers = subst (λ (k : Kind). Leaves volume s s (Err place) k) (sym is) (record {
         unread = λ v clean bad stood. started s (λ d. d ≡ s.held);
         unread_stays = λ v bad stood. refl;
         cleans = λ v. cleans;
         answers = answers;
-        built = built;
       })
 
 -- ---- the same, of the words
 
-pub runs_as_read : (volume source : Type 0) (s u : State) (h : Handed) (words words' : Result Command ℕ) (source_fails : Type 0) (kind : Kind) (bytes : List ℕ) → words ≡ words'
-    → ((out : Outcome) → WordsComeTo h words' out → Runs volume (IsTold volume source words') s u out words' source_fails kind bytes) → (out : Outcome) → WordsComeTo h words out → Runs volume (IsTold volume source words) s u out words source_fails kind bytes
-runs_as_read volume source s u h words words' source_fails kind bytes is runs = subst (λ (w : Result Command ℕ). (out : Outcome) → WordsComeTo h w out → Runs volume (IsTold volume source w) s u out w source_fails kind bytes) (sym is) runs
+pub runs_as_read : (volume source : Type 0) (s u : State) (out : Outcome) (words words' : Result Command ℕ) (source_fails : Type 0) (kind : Kind) (n : ℕ) (bytes : List ℕ) → words ≡ words'
+    → Runs volume (IsTold volume source words') s u out words' source_fails kind n bytes → Runs volume (IsTold volume source words) s u out words source_fails kind n bytes
+runs_as_read volume source s u out words words' source_fails kind n bytes is runs = subst (λ (w : Result Command ℕ). Runs volume (IsTold volume source w) s u out w source_fails kind n bytes) (sym is) runs
 
 pub leaves_as_read : (volume : Type 0) (s u : State) (words words' : Result Command ℕ) (kind : Kind) → words ≡ words' → Leaves volume s u words' kind → Leaves volume s u words kind
 leaves_as_read volume s u words words' kind is leaves = subst (λ (w : Result Command ℕ). Leaves volume s u w kind) (sym is) leaves

@@ -1,24 +1,34 @@
--- What the steps of a run answer.
-use Rattle.std.specs.Prelude.{◌≡◌, ℕ, List, Option, None, Some, IsNone, Result, Ok, Err, Vec}
-use Rattle.std.specs.declared.alloc.Global.{Global}
-use Rattle.std.specs.FinMap.{get, from_entries, find}
-use Rattle.mi_text.specs.Maps.{Name, Map, name_cmp}
-use Rattle.mi_volume.specs.State.{State, Rose}
+-- Why a package isn't walked over.
+use Rattle.std.specs.Prelude.{◌≡◌, ℕ, ◌==◌, Bool, true, false, not, ◌&&◌, ◌++◌, map, option_map, Option, None, Some, Result, Ok, Err, if◌then◌else◌}
+use Rattle.mi_text.specs.Maps.{Name}
+use Rattle.mi_source.specs.Paths.{Files}
+use Rattle.mi_base.specs.declared.answers.Fault.{Fault}
+use Rattle.mi_base.specs.declared.answers.Fault.TheVariants.{NotYet}
+use Rattle.mi_base.specs.declared.answers.Cause.{Cause}
+use Rattle.mi_base.specs.declared.answers.Cause.TheVariants.{SourceFault, Table, UnknownProduct}
 use Rattle.mi_schema.specs.declared.error.LoadError.{LoadError}
 use Rattle.mi_schema.specs.declared.error.LoadError.TheVariants as load
-use Rattle.mi_base.specs.declared.answers.Fault.{Fault}
-use Rattle.mi_base.specs.declared.answers.Cause.TheVariants.{VolumeFault, SourceFault, Table}
-use Rattle.mi_model.specs.Built.{Row}
+use Rattle.mi_plan.specs.declared.planned.WalkPlan.{WalkPlan}
+use Rattle.mi_plan.specs.Made.{as_planned}
+use Rattle.mi_schema.specs.Rows.{◌or_else◌}
+use Rattle.mi_model.specs.Planning.{IsPlan}
+use Rattle.mi_model.specs.World.{Given}
+use Rattle.mi_model.specs.Walk.{walk}
+use Rattle.mi_model.specs.PackageOutcome.{Outcome, Refused, only, of_walk}
+use Rattle.mi_words.specs.declared.command.PackageWords.{PackageWords}
+use Rattle.mi_words.specs.Asked.{of_words, set_by}
+use Rattle.mi_schema.specs.declared.package.Package.{Package}
+use Rattle.mi_schema.specs.RowsOf.{rows_in}
+use Rattle.mi_base.specs.Machine.{Machine}
+use Rattle.mi_model.specs.Assignments.{Assigned}
+use Rattle.mi_text.specs.PropertyNames.{is_public_name}
+use Rattle.mi_props.specs.Props.{Values, all_names}
+use Rattle.mi_model.specs.Properties.{first_properties}
+use Rattle.mi_model.specs.Settings.{is_recorded}
+use Rattle.mi_schema.specs.TableRows.{product_code}
+use Rattle.mi_model.specs.Unbuilt.{unbuilt}
 use Rattle.mi_engine.specs.declared.stop.Stop.{Stop}
 use Rattle.mi_engine.specs.declared.stop.Stop.TheVariants.{NoMemory, Refuse}
-
--- the map that the program's tree of names means
-abbrev pub map_of : {X : Type 0} → List (Name × X) → Map X
-map_of es = from_entries es
-
--- the count of the volume rose, where no capacity is told
-abbrev pub Fails : State → State → Type 0
-Fails old new = IsNone old.capacity → Rose old new
 
 -- the stop of a package that isn't loaded
 abbrev pub stop_of : LoadError → Stop
@@ -26,49 +36,75 @@ stop_of load.NoMemory = NoMemory
 stop_of load.Source = Refuse SourceFault
 stop_of (load.Table fault) = Refuse (Table fault)
 
--- why the package isn't loaded
-abbrev pub CausedStop : Type 0 → Result (List Row) Fault → Stop → Type 0
-CausedStop source loaded NoMemory = Unit {0}
-CausedStop source loaded (Refuse SourceFault) = source
-CausedStop source loaded (Refuse (Table fault)) = loaded ≡ Err fault
-CausedStop source loaded (Refuse other) = ⊥
+-- a table with so many rows, of which none is carried out
+abbrev pub counted_fault : Name × ℕ → Option Fault
+counted_fault t = if t.1 == 0 then None else Some (NotYet t.0 1)
 
--- the rows of a package, or why they aren't there
-abbrev pub Loads : Type 0 → Result (List Row) Fault → Result (Vec Row Global) Stop → Type 0
-Loads source loaded (Ok rows) = loaded ≡ Ok rows.items
-Loads source loaded (Err stop) = CausedStop source loaded stop
+-- exactly this cause, or none; want of memory alone is free
+abbrev pub Judges : {T : Type 0} → Option Cause → Result T Stop → Type 0
+Judges cause (Ok x) = cause ≡ None
+Judges cause (Err NoMemory) = Unit {0}
+Judges cause (Err (Refuse found)) = cause ≡ Some found
 
-abbrev pub IsSourceStop : Type 0 → Stop → Type 0
-IsSourceStop source NoMemory = Unit {0}
-IsSourceStop source (Refuse SourceFault) = source
-IsSourceStop source (Refuse (Table fault)) = Unit {0}
-IsSourceStop source (Refuse other) = ⊥
+-- a refusal of this cause, or want of memory
+abbrev pub Refuses : Cause → Stop → Type 0
+Refuses cause NoMemory = Unit {0}
+Refuses cause (Refuse found) = found ≡ cause
 
--- a refusal of this fault, or want of memory
-abbrev pub Refuses : Fault → Stop → Type 0
-Refuses fault NoMemory = Unit {0}
-Refuses fault (Refuse (Table found)) = found ≡ fault
-Refuses fault (Refuse other) = ⊥
+-- where the product has to be recorded and isn't
+abbrev pub unknown_product : Bool → ℕ → Option Cause
+unknown_product true code = Some (UnknownProduct (record { number = code }))
+unknown_product false code = None
 
--- over a volume a step stops for want of memory, or where the count rose
-abbrev pub IsVolumeStop : Type 0 → Stop → Type 0
-IsVolumeStop volume NoMemory = Unit {0}
-IsVolumeStop volume (Refuse VolumeFault) = volume
-IsVolumeStop volume (Refuse other) = ⊥
+-- ---- up to the walk
 
--- the first of two
-abbrev pub or_else : {X : Type 0} → Option X → Option X → Option X
-or_else None y = y
-or_else (Some x) y = Some x
+-- the properties that a package is run with
+abbrev pub sets_of : PackageWords → Assigned
+sets_of asked = of_words asked.words ++ set_by asked.sets
 
--- these names have the records of the plan, and the others what they had
-abbrev pub Overlays : Map (List ℕ) → Map (List ℕ) → Map (List ℕ) → Type 0
-Overlays plan old new = (q : Name) → get new q ≡ or_else (get plan q) (get old q)
+-- they are public
+abbrev pub ArePublic : PackageWords → Type 0
+ArePublic asked = all_names is_public_name (sets_of asked) ≡ true
 
--- the first value under a name
-abbrev pub first_under : {X : Type 0} → Name → List (Name × X) → Option X
-first_under q es = find name_cmp q es
+-- a walk is over this package, this former machine, these words, and this moment
+pub record IsOver (g : Given) (loaded : Package) (m : Machine) (asked : PackageWords) (now : ℕ) : Type 0 where
+  pub rows : rows_in loaded ≡ g.rows
+  pub former : m ≡ g.former
+  pub folder : asked.folder.now ≡ g.folder
+  pub words : sets_of asked ≡ g.words
+  pub moment : now ≡ g.now
 
--- these entries stand behind those that are there
-abbrev pub Adds : List (Name × List ℕ) → Map (List ℕ) → Map (List ℕ) → Type 0
-Adds es old new = (q : Name) → get new q ≡ or_else (get old q) (first_under q es)
+-- why a package isn't walked over: the outcome is that refusal alone, or the source failed; `source` says that the source is told
+abbrev pub CausedStop : Type 0 → Type 0 → Outcome → Stop → Type 0
+CausedStop source source_fails out NoMemory = Unit {0}
+CausedStop source source_fails out (Refuse SourceFault) = source_fails
+CausedStop source source_fails out (Refuse (Table fault)) = source → out ≡ only (Refused (Table fault))
+CausedStop source source_fails out (Refuse (UnknownProduct code)) = source → out ≡ only (Refused (UnknownProduct code))
+CausedStop source source_fails out (Refuse other) = ⊥
+
+-- the whole walk is planned, and the outcome is its own
+pub record IsPlanned (files : Files) (g : Given) (out : Outcome) (plan : WalkPlan) : Type 0 where
+  pub is : out ≡ of_walk None (walk g)
+  pub whole : IsPlan files (walk g) plan.begun.items (map as_planned plan.segments.items) plan.refusal
+
+abbrev pub Prepares : Type 0 → Type 0 → Files → Given → Outcome → Result WalkPlan Stop → Type 0
+Prepares source source_fails files g out (Ok plan) = source → IsPlanned files g out plan
+Prepares source source_fails files g out (Err stop) = CausedStop source source_fails out stop
+
+-- ---- a loaded package
+
+-- why a package isn't walked over, in the order in which that is asked
+abbrev pub first_cause : Bool → Given → Option Cause
+first_cause recorded g = option_map Table (unbuilt g.rows) or_else unknown_product (recorded && not (is_recorded g.rows g.former)) (product_code g.rows)
+
+-- the properties before any action, or exactly that cause; want of memory alone is free
+abbrev pub Readies : Bool → Given → Result Values Stop → Type 0
+Readies recorded g (Ok props) = (first_cause recorded g ≡ None) × (props ≡ first_properties g)
+Readies recorded g (Err NoMemory) = Unit {0}
+Readies recorded g (Err (Refuse cause)) = first_cause recorded g ≡ Some cause
+
+-- the plan of the whole walk, or exactly that cause
+abbrev pub Walks : Files → Bool → Given → Result WalkPlan Stop → Type 0
+Walks files recorded g (Ok plan) = (first_cause recorded g ≡ None) × IsPlan files (walk g) plan.begun.items (map as_planned plan.segments.items) plan.refusal
+Walks files recorded g (Err NoMemory) = Unit {0}
+Walks files recorded g (Err (Refuse cause)) = first_cause recorded g ≡ Some cause

@@ -1,11 +1,8 @@
 pub mod Answers
 pub mod Asked
 pub mod Calls
-pub mod Changes
 pub mod Codes
 pub mod Endings
-pub mod Ends
-pub mod Falls
 pub mod Looks
 pub mod Replies
-pub mod Rows
+pub mod Walks

@@ -1,31 +1,31 @@
 -- What a command answers and leaves, with its log.
-use Rattle.std.specs.Prelude.{◌≡◌, ◌≢◌, ◌⊎◌, ℕ, Bool, false, true, List, [], ◌++◌, take, Result, Ok, Err}
+use Rattle.std.specs.Prelude.{◌≡◌, ◌≢◌, ◌⊎◌, ℕ, Bool, false, List, [], take, Result, Ok, Err}
 use Rattle.mi_text.specs.declared.answers.Settled.{Settled}
 use Rattle.mi_volume.specs.Maps.{Map}
 use Rattle.mi_volume.specs.State.{State, GoesOn, NothingDirty, Rose}
+use Rattle.mi_source.specs.Paths.{Files}
 use Rattle.mi_undo.specs.Stands.{stands, settled, outside}
 use Rattle.mi_undo.specs.Keeps.{Each}
 use Rattle.mi_base.specs.Machine.{Machine, volume_of}
-use Rattle.mi_base.specs.declared.answers.Cause.TheVariants.{VolumeFault}
 use Rattle.mi_base.specs.declared.answers.Kind.{Kind}
 use Rattle.mi_base.specs.declared.answers.Kind.TheVariants.{Done, Listed, Recovered, Refused, Suspended, NoMemory}
-use Rattle.mi_image.specs.Items.{Items, machine_over}
 use Rattle.mi_model.specs.Causes.{BelowCount, AnswersCommand, AnswersWords, Caused}
 use Rattle.mi_model.specs.Leaves.{MayStand, AtExit, ReadsAfter, Cleans}
-use Rattle.mi_model.specs.Listings.{products_text_of}
 use Rattle.mi_model.specs.Logs.{IsLog}
+use Rattle.mi_model.specs.Outcome.{Handed}
 use Rattle.mi_model.specs.PackageOutcome.{Outcome}
 use Rattle.mi_model.specs.PackageOutcome as o
 use Rattle.mi_model.specs.Report.{report_of}
 use Rattle.mi_model.specs.Words.{Command, walks}
+use Rattle.mi_report.specs.WalkLogs.{log_text}
 use Rattle.mi_engine.specs.declared.reply.Reply.{Reply}
-use Rattle.mi_engine.specs.Answers.{MeetsFull, Suspends, IsBuiltKind}
+use Rattle.mi_engine.specs.Answers.{MeetsFull, Begins}
 
 -- ---- logs
 
 -- the whole log of a reply
 abbrev pub log_in : Reply → List ℕ
-log_in r = r.front ++ r.line.now
+log_in r = log_text r.log
 
 -- the log of an answer, without begun actions
 abbrev pub log_of : Bool → Settled → Kind → List ℕ
@@ -35,13 +35,19 @@ log_of says settled kind = report_of kind settled says [] 0
 abbrev pub IsFront : List ℕ → List ℕ → Type 0
 IsFront text bytes = (n : ℕ) × (bytes ≡ take n text)
 
--- this answer with its log, or want of memory with a front of its log, whatever settling found
-abbrev pub Replies : Bool → Settled → Kind → Reply → Type 0
-Replies says settled kind r = ((r.kind ≡ kind) × (log_in r ≡ log_of says settled kind)) ⊎ ((r.kind ≡ NoMemory) × ((found : Settled) → IsFront (log_of says found NoMemory) (log_in r)))
+-- want of memory with a front of its log, whatever settling found
+abbrev pub WantsMemory : Bool → Reply → Type 0
+WantsMemory says r = (r.kind ≡ NoMemory) × ((found : Settled) → IsFront (log_of says found NoMemory) (log_in r))
 
--- the listing of an image's products, or want of memory
-abbrev pub Lists : Items → Reply → Type 0
-Lists image r = ((r.kind ≡ Listed) × ((held files : Map) → log_in r ≡ products_text_of (machine_over held files image))) ⊎ ((r.kind ≡ NoMemory) × ((found : Settled) → IsFront (log_of false found NoMemory) (log_in r)))
+-- this answer with its log, or want of memory; no action is begun
+pub record Replies (says : Bool) (settled : Settled) (kind : Kind) (r : Reply) : Type 0 where
+  pub answers : ((r.kind ≡ kind) × (log_in r ≡ log_of says settled kind)) ⊎ WantsMemory says r
+  pub reached : r.reached ≡ 0
+
+-- a listing, or want of memory
+pub record Lists (text : List ℕ) (r : Reply) : Type 0 where
+  pub answers : ((r.kind ≡ Listed) × (log_in r ≡ text)) ⊎ WantsMemory false r
+  pub reached : r.reached ≡ 0
 
 -- These bytes are a log of the answer, or a front of one where memory was wanted.
 pub record Says (is_log : List ℕ → Type 0) (kind : Kind) (bytes : List ℕ) : Type 0 where
@@ -50,11 +56,13 @@ pub record Says (is_log : List ℕ → Type 0) (kind : Kind) (bytes : List ℕ) 
   pub whole : kind ≢ NoMemory → bytes ≡ log
   pub front : IsFront log bytes
 
--- the log of a run that has written its plan, where settling found this
-abbrev pub WriteLogs : Settled → Kind → List ℕ → Type 0
-WriteLogs found kind bytes = Says (λ log. log ≡ log_of true found kind) kind bytes
-
 -- ---- a command on a settled volume
+
+-- what a run is handed beside its volume: the source's files, the moment, and what settling found of the volume
+pub record IsHanded (volume : Type 0) (h : Handed) (files : Files) (now : ℕ) (found : Settled) : Type 0 where
+  pub same_files : h.files ≡ files
+  pub same_now : h.now ≡ now
+  pub finds : volume → settled h.held ≡ found
 
 -- what reads give behind it, where F was held
 abbrev pub SettledReads : Type 0 → Map → Outcome → Kind → Map → Type 0
@@ -67,24 +75,17 @@ SettledReads told F out NoMemory h = Unit {0}
 
 -- What a command leaves on a volume that is settled. `volume` says that the volume tells what it holds, `told` that it does, and the source
 -- too where the command looks at it, and `source_fails` that the source's count rose.
-pub record Serves (volume told : Type 0) (old new : State) (out : Outcome) (command : Command) (found : Settled → Type 0) (source_fails : Type 0) (kind : Kind) (bytes : List ℕ) : Type 0 where
+pub record Serves (volume told : Type 0) (old new : State) (out : Outcome) (command : Command) (found : Settled → Type 0) (source_fails : Type 0) (kind : Kind) (reached : ℕ) (bytes : List ℕ) : Type 0 where
   pub stops : volume → GoesOn old new (MayStand told old.held out (BelowCount old.faults new.faults) kind)
   pub leaves : volume → Each new (AtExit told old.held out kind)
   pub reads : volume → SettledReads told old.held out kind new.held
   pub cleans : volume → Cleans old new kind
-  pub caused : MeetsFull told old out kind ⊎ Caused old.faults new.faults volume told out (Rose old new) source_fails kind
-  pub suspends : Suspends told out kind
+  pub caused : MeetsFull told old out source_fails kind ⊎ Caused old.faults new.faults volume told out (Rose old new) source_fails kind
   pub answers : AnswersCommand command kind
-  pub built : IsBuiltKind kind
-  pub log : Says (IsLog volume told found (walks (Ok command)) out kind 0) kind bytes
+  pub begins : told → Begins out reached kind
+  pub log : Says (IsLog volume told found (walks (Ok command)) out kind reached) kind bytes
 
 -- ---- a run on any volume
-
--- the answers of a run that may have ended before it is known what it comes to
-abbrev pub IsUndecided : Kind → Type 0
-IsUndecided (Refused VolumeFault) = Unit {0}
-IsUndecided NoMemory = Unit {0}
-IsUndecided other = ⊥
 
 -- What a run leaves, whatever it comes to.
 pub record Leaves (volume : Type 0) (old new : State) (words : Result Command ℕ) (kind : Kind) : Type 0 where
@@ -92,14 +93,12 @@ pub record Leaves (volume : Type 0) (old new : State) (words : Result Command �
   pub unread_stays : volume → (bad : List ℕ) → stands old.held ≡ Err bad → new.held ≡ old.held
   pub cleans : volume → Cleans old new kind
   pub answers : AnswersWords words kind
-  pub built : IsBuiltKind kind
 
--- What a run leaves that comes to this outcome; no action is begun.
-pub record Runs (volume told : Type 0) (old new : State) (out : Outcome) (words : Result Command ℕ) (source_fails : Type 0) (kind : Kind) (bytes : List ℕ) : Type 0 where
+-- What a run leaves that comes to this outcome.
+pub record Runs (volume told : Type 0) (old new : State) (out : Outcome) (words : Result Command ℕ) (source_fails : Type 0) (kind : Kind) (reached : ℕ) (bytes : List ℕ) : Type 0 where
   pub stops : volume → NothingDirty old → (F : Map) → stands old.held ≡ Ok F → GoesOn old new (MayStand told F out (BelowCount old.faults new.faults) kind)
   pub leaves : volume → NothingDirty old → (F : Map) → stands old.held ≡ Ok F → Each new (AtExit told F out kind)
   pub reads : volume → (F : Map) → stands old.held ≡ Ok F → ReadsAfter told old.held F out kind new.held
-  pub caused : MeetsFull told old out kind ⊎ Caused old.faults new.faults volume told out (Rose old new) source_fails kind
-  pub suspends : Suspends told out kind
-  pub reached : volume → IsUndecided kind ⊎ (out.reached ≡ 0)
-  pub log : Says (IsLog volume told (λ s. volume → s ≡ settled old.held) (walks words) out kind 0) kind bytes
+  pub caused : MeetsFull told old out source_fails kind ⊎ Caused old.faults new.faults volume told out (Rose old new) source_fails kind
+  pub begins : told → Begins out reached kind
+  pub log : Says (IsLog volume told (λ s. volume → s ≡ settled old.held) (walks words) out kind reached) kind bytes

@@ -3,7 +3,7 @@
 ghost use Rattle.std.specs.Prelude.{◌≡◌};
 ghost use Rattle.mi_text.specs.declared.answers.Settled.TheVariants.{Clean};
 ghost use Rattle.mi_engine.specs.Replies.{Replies};
-ghost use Rattle.mi_engine.specs.Endings.{kind_unscanned, kind_unloaded, RepliesUnsettled};
+ghost use Rattle.mi_engine.specs.Endings.{kind_unscanned, kind_stopped, RepliesUnsettled};
 
 use crate::reply::{Reply, logged, out_of_memory};
 use crate::stop::Stop;
@@ -42,9 +42,9 @@ pub fn unscanned(error: ImageError) -> Kind
     }
 }
 
-/// The answer of a run that didn't load its package.
-pub fn unloaded(stop: Stop) -> Kind
-    ensures { result ≡ kind_unloaded stop }
+/// The answer of a run that stops before its package is walked over.
+pub fn stopped(stop: Stop) -> Kind
+    ensures { result ≡ kind_stopped stop }
 {
     match stop {
         Stop::NoMemory => Kind::NoMemory,

@@ -2,22 +2,16 @@
 #![tactic(auto)]
 
 mod answer;
-mod carry;
-mod changes;
 mod code;
 mod ending;
-mod fall;
-mod forward;
-mod load;
 mod obey;
-mod piece;
-mod plan;
-mod planned;
+mod package;
 mod reply;
-mod rows;
 mod serve;
 mod stop;
 mod top;
+mod unbuilt;
+mod walk;
 mod words;
 
 pub use answer::Answer;

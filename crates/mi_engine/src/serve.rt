@@ -5,19 +5,20 @@ ghost use Rattle.mi_volume.specs.State.{Passes};
 ghost use Rattle.mi_source.specs.Counts.{Rose};
 ghost use Rattle.mi_undo.specs.Keeps.{IsFree};
 ghost use Rattle.mi_base.specs.Machine.{machine_of};
+ghost use Rattle.mi_model.specs.Outcome.{Handed};
 ghost use Rattle.mi_model.specs.PackageOutcome.{Outcome};
-ghost use Rattle.mi_model.specs.PlainOutcome.{of_machine, WordsComeTo};
+ghost use Rattle.mi_model.specs.StageOutcome.{ComesTo, command_of, of_machine};
 ghost use Rattle.mi_model.specs.Texts.{Text};
 ghost use Rattle.mi_model.specs.TopCall.{handed};
 ghost use Rattle.mi_model.specs.Words.{Installs};
 ghost use Rattle.mi_engine.specs.Answers.{IsTold};
-ghost use Rattle.mi_engine.specs.Asked.{asked};
-ghost use Rattle.mi_engine.specs.Replies.{Serves, Leaves, Runs, log_in};
+ghost use Rattle.mi_engine.specs.Asked.{IsPublic, asked as commanded};
+ghost use Rattle.mi_engine.specs.Replies.{IsHanded, Serves, Leaves, Runs, log_in};
 
 use crate::ending::{unscanned, unsettled};
 use crate::obey::obey;
 use crate::reply::{Reply, logged};
-use crate::words::{Command, is_install};
+use crate::words::{Asked, is_package};
 use mi_base::Settled;
 use mi_image::Image;
 use mi_source::Source;
@@ -25,42 +26,46 @@ use mi_undo::settle;
 use mi_volume::Volume;
 use std::alloc::Global;
 
-/// Settles the volume, reads its machine and carries out a command.
+/// Settles the volume, reads its machine and carries out a command, at a moment in seconds.
 pub fn serve<S: Source, V: Volume>(
     alloc: Global,
-    command: Command,
+    asked: &Asked<'_>,
+    now: u64,
     src: &mut S,
     vol: &mut V,
 ) -> Reply
-    ensures runs { (words : List Text) (now : ℕ) (out : Outcome) → WordsComeTo (handed words (S.files src.old) (V.state vol.old) now) (Ok (asked command.entry)) out
-        → Runs V.told (IsTold V.told S.told (Ok (asked command.entry))) (V.state vol.old) (V.state vol.new) out (Ok (asked command.entry)) (Rose (S.faults src.old) (S.faults src.new)) result.kind (log_in result) }
-    ensures leaves { Leaves V.told (V.state vol.old) (V.state vol.new) (Ok (asked command.entry)) result.kind }
-    ensures unread { (Installs (Ok (asked command.entry)) → ⊥) → src.new ≡ src.old }
+    requires public { IsPublic asked.now }
+    ensures runs { (words : List Text) (out : Outcome) → command_of words ≡ Ok (commanded asked.now) → ComesTo (handed words (S.files src.old) (V.state vol.old) now) out
+        → Runs V.told (IsTold V.told S.told (Ok (commanded asked.now))) (V.state vol.old) (V.state vol.new) out (Ok (commanded asked.now)) (Rose (S.faults src.old) (S.faults src.new)) result.kind result.reached (log_in result) }
+    ensures leaves { Leaves V.told (V.state vol.old) (V.state vol.new) (Ok (commanded asked.now)) result.kind }
+    ensures unread { (Installs (Ok (commanded asked.now)) → ⊥) → src.new ≡ src.old }
     ensures passes { Passes (V.state vol.old) (V.state vol.new) }
     ensures counts { S.faults src.old ≤ S.faults src.new }
 {
     match settle(alloc, vol) {
-        Ok(settled) => serve_settled(alloc, command, settled, src, vol),
-        Err(error) => unsettled(alloc, error, is_install(command)),
+        Ok(settled) => serve_settled(alloc, asked, settled, now, src, vol),
+        Err(error) => unsettled(alloc, error, is_package(asked)),
     }
 }
 
 /// Reads the machine of a settled volume and carries out a command.
 fn serve_settled<S: Source, V: Volume>(
     alloc: Global,
-    command: Command,
+    asked: &Asked<'_>,
     settled: Settled,
+    now: u64,
     src: &mut S,
     vol: &mut V,
 ) -> Reply
+    requires public { IsPublic asked.now }
     requires free { V.told → IsFree (V.state vol.old) }
-    ensures serves { Serves V.told (IsTold V.told S.told (Ok (asked command.entry))) (V.state vol.old) (V.state vol.new) (of_machine (S.files src.old) settled (asked command.entry) (machine_of (V.state vol.old).held)) (asked command.entry) (λ s. s ≡ settled) (Rose (S.faults src.old) (S.faults src.new)) result.kind (log_in result) }
-    ensures unread { (Installs (Ok (asked command.entry)) → ⊥) → src.new ≡ src.old }
+    ensures serves { (h : Handed) → IsHanded V.told h (S.files src.old) now settled → Serves V.told (IsTold V.told S.told (Ok (commanded asked.now))) (V.state vol.old) (V.state vol.new) (of_machine h (commanded asked.now) (machine_of (V.state vol.old).held)) (commanded asked.now) (λ s. s ≡ settled) (Rose (S.faults src.old) (S.faults src.new)) result.kind result.reached (log_in result) }
+    ensures unread { (Installs (Ok (commanded asked.now)) → ⊥) → src.new ≡ src.old }
     ensures passes { Passes (V.state vol.old) (V.state vol.new) }
     ensures counts { S.faults src.old ≤ S.faults src.new }
 {
     match Image::scan(alloc, vol) {
-        Ok(image) => obey(alloc, command, settled, &image, src, vol),
-        Err(error) => logged(alloc, unscanned(error), settled, is_install(command)),
+        Ok(image) => obey(alloc, asked, settled, image, now, src, vol),
+        Err(error) => logged(alloc, unscanned(error), settled, is_package(asked)),
     }
 }

@@ -13,99 +13,104 @@ ghost use Rattle.mi_model.specs.Causes.{BelowCount, SameCount, AnswersWords, Cau
 ghost use Rattle.mi_model.specs.Leaves.{MayStand, AtExit, ReadsAfter, Cleans};
 ghost use Rattle.mi_model.specs.Logs.{IsLog, WritesFront, Logs};
 ghost use Rattle.mi_model.specs.PackageOutcome.{Outcome};
-ghost use Rattle.mi_model.specs.PlainOutcome.{ComesTo};
-ghost use Rattle.mi_model.specs.PlainWords.{command_of};
+ghost use Rattle.mi_model.specs.StageOutcome.{ComesTo, command_of};
 ghost use Rattle.mi_model.specs.TopCall.{handed};
 ghost use Rattle.mi_model.specs.Words.{Installs, walks};
-ghost use Rattle.mi_engine.specs.Answers.{IsTold, IsStill, MeetsFull, Suspends, IsBuiltKind};
+ghost use Rattle.mi_engine.specs.Answers.{IsTold, IsStill, MeetsFull};
+ghost use Rattle.mi_report.specs.WalkLogs.{log_text};
 ghost use Rattle.mi_engine.specs.Replies.{Leaves, Runs, log_in};
 
 use crate::answer::Answer;
 use crate::reply::{Reply, logged};
 use crate::serve::serve;
-use crate::words::read_words;
+use crate::words::read;
 use mi_base::{Cause, Kind, Settled};
+use mi_report::Log;
 use mi_source::{Sink, Source};
 use mi_volume::Volume;
 use std::alloc::Global;
 
 /// Carries out the words of a command line on a volume, and writes the log to a sink: settles the volume, reads its
-/// machine, and then installs a package, lists the products, or is done (this project's own). `_now` is the moment in
-/// seconds that new files carry. What is told by the source, the volume and the sink is claimed where they tell it.
+/// machine, and then carries out the whole walk of a package over its InstallExecuteSequence, lists the clients or the
+/// products, or is done (Installation; Rollback Installation). `now` is the moment in seconds that new files carry. What
+/// is told by the source, the volume and the sink is claimed where they tell it.
 pub fn run<S: Source, V: Volume, K: Sink>(
     alloc: Global,
     words: &[String],
     src: &mut S,
     vol: &mut V,
     out: &mut K,
-    _now: u64,
+    now: u64,
 ) -> Answer
     // Which answers the words allow. Refused words leave both devices alone, and a command without a package the
-    // source. No refusal of a walk comes yet.
+    // source.
     ensures words { AnswersWords (command_of (texts_of words.now)) result.kind }
     ensures untouched { (place : ℕ) → command_of (texts_of words.now) ≡ Err place → vol.new ≡ vol.old }
     ensures no_package { (Installs (command_of (texts_of words.now)) → ⊥) → src.new ≡ src.old }
-    ensures only_built { IsBuiltKind result.kind }
 
     // What follows holds of each outcome that the run comes to. An answer comes only for its cause, or, on a volume that
-    // tells a capacity, where room is wanting; and a run is suspended only where its package makes a machine.
-    ensures caused { (o : Outcome) → ComesTo (handed (texts_of words.now) (S.files src.old) (V.state vol.old) _now) o
-        → MeetsFull (IsTold V.told S.told (command_of (texts_of words.now))) (V.state vol.old) o result.kind
+    // tells a capacity, where room is wanting while a walk is carried out.
+    ensures caused { (o : Outcome) → ComesTo (handed (texts_of words.now) (S.files src.old) (V.state vol.old) now) o
+        → MeetsFull (IsTold V.told S.told (command_of (texts_of words.now))) (V.state vol.old) o (Rose (S.faults src.old) (S.faults src.new)) result.kind
         ⊎ Caused (V.state vol.old).faults (V.state vol.new).faults V.told (IsTold V.told S.told (command_of (texts_of words.now))) o (volume.Rose (V.state vol.old) (V.state vol.new)) (Rose (S.faults src.old) (S.faults src.new)) result.kind }
-    ensures suspends { (o : Outcome) → ComesTo (handed (texts_of words.now) (S.files src.old) (V.state vol.old) _now) o → Suspends (IsTold V.told S.told (command_of (texts_of words.now))) o result.kind }
 
     // Where no count rises and room isn't wanting, the answer is the outcome's own, or want of memory.
-    ensures complete { (o : Outcome) → ComesTo (handed (texts_of words.now) (S.files src.old) (V.state vol.old) _now) o → V.told → SameCount (V.state vol.old).faults (V.state vol.new).faults
+    ensures complete { (o : Outcome) → ComesTo (handed (texts_of words.now) (S.files src.old) (V.state vol.old) now) o → V.told → SameCount (V.state vol.old).faults (V.state vol.new).faults
         → IsStill S.told (command_of (texts_of words.now)) (S.faults src.old) (S.faults src.new)
-        → MeetsFull (IsTold V.told S.told (command_of (texts_of words.now))) (V.state vol.old) o result.kind ⊎ Completes o result.kind result.reached }
+        → MeetsFull (IsTold V.told S.told (command_of (texts_of words.now))) (V.state vol.old) o (Rose (S.faults src.old) (S.faults src.new)) result.kind ⊎ Completes o result.kind result.reached }
 
     // What a crash leaves, at every moment of the call and at its end: the former map F, or that of the machine after.
-    ensures stops { (o : Outcome) → ComesTo (handed (texts_of words.now) (S.files src.old) (V.state vol.old) _now) o → V.told → NothingDirty (V.state vol.old) → (F : Map) → stands (V.state vol.old).held ≡ Ok F
+    ensures stops { (o : Outcome) → ComesTo (handed (texts_of words.now) (S.files src.old) (V.state vol.old) now) o → V.told → NothingDirty (V.state vol.old) → (F : Map) → stands (V.state vol.old).held ≡ Ok F
         → GoesOn (V.state vol.old) (V.state vol.new) (MayStand (IsTold V.told S.told (command_of (texts_of words.now))) F o (BelowCount (V.state vol.old).faults (V.state vol.new).faults) result.kind) }
-    ensures leaves { (o : Outcome) → ComesTo (handed (texts_of words.now) (S.files src.old) (V.state vol.old) _now) o → V.told → NothingDirty (V.state vol.old) → (F : Map) → stands (V.state vol.old).held ≡ Ok F
+    ensures leaves { (o : Outcome) → ComesTo (handed (texts_of words.now) (S.files src.old) (V.state vol.old) now) o → V.told → NothingDirty (V.state vol.old) → (F : Map) → stands (V.state vol.old).held ≡ Ok F
         → Each (V.state vol.new) (AtExit (IsTold V.told S.told (command_of (texts_of words.now))) F o result.kind) }
     ensures unread { V.told → NothingDirty (V.state vol.old) → (bad : List ℕ) → stands (V.state vol.old).held ≡ Err bad → GoesOn (V.state vol.old) (V.state vol.new) (λ d. d ≡ (V.state vol.old).held) }
 
     // What reads give after the call.
-    ensures reads { (o : Outcome) → ComesTo (handed (texts_of words.now) (S.files src.old) (V.state vol.old) _now) o → V.told → (F : Map) → stands (V.state vol.old).held ≡ Ok F → ReadsAfter (IsTold V.told S.told (command_of (texts_of words.now))) (V.state vol.old).held F o result.kind (V.state vol.new).held }
+    ensures reads { (o : Outcome) → ComesTo (handed (texts_of words.now) (S.files src.old) (V.state vol.old) now) o → V.told → (F : Map) → stands (V.state vol.old).held ≡ Ok F → ReadsAfter (IsTold V.told S.told (command_of (texts_of words.now))) (V.state vol.old).held F o result.kind (V.state vol.new).held }
     ensures unread_stays { V.told → (bad : List ℕ) → stands (V.state vol.old).held ≡ Err bad → (V.state vol.new).held ≡ (V.state vol.old).held }
     ensures clean { V.told → Cleans (V.state vol.old) (V.state vol.new) result.kind }
     ensures passes { Passes (V.state vol.old) (V.state vol.new) }
     ensures counts { S.faults src.old ≤ S.faults src.new }
-    ensures reached { (o : Outcome) → ComesTo (handed (texts_of words.now) (S.files src.old) (V.state vol.old) _now) o → (IsTold V.told S.told (command_of (texts_of words.now))) → Reaches o result.reached result.kind }
-    ensures none_begun { result.reached ≡ 0 }
+    ensures reached { (o : Outcome) → ComesTo (handed (texts_of words.now) (S.files src.old) (V.state vol.old) now) o → (IsTold V.told S.told (command_of (texts_of words.now))) → Reaches o result.reached result.kind }
 
     // The log.
-    ensures log { (o : Outcome) → ComesTo (handed (texts_of words.now) (S.files src.old) (V.state vol.old) _now) o → K.told
+    ensures log { (o : Outcome) → ComesTo (handed (texts_of words.now) (S.files src.old) (V.state vol.old) now) o → K.told
         → Logs (IsLog V.told (IsTold V.told S.told (command_of (texts_of words.now))) (λ found. V.told → found ≡ settled (V.state vol.old).held) (walks (command_of (texts_of words.now))) o result.kind result.reached) result.kind result.log_lost (K.written out.old) (K.written out.new) }
     ensures log_lost { OnTrue result.log_lost (Rose (K.faults out.old) (K.faults out.new)) }
 {
-    let reply = work(alloc, words, src, vol);
-    let log_lost = tell(out, &reply);
+    let reply = work(alloc, words, now, src, vol);
+    let log_lost = tell(out, &reply.log);
     let Reply {
         kind,
-        front: _,
-        line: _,
+        reached,
+        log: _,
     } = reply;
     Answer {
         kind,
-        reached: 0,
+        reached,
         log_lost,
     }
 }
 
-/// Does what the words ask for.
-fn work<S: Source, V: Volume>(alloc: Global, words: &[String], src: &mut S, vol: &mut V) -> Reply
-    ensures runs { (now : ℕ) (o : Outcome) → ComesTo (handed (texts_of words.now) (S.files src.old) (V.state vol.old) now) o
-        → Runs V.told (IsTold V.told S.told (command_of (texts_of words.now))) (V.state vol.old) (V.state vol.new) o (command_of (texts_of words.now)) (Rose (S.faults src.old) (S.faults src.new)) result.kind (log_in result) }
+/// Does what the words ask for, at a moment in seconds.
+fn work<S: Source, V: Volume>(
+    alloc: Global,
+    words: &[String],
+    now: u64,
+    src: &mut S,
+    vol: &mut V,
+) -> Reply
+    ensures runs { (o : Outcome) → ComesTo (handed (texts_of words.now) (S.files src.old) (V.state vol.old) now) o
+        → Runs V.told (IsTold V.told S.told (command_of (texts_of words.now))) (V.state vol.old) (V.state vol.new) o (command_of (texts_of words.now)) (Rose (S.faults src.old) (S.faults src.new)) result.kind result.reached (log_in result) }
     ensures leaves { Leaves V.told (V.state vol.old) (V.state vol.new) (command_of (texts_of words.now)) result.kind }
     ensures untouched { (place : ℕ) → command_of (texts_of words.now) ≡ Err place → vol.new ≡ vol.old }
     ensures no_package { (Installs (command_of (texts_of words.now)) → ⊥) → src.new ≡ src.old }
     ensures passes { Passes (V.state vol.old) (V.state vol.new) }
     ensures counts { S.faults src.old ≤ S.faults src.new }
 {
-    match read_words(words) {
-        Ok(command) => serve(alloc, command, src, vol),
+    match read(words) {
+        Ok(asked) => serve(alloc, &asked, now, src, vol),
         Err(place) => logged(
             alloc,
             Kind::Refused(Cause::BadWords(place)),
@@ -115,17 +120,17 @@ fn work<S: Source, V: Volume>(alloc: Global, words: &[String], src: &mut S, vol:
     }
 }
 
-/// Writes the log, up to the first piece that fails, and says whether one did.
-fn tell<K: Sink>(out: &mut K, reply: &Reply) -> bool
-    ensures written { K.told → result ≡ false → K.written out.new ≡ K.written out.old ++ log_in reply.now }
-    ensures front { K.told → WritesFront (log_in reply.now) (K.written out.old) (K.written out.new) }
+/// Writes a log, up to the first piece that fails, and says whether one did.
+fn tell<K: Sink>(out: &mut K, log: &Log) -> bool
+    ensures written { K.told → result ≡ false → K.written out.new ≡ K.written out.old ++ log_text log.now }
+    ensures front { K.told → WritesFront (log_text log.now) (K.written out.old) (K.written out.new) }
     ensures counts { K.faults out.old ≤ K.faults out.new }
     ensures failed { OnTrue result (Rose (K.faults out.old) (K.faults out.new)) }
 {
-    if write_piece(out, reply.front.as_slice()) {
+    if write_piece(out, log.front.as_slice()) {
         return true;
     }
-    write_piece(out, reply.line)
+    write_piece(out, log.line.as_slice())
 }
 
 /// Writes a piece of the log, unless it is empty, and says whether the sink failed.

@@ -1,73 +1,59 @@
 //! The words of the command line.
 
-ghost use Rattle.std.specs.Prelude.{◌≡◌, Ok, Err, MatchResult};
-ghost use Rattle.std.specs.Str.{bytes_eq};
-ghost use Rattle.mi_text.specs.Fold.{folded};
-ghost use Rattle.mi_model.specs.Assignments.{texts_of};
-ghost use Rattle.mi_model.specs.PlainWords.{command_of, install_in, alone};
-ghost use Rattle.mi_model.specs.Words.{walks};
+ghost use Rattle.std.specs.Prelude.{◌≡◌, ℕ, Result, Ok, Err, MatchResult, MatchOption};
+ghost use Rattle.mi_model.specs.Assignments.{texts_of, kept_words};
+ghost use Rattle.mi_model.specs.StageOutcome.{command_of, unless_test};
+ghost use Rattle.mi_model.specs.Words.{Command as Commanded, walks};
 ghost use Rattle.mi_engine.specs.Asked.{asked};
 
-/// What a run is asked for.
+use mi_words::{Command, PackageWords, first_kept, is_word, read_words};
+
+/// What a run is asked for, as far as it is carried out.
 #[derive(Clone, Copy)]
-pub enum Command<'a> {
-    /// The package of this folder.
-    Install(&'a str),
+pub enum Asked<'a> {
+    /// The package of a folder.
+    Package(PackageWords<'a>),
+    /// The list of the clients.
+    Clients,
     /// The list of the products.
     Products,
     /// The former machine, and nothing more.
     Recover,
 }
 
-/// What the words ask for, or the place of the first word that is refused, counted from 0; where a word is missing,
-/// the number of all words (this project's own).
-pub fn read_words(words: &[String]) -> Result<Command<'_>, u64>
-    ensures { MatchResult result (λ command. command_of (texts_of words.now) ≡ Ok (asked command)) (λ place. command_of (texts_of words.now) ≡ Err place) }
+/// What the words ask for, or the place of the first word that is refused, counted from 0 and with the dropped ones;
+/// where a word is missing, the number of all words. `/selftest` is refused (Windows Installer command-line options).
+pub fn read(words: &[String]) -> Result<Asked<'_>, u64>
+    ensures { MatchResult result (λ found. command_of (texts_of words.now) ≡ Ok (asked found)) (λ place. command_of (texts_of words.now) ≡ Err place) }
 {
-    let Some((word, rest)) = words.split_first() else {
-        return Err(0);
-    };
-    let word = word.as_str();
-    if is_word(word, "/i") {
-        folder_in(rest)
-    } else if is_word(word, "/products") {
-        nothing_in(Command::Products, rest)
-    } else if is_word(word, "/recover") {
-        nothing_in(Command::Recover, rest)
-    } else {
-        Err(0)
+    if let Some(place) = test_place(words) {
+        return Err(place);
+    }
+    match read_words(words) {
+        Ok(Command::Package(request)) => Ok(Asked::Package(request)),
+        Ok(Command::Selftest(_)) => unreachable!(),
+        Ok(Command::Clients) => Ok(Asked::Clients),
+        Ok(Command::Products) => Ok(Asked::Products),
+        Ok(Command::Recover) => Ok(Asked::Recover),
+        Err(place) => Err(place),
     }
 }
 
-/// Whether a word is this command, in either case.
-fn is_word(word: &str, command: &str) -> bool
-    ensures { result ≡ bytes_eq (folded word.now) (folded command.now) }
+/// The place of the first word that isn't dropped, where it is `/selftest`.
+fn test_place(words: &[String]) -> Option<u64>
+    ensures { (found : Result Commanded ℕ) → MatchOption result (unless_test (kept_words (texts_of words.now)) found ≡ found) (λ place. unless_test (kept_words (texts_of words.now)) found ≡ Err place) }
 {
-    word.eq_ignore_ascii_case(command)
+    let place = first_kept(words, 0)?;
+    if is_word(words[place].as_str(), "/selftest") {
+        Some(place as u64)
+    } else {
+        None
+    }
 }
 
 /// Whether a command carries out a package.
-pub fn is_install(command: Command) -> bool
-    ensures { result ≡ walks (Ok (asked command.entry)) }
+pub fn is_package(found: &Asked<'_>) -> bool
+    ensures { result ≡ walks (Ok (asked found.now)) }
 {
-    matches!(command, Command::Install(_))
-}
-
-/// The folder that stands alone behind `/i`.
-fn folder_in(rest: &[String]) -> Result<Command<'_>, u64>
-    ensures { MatchResult result (λ command. install_in (texts_of rest.now) ≡ Ok (asked command)) (λ place. install_in (texts_of rest.now) ≡ Err place) }
-{
-    match rest {
-        [] => Err(1),
-        [folder, ..] if folder.is_empty() => Err(1),
-        [folder] => Ok(Command::Install(folder.as_str())),
-        [_, _, ..] => Err(2),
-    }
-}
-
-/// A command behind which nothing stands.
-fn nothing_in<'a>(command: Command<'a>, rest: &[String]) -> Result<Command<'a>, u64>
-    ensures { MatchResult result (λ found. alone (asked command.entry) (texts_of rest.now) ≡ Ok (asked found)) (λ place. alone (asked command.entry) (texts_of rest.now) ≡ Err place) }
-{
-    if rest.is_empty() { Ok(command) } else { Err(1) }
+    matches!(found, Asked::Package(_))
 }

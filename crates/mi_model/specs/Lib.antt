@@ -1,9 +1,6 @@
-pub mod After
 pub mod Asked
 pub mod Assignments
-pub mod Built
 pub mod Causes
-pub mod Collected
 pub mod ComponentRows
 pub mod Components
 pub mod Conditions
@@ -29,9 +26,6 @@ pub mod Parents
 pub mod Patterns
 pub mod PhaseRows
 pub mod Phases
-pub mod PlainOutcome
-pub mod PlainWords
-pub mod Plan
 pub mod Planning
 pub mod Plans
 pub mod ProcessComponents
@@ -51,10 +45,12 @@ pub mod Selftest
 pub mod Sequence
 pub mod Settings
 pub mod Shortcuts
+pub mod StageOutcome
 pub mod States
 pub mod Steps
 pub mod Texts
 pub mod TopCall
+pub mod Unbuilt
 pub mod Walk
 pub mod Words
 pub mod World

@@ -1,5 +1,5 @@
 -- The clauses of the top call, over what its parameters are before and after, and the outcome that the run comes to. Each field is a
--- clause; they stand in a record, so that they are read together. The top call has them over PlainOutcome, until it walks over its sequence.
+-- clause; they stand in a record, so that they are read together. The top call has them over StageOutcome, until all tables are built.
 -- (Rollback Installation; this project's own.)
 use Rattle.std.specs.Prelude.{◌≡◌, ℕ, ◌≤◌, Bool, List, Ok, Err}
 use Rattle.std.specs.Bool.{OnTrue}

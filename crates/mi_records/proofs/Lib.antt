@@ -9,3 +9,16 @@ pub mod WriteLemmas
 pub mod PhaseLemmas
 pub mod TextLemmas
 pub mod PublishLemmas
+pub mod KeyedLemmas
+pub mod ProductLemmas
+pub mod ClientLemmas
+pub mod SeatLemmas
+pub mod BelowLemmas
+pub mod ClearLemmas
+pub mod ItemLemmas
+pub mod LessLemmas
+pub mod GuardLemmas
+pub mod RemoveLemmas
+pub mod NamedLemmas
+pub mod RemovingLemmas
+pub mod CleanLemmas

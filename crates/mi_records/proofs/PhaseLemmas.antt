@@ -109,7 +109,7 @@ ok_roots P (Err e) rows all each = tt
 
 -- ---- a phase of rows
 
-map-over : {X Y Z : Type 0} (f : Y → Z) (g : X → Y) (xs : List X) → map f (map g xs) ≡ map (λ x. f (g x)) xs
+pub map-over : {X Y Z : Type 0} (f : Y → Z) (g : X → Y) (xs : List X) → map f (map g xs) ≡ map (λ x. f (g x)) xs
 map-over f g [] = refl
 map-over f g (x ∷ xs) = ap (λ r. f (g x) ∷ r) (map-over f g xs)
 

@@ -10,7 +10,7 @@ use Rattle.mi_base.specs.Names.{product_name}
 use Rattle.mi_base.specs.Machine.{as_product}
 use Rattle.mi_source.specs.Paths.{Files}
 use Rattle.mi_changes.specs.Touches.{Set}
-use Rattle.mi_schema.specs.TableRows.{product_code}
+use Rattle.mi_schema.specs.TableRows.{Rows, product_code}
 use Rattle.mi_model.specs.World.{World, RowEffect}
 use Rattle.mi_model.specs.Asked.{chosen}
 use Rattle.mi_model.specs.PublishProduct.{product_entry, product_after, publish_product}
@@ -20,7 +20,7 @@ use Rattle.mi_steps.specs.Makes.{Makes, plan_machine}
 use Rattle.mi_steps.specs.Rows.{FollowsRows}
 use Rattle.mi_steps.proofs.RowLemmas.{rows_started, row_more, phase_planned}
 use Rattle.mi_model.specs.Plans.{Plans}
-use Rattle.mi_records.specs.Products.{recorded, product_touch, IsPublished}
+use Rattle.mi_records.specs.Products.{recorded, product_touch}
 
 no_features : (p : Product) (fs : List Name) → fs ≡ [] → recorded p fs ≡ None
 no_features p [] is = refl
@@ -47,25 +47,35 @@ module _ (held : Map (List ℕ)) (files : Files) (a b : Plan) (p : Product) wher
   pub is_recorded : (length p.features == 0) ≡ false → Makes held files a b (put_touch (product_name p.code.number) (entry.Product p) ∷ []) → Makes held files a b (product_touch p ∷ [])
   is_recorded some made = as_touch (Some (entry.Product p)) (something_recorded p p.features some) made
 
--- the codes of two records of a product
-abbrev code_of : Option Product → ℕ → ℕ
-code_of None n = n
-code_of (Some p) n = p.code.number
+-- ---- the product that is seen
 
-module _ (w : World) (p : Product) (is : IsPublished w p) where
-  code : product_code w.given.rows ≡ p.code.number
-  code = ap (λ (e : Entry). code_of (as_product (Some e)) 0) is.entry
+-- the code and the features of a record
+abbrev code_of : Option Product → ℕ
+code_of None = 0
+code_of (Some p) = p.code.number
 
-  after : (fs : List Name) → fs ≡ p.features → product_after w.given.rows fs ≡ recorded p p.features
-  after [] same = sym (no_features p p.features (sym same))
-  after (f ∷ fs) same =
-      ap (λ (gs : List Name). Some (product_entry w.given.rows gs)) same ∙ ap Some is.entry ∙ ap (λ (gs : List Name). recorded p gs) same
+abbrev features_of : Option Product → List Name
+features_of None = []
+features_of (Some p) = p.features
+
+module _ (w : World) (rows : Rows) (names : List Name) (p : Product) (same : w.given.rows ≡ rows) (those : chosen w (λ s. s.local_after) ≡ names) (is : entry.Product p ≡ product_entry rows names) where
+  code : p.code.number ≡ product_code rows
+  code = ap (λ (e : Entry). code_of (as_product (Some e))) is
+
+  listed : p.features ≡ names
+  listed = ap (λ (e : Entry). features_of (as_product (Some e))) is
+
+  after : (fs : List Name) → p.features ≡ fs → entry.Product p ≡ product_entry rows fs → product_after rows fs ≡ recorded p p.features
+  after [] f e = sym (no_features p p.features f)
+  after (g ∷ gs) f e = ap Some (sym e) ∙ sym (ap (recorded p) f)
 
   pub published : publish_product w ≡ Ok ((λ m. Ok (product_touch p ∷ [])) ∷ [])
   unfolding publish_product
   published =
-      ap (λ (o : Option Entry). Ok ((λ m. Ok (Set (product_name (product_code w.given.rows)) (λ old. o) ∷ [])) ∷ [])) (after (chosen w (λ s. s.local_after)) is.features)
-      ∙ ap (λ n. Ok ((λ m. Ok (Set (product_name n) (λ old. recorded p p.features) ∷ [])) ∷ [])) code
+      ap (λ (rs : Rows). Ok ((λ m. Ok (Set (product_name (product_code rs)) (λ old. product_after rs (chosen w (λ s. s.local_after))) ∷ [])) ∷ [])) same
+      ∙ ap (λ (fs : List Name). Ok ((λ m. Ok (Set (product_name (product_code rows)) (λ old. product_after rows fs) ∷ [])) ∷ [])) those
+      ∙ ap (λ (o : Option Entry). Ok ((λ m. Ok (Set (product_name (product_code rows)) (λ old. o) ∷ [])) ∷ [])) (after names listed is)
+      ∙ ap (λ n. Ok ((λ m. Ok (Set (product_name n) (λ old. recorded p p.features) ∷ [])) ∷ [])) (sym code)
 
   pub publishes : (held : Map (List ℕ)) (files : Files) (a b : Plan) → w.machine ≡ plan_machine held files a → Makes held files a b (product_touch p ∷ []) → Plans files publish_product w (plan_machine held files b) a.script b.script
   publishes held files a b at made =

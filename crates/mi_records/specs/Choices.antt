@@ -1,25 +1,31 @@
--- What phases ask of what an action sees. (Component Table; REINSTALLMODE Property.)
-use Rattle.std.specs.Prelude.{◌≡◌, Bool}
+-- What phases ask of what an action sees. (Component Table; Feature Table; REINSTALLMODE Property.)
+use Rattle.std.specs.Prelude.{◌≡◌, ℕ, Bool, List}
 use Rattle.mi_text.specs.Maps.{Name}
 use Rattle.mi_text.specs.Lookups.{Lookups}
 use Rattle.mi_fver.specs.declared.mode.Mode.{Mode}
 use Rattle.mi_schema.specs.declared.package.Package.{Package}
+use Rattle.mi_schema.specs.declared.typed_rows.ComponentRow.{ComponentRow}
 use Rattle.mi_schema.specs.declared.typed_rows.RegistryRow.{RegistryRow}
 use Rattle.mi_schema.specs.RowsOf.{rows_in}
 use Rattle.mi_model.specs.World.{World}
-use Rattle.mi_model.specs.Asked.{comes, leaves, keeps, lookups}
-use Rattle.mi_model.specs.ComponentRows.{is_local, has_mode}
+use Rattle.mi_model.specs.Asked.{comes, leaves, keeps, lookups, chosen}
+use Rattle.mi_model.specs.ComponentRows.{is_local, action_in, has_mode}
+use Rattle.mi_model.specs.Components.{is_made_absent}
+use Rattle.mi_model.specs.ProcessComponents.{found_path}
 use Rattle.mi_model.specs.WriteRegistryValues.{was_present}
 
--- of components by their names: which come, which leave, which are kept, which are made local and which were present; and the
--- letters of REINSTALLMODE
+-- of components by their names: which come, which leave, which are kept, which are made local or taken away, which were present, and
+-- the key paths as CostFinalize found them; the letters of REINSTALLMODE; and the features that are local after the run
 pub record Choices : Type 0 where
   pub coming : Name → Bool
   pub leaving : Name → Bool
   pub kept : Name → Bool
   pub local : Name → Bool
+  pub absent : Name → Bool
   pub present : Name → Bool
+  pub found : Name → List ℕ
   pub mode : Mode
+  pub local_after : List Name
 
 -- an action that sees this world asks so
 pub record IsAsked (L : Lookups) (c : Choices) (p : Package) (w : World) : Type 0 where
@@ -29,5 +35,8 @@ pub record IsAsked (L : Lookups) (c : Choices) (p : Package) (w : World) : Type 
   pub leaving : (name : Name) → leaves w name ≡ c.leaving name
   pub kept : (name : Name) → keeps w name ≡ c.kept name
   pub local : (name : Name) → is_local w name ≡ c.local name
+  pub absent : (name : Name) → is_made_absent (action_in w name) ≡ c.absent name
+  pub found : (r : ComponentRow) → found_path w r ≡ c.found r.component
   pub present : (r : RegistryRow) → was_present w r ≡ c.present r.component
   pub mode : (letter : Mode → Bool) → has_mode letter w ≡ letter c.mode
+  pub local_after : chosen w (λ s. s.local_after) ≡ c.local_after

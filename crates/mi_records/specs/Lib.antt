@@ -1,9 +1,11 @@
 pub mod Choices
+pub mod Clients
 pub mod Columns
 pub mod Keeps
 pub mod Meaning
 pub mod Order
 pub mod Products
+pub mod Removing
 pub mod Rows
 pub mod Stops
 pub mod Values

@@ -1,14 +1,11 @@
--- The record of a product, as a plan call is given it. (PublishProduct Action.)
-use Rattle.std.specs.Prelude.{◌≡◌, List, [], ◌∷◌, Option, Some, None}
+-- The record of a product, as a plan call makes it. (PublishProduct Action.)
+use Rattle.std.specs.Prelude.{List, [], ◌∷◌, Option, Some, None}
 use Rattle.mi_text.specs.Maps.{Name}
 use Rattle.mi_base.specs.declared.entry.Entry.{Entry}
 use Rattle.mi_base.specs.declared.entry.Entry.TheVariants as entry
 use Rattle.mi_base.specs.declared.entry.Product.{Product}
 use Rattle.mi_base.specs.Names.{product_name}
 use Rattle.mi_changes.specs.Touches.{Touch, Set}
-use Rattle.mi_model.specs.World.{World}
-use Rattle.mi_model.specs.Asked.{chosen}
-use Rattle.mi_model.specs.PublishProduct.{product_entry}
 
 -- a product is recorded while it has features
 abbrev pub recorded : Product → List Name → Option Entry
@@ -17,8 +14,3 @@ recorded p (f ∷ fs) = Some (entry.Product p)
 
 abbrev pub product_touch : Product → Touch Entry
 product_touch p = Set (product_name p.code.number) (λ old. recorded p p.features)
-
--- the record that a world publishes
-pub record IsPublished (w : World) (p : Product) : Type 0 where
-  pub entry : product_entry w.given.rows p.features ≡ entry.Product p
-  pub features : chosen w (λ s. s.local_after) ≡ p.features

@@ -28,7 +28,10 @@ use mi_steps::Plan;
 use std::alloc::Global;
 
 // The rows of Registry in key order.
-fn registry_rows(alloc: Global, loaded: &Package) -> Result<Vec<Row<'_, RegistryRow>>, NoMemory>
+pub(crate) fn registry_rows(
+    alloc: Global,
+    loaded: &Package,
+) -> Result<Vec<Row<'_, RegistryRow>>, NoMemory>
     requires { IsLawful loaded.now }
     ensures rows { IfOk result (λ rows. map as_numbered rows.items ≡ in_key_order (λ (r : RegistryRow). r.registry) (rows_in loaded.now).registry) }
     ensures roots { IfOk result (λ rows. All (λ r. IsWithin (negsuc 0) (pos 3) r.1.now.root) rows.items) }

@@ -4,8 +4,10 @@
 mod listings;
 mod log;
 mod outcome;
+mod walk;
 mod words;
 
 pub use listings::{clients_text, products_text};
 pub use log::report;
 pub use outcome::Outcome;
+pub use walk::{Log, ResultLine, WalkLog};

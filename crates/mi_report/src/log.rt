@@ -10,7 +10,8 @@ use crate::words::{push_number, push_result_line, push_shown};
 use mi_base::{Bytes, Kind, NoMemory, Settled, Text};
 use std::alloc::Global;
 
-fn push_recovered(alloc: Global, out: &mut Vec<u8>, settled: Settled) -> Result<(), NoMemory>
+/// Adds what settling found.
+pub fn push_recovered(alloc: Global, out: &mut Vec<u8>, settled: Settled) -> Result<(), NoMemory>
     ensures { OnOk result (out.new.items ≡ out.old.items ++ recovered_line settled) }
 {
     match settled {
@@ -24,7 +25,8 @@ fn push_recovered(alloc: Global, out: &mut Vec<u8>, settled: Settled) -> Result<
     }
 }
 
-fn push_action(out: &mut Vec<u8>, name: &str) -> Result<(), NoMemory>
+/// Adds the line of an action.
+pub fn push_action(out: &mut Vec<u8>, name: &str) -> Result<(), NoMemory>
     ensures { OnOk result (out.new.items ≡ out.old.items ++ action_line name.now) }
 {
     out.extend_from_slice(b"Action: ")?;

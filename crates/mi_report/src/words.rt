@@ -332,3 +332,13 @@ pub fn push_result_line(alloc: Global, out: &mut Vec<u8>, kind: &Kind) -> Result
     out.push(b'\n')?;
     Ok(())
 }
+
+/// Adds the result line of a refusal.
+pub fn push_refused_line(alloc: Global, out: &mut Vec<u8>, cause: &Cause) -> Result<(), NoMemory>
+    ensures { OnOk result (out.new.items ≡ out.old.items ++ result_line (Kind.Refused cause.now)) }
+{
+    out.extend_from_slice(b"Result: Refused")?;
+    push_cause(alloc, out, cause)?;
+    out.push(b'\n')?;
+    Ok(())
+}

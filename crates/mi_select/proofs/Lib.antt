@@ -6,3 +6,8 @@ mod LineLemmas
 pub mod RequestLemmas
 mod HolderLemmas
 mod ActionLemmas
+mod KeyPathLemmas
+mod LookLemmas
+mod OrderLemmas
+mod NameLemmas
+mod SelectLemmas

@@ -79,7 +79,7 @@ requested_is rows L recorded level mode made at_level at_mode none is =
     ∙ ap (λ (o : Option Fault). unless o (Ok (map (choice_to rows L recorded level) rows.feature, mode))) none
     ∙ ap (λ (l : List FeatureChoice). Ok (l, mode)) (sym is)
 
-abbrev answered : Rows → Lookups → Option (List Text) → Result ℕ Fault → Result Mode Fault → Option Fault → Result (List FeatureChoice × Mode) Fault
+abbrev pub answered : Rows → Lookups → Option (List Text) → Result ℕ Fault → Result Mode Fault → Option Fault → Result (List FeatureChoice × Mode) Fault
 answered rows L recorded a b o = do
   level ← a
   mode ← b

@@ -4,10 +4,10 @@ use Rattle.mi_model.specs.World as world
 use Rattle.mi_select.specs.declared.choice.Request.{Request}
 use Rattle.mi_select.specs.declared.choice.Request.TheVariants.{Local, Absent, Reinstall}
 
-abbrev pub request_as : Request → world.Request
-request_as Local = world.Local
-request_as Absent = world.Absent
-request_as Reinstall = world.Reinstall
+abbrev pub request_to : Request → world.Request
+request_to Local = world.Local
+request_to Absent = world.Absent
+request_to Reinstall = world.Reinstall
 
 abbrev pub request_from : world.Request → Request
 request_from world.Local = Local

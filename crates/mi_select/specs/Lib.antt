@@ -3,12 +3,15 @@ pub mod Answers
 pub mod Brought
 pub mod Chains
 pub mod Choices
+pub mod Chosen
 pub mod Holders
 pub mod Kept
+pub mod KeyPaths
 pub mod Levels
 pub mod Lines
 pub mod Lists
 pub mod Marks
 pub mod Records
 pub mod Requests
+pub mod Selections
 pub mod Wishes

@@ -32,7 +32,7 @@ pub struct ComponentChoice {
     pub kept: bool,
 }
 
-fn is_local(action: Option<Action>) -> bool
+pub(crate) fn is_local(action: Option<Action>) -> bool
     ensures { result ≡ is_local action }
 {
     match action {
@@ -42,7 +42,7 @@ fn is_local(action: Option<Action>) -> bool
     }
 }
 
-fn is_absent(action: Option<Action>) -> bool
+pub(crate) fn is_absent(action: Option<Action>) -> bool
     ensures { result ≡ is_absent action }
 {
     match action {

@@ -17,7 +17,7 @@ use Rattle.mi_model.specs.Sequence.{Seat, seat_cmp, seat_of, has_seat, by_seat}
 use Rattle.mi_seq.specs.Orders.{rows_at}
 use Rattle.mi_seq.specs.Seats.{Placed, placed_cmp, seated, as_there, AreSeated}
 
-seat_total : IsTotalOrder seat_cmp
+pub seat_total : IsTotalOrder seat_cmp
 seat_total = then_total (on_total (λ (s : Seat). s.0) int_cmp_total) (on_total (λ (s : Seat). s.1) nat_list_cmp_total)
 
 -- what is inserted in the tree is put among its rows
@@ -44,7 +44,7 @@ there-put s r (e ∷ es) =
 
 -- ---- one row more
 
-drop-there : {X : Type 0} (xs : List X) (k : ℕ) (x : X) → slice_get xs k ≡ Some x → drop k xs ≡ x ∷ drop (suc k) xs
+pub drop-there : {X : Type 0} (xs : List X) (k : ℕ) (x : X) → slice_get xs k ≡ Some x → drop k xs ≡ x ∷ drop (suc k) xs
 drop-there [] k x e = cc
 drop-there (y ∷ xs) zero x e = cc
 drop-there (y ∷ xs) (suc k) x e = drop-there xs k x e
@@ -82,11 +82,11 @@ seated_with rows k es r s e is at are =
 
 -- ---- all rows
 
-drop-all : {X : Type 0} (xs : List X) → drop (length xs) xs ≡ []
+pub drop-all : {X : Type 0} (xs : List X) → drop (length xs) xs ≡ []
 drop-all [] = refl
 drop-all (x ∷ xs) = drop-all xs
 
-of_length : {X : Type 0} (xs : List X) → length xs ≡ 0 → xs ≡ []
+pub of_length : {X : Type 0} (xs : List X) → length xs ≡ 0 → xs ≡ []
 of_length [] e = refl
 of_length (x ∷ xs) e = absurd (omega arith)
 

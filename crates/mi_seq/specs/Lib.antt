@@ -6,4 +6,5 @@ pub mod Stops
 pub mod Standards
 pub mod Customs
 pub mod Turns
+pub mod Launches
 pub mod Seats

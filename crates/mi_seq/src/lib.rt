@@ -5,6 +5,7 @@
 mod action;
 mod custom;
 mod error;
+mod launch;
 mod phase;
 mod places;
 mod refusal;
@@ -16,6 +17,7 @@ mod step;
 mod walk;
 
 pub use error::SeqError;
+pub use launch::launch_refusal;
 pub use phase::Phase;
 pub use places::Order;
 pub use seats::order;

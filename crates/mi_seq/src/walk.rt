@@ -73,6 +73,7 @@ fn refused_action(alloc: Global, action: &str, why: Why) -> Result<(Option<Text>
 }
 
 /// A walk over the rows of a sequence in their order.
+#[derive(Drop)]
 pub struct Walk<'a> {
     rest: &'a [usize],
     stage: Stage,

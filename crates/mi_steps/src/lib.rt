@@ -16,5 +16,6 @@ pub use applying::apply;
 pub use laws::{
     a_refused_row_refuses, a_row_joins, rows_are_planned, steps_join, steps_make_the_machine,
 };
+pub use places::Places;
 pub use plan::Plan;
-pub use seats::Tree;
+pub use seats::{Place, Tree, key_place, place_in};

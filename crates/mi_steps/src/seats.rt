@@ -75,8 +75,8 @@ fn key_in(rest: &[u8]) -> &[u8]
     }
 }
 
-// A root, a key and the backslash that ends the place of a key.
-fn key_place(alloc: Global, root: u8, key: &[u8]) -> Result<Bytes, NoMemory>
+/// The place of a key of a root in the tree of keys: the root's digit, the folded key and a backslash that ends it.
+pub fn key_place(alloc: Global, root: u8, key: &[u8]) -> Result<Bytes, NoMemory>
     ensures { IfOk result (λ place. place ≡ root ∷ key.now ++ 92 ∷ []) }
 {
     let mut place = Bytes::copy_of(alloc, &[root])?;

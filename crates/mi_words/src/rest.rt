@@ -12,6 +12,15 @@ pub struct Assignments<'a> {
     words: &'a [String],
 }
 
+impl<'a> Assignments<'a> {
+    /// The words, dropped ones among them. No memory.
+    pub fn words(&self) -> &'a [String]
+        ensures { result.now ≡ self.now.words.now }
+    {
+        self.words
+    }
+}
+
 /// The words from a place on, where all of them that aren't dropped set properties, or the place of the first that
 /// doesn't.
 pub fn assignments_in(words: &[String], from: usize) -> Result<Assignments<'_>, u64>

@@ -1,12 +1,11 @@
 -- Bounds of the lengths of names.
-use Rattle.std.proofs.Common.{◌≡◌, ℕ, ◌+◌, ◌<◌, ◌≤◌, Bool, true, false, cond, List, [], ◌∷◌, ◌++◌, length, reverse, Option, Some, None, refl, sym, ap, ◌∙◌, arith}
+use Rattle.std.proofs.Common.{◌≡◌, ℕ, ◌<◌, ◌≤◌, Bool, true, false, cond, List, [], ◌∷◌, ◌++◌, length, Option, Some, None, refl, ap, ◌∙◌, arith}
 use Rattle.std.specs.Option.{option_or}
 use Rattle.std.specs.FinMap.{get, insert, find, get-insert}
 use Rattle.std.specs.Map.{lookup}
 use Rattle.std.specs.Ordering.{nat_cmp, ord_max}
 use Rattle.std.proofs.lemmas.Bool.Decides.{nat_tests}
 use Rattle.mi_text.specs.Fold.{folded}
-use Rattle.mi_text.specs.Folded.{value_at_fold}
 use Rattle.std.proofs.lemmas.List.{reverse-append, length-map}
 use Rattle.mi_text.specs.Maps.{Name, Map, name_cmp, same_name}
 use Rattle.mi_text.proofs.MapLemmas.{names_total, from_same}

@@ -1,8 +1,8 @@
 -- The properties that directories set, and the rows of Directory.
-use Rattle.std.proofs.Common.{◌≡◌, ℕ, zero, suc, ◌+◌, ◌≤◌, Bool, true, false, cond, List, [], ◌∷◌, ◌++◌, map, length, take, drop, Option, Some, None, refl, sym, ap, ◌∙◌, add-one, arith}
+use Rattle.std.proofs.Common.{◌≡◌, ℕ, zero, suc, ◌+◌, ◌≤◌, true, false, cond, List, [], ◌∷◌, ◌++◌, map, length, take, drop, Option, Some, None, refl, sym, ap, ◌∙◌, add-one, arith}
 use Rattle.std.specs.Prelude.{slice_get, option_map}
 use Rattle.std.specs.List.{cons_option, filter_map}
-use Rattle.std.specs.FinMap.{get, entries, from_entries, get-from_entries, get-entries}
+use Rattle.std.specs.FinMap.{entries, from_entries, get-from_entries, get-entries}
 use Rattle.mi_text.specs.Maps.{Name}
 use Rattle.mi_text.specs.PropertyNames.{is_property_name}
 use Rattle.mi_text.proofs.MapLemmas.{names_total, same}

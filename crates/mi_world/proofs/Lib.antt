@@ -6,5 +6,6 @@ mod DirectoryLemmas
 mod SystemLemmas
 mod RecallLemmas
 mod CostLemmas
+pub mod AskLemmas
 pub mod LookLemmas
 pub mod WorldLemmas

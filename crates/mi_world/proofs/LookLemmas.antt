@@ -1,11 +1,9 @@
 -- What is looked up by what is kept is what the world asks for.
-use Rattle.std.proofs.Common.{◌≡◌, ℕ, ℤ, List, [], Option, Some, None, refl, sym, ap, ◌∙◌}
+use Rattle.std.proofs.Common.{◌≡◌, ℕ, List, [], Option, Some, None, refl, ap, ◌∙◌}
 use Rattle.std.specs.Prelude.{option_map, option_and_then, unwrap_or}
-use Rattle.std.specs.Option.{option_flatten}
 use Rattle.std.specs.Result.{result_ok}
 use Rattle.std.specs.FinMap.{get}
 use Rattle.mi_text.specs.Maps.{Name, Map}
-use Rattle.mi_text.specs.Lookups.{Lookups}
 use Rattle.mi_text.specs.Path.{file_of}
 use Rattle.mi_text.specs.FileNames.{long_name}
 use Rattle.mi_text.specs.declared.guid.Guid.{Guid}
@@ -17,7 +15,7 @@ use Rattle.mi_dirs.specs.Places.{Place, Folder, target_of}
 use Rattle.mi_schema.specs.declared.typed_rows.ComponentRow.{ComponentRow}
 use Rattle.mi_schema.specs.declared.typed_rows.FileRow.{FileRow}
 use Rattle.mi_schema.specs.TableRows.{Rows, component_row_of, file_row_of}
-use Rattle.mi_model.specs.World.{Given, Costed, Selection, Action}
+use Rattle.mi_model.specs.World.{Given, Costed, Selection}
 use Rattle.mi_model.specs.States.{is_present, is_present_by, installed_state, state_of}
 use Rattle.mi_model.specs.Asked.{component_folder, path_of_file, file_path, lookups_over, lookups}
 use Rattle.mi_steps.specs.declared.plan.Plan.{Plan}
@@ -27,7 +25,7 @@ use Rattle.mi_world.specs.declared.seen.Seen.{Seen}
 use Rattle.mi_world.specs.Ground.{ground}
 use Rattle.mi_world.specs.Known.{IsKnown}
 use Rattle.mi_world.specs.Places.{kept_folder, kept_path}
-use Rattle.mi_world.specs.Seen.{seen_lookups, kept_state, dirs_in, costed_of, world_over, IsPlaced, ArePlaced, AreBoth, Knows, IsOf}
+use Rattle.mi_world.specs.Seen.{seen_lookups, kept_state, dirs_in, costed_of, world_over, ArePlaced, AreBoth, Knows, IsOf}
 
 then_map : {A B C : Type 0} (f : B → Option C) (h : A → B) (o : Option A) → option_and_then f (option_map h o) ≡ option_and_then (λ a. f (h a)) o
 then_map f h None = refl
@@ -62,7 +60,7 @@ present_by_id : (g : Given) (c : Name) (o : Option Guid) → is_present_by (grou
 present_by_id g c (Some id) = refl
 present_by_id g c None = refl
 
-present_is : (g : Given) (r : ComponentRow) → is_present (ground g.rows g.former) r ≡ is_present g r
+pub present_is : (g : Given) (r : ComponentRow) → is_present (ground g.rows g.former) r ≡ is_present g r
 unfolding is_present
 present_is g r = present_by_id g r.component r.component_id
 

@@ -8,7 +8,7 @@ use Rattle.std.proofs.lemmas.List.{append-nil}
 use Rattle.std.specs.declared.cmp.Ordering.TheVariants.{Less, Equal, Greater}
 use Rattle.std.specs.Ordering.{match_ordering}
 use Rattle.std.specs.BTreeMap.{insert_entry}
-use Rattle.std.specs.FinMap.{get, insert, empty, entries, values, from_entries, entries-insert, get-from_entries, get-empty, len-entries, len-empty}
+use Rattle.std.specs.FinMap.{get, empty, entries, entries-insert, get-from_entries, get-empty, len-entries, len-empty}
 use Rattle.std.specs.FinMap as fin
 use Rattle.std.specs.FinMap.Entries.{put, by_order}
 use Rattle.mi_text.specs.Maps.{Name, Map, name_cmp, same_name, map_values}
@@ -21,7 +21,7 @@ use Rattle.mi_schema.specs.declared.typed_rows.DirectoryRow.{DirectoryRow}
 use Rattle.mi_schema.specs.TableRows.{Rows, Numbered, numbered_from, by_key, in_key_order, product_code}
 use Rattle.mi_model.specs.Remembered.{client_path, tells_folder, remembered_folder, remembered}
 use Rattle.mi_world.specs.Ground.{ground}
-use Rattle.mi_world.specs.Recall.{keyed, by_component, in_order, entry_now, AreOrdered, client_path_of, told_path, told_over, first_told, AreToldBy, folder_told, folder_row}
+use Rattle.mi_world.specs.Recall.{keyed, by_component, in_order, entry_now, AreOrdered, told_path, told_over, first_told, AreToldBy, folder_told, folder_row}
 use Rattle.mi_model.specs.World.{Given}
 use Rattle.mi_world.proofs.RowLemmas.{drop-there, drop-none, drop-behind}
 use Rattle.mi_world.proofs.DirectoryLemmas.{take-there, take-none, take-whole}

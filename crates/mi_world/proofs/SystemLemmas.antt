@@ -1,5 +1,5 @@
 -- The properties of the system by the names of an image.
-use Rattle.std.proofs.Common.{◌≡◌, ℕ, ◌&&◌, ◌||◌, ◌<◌, Bool, true, false, cond, T, List, [], ◌∷◌, ◌++◌, map, length, Option, Some, None, refl, sym, ap, ◌∙◌, eqb, eqb-true, Bor}
+use Rattle.std.proofs.Common.{◌≡◌, ℕ, ◌&&◌, ◌||◌, Bool, true, false, cond, T, List, [], ◌∷◌, map, length, Some, None, refl, sym, ap, ◌∙◌, eqb, eqb-true, Bor}
 use Rattle.std.specs.Prelude.{nat_eq, codes, filter, Result, Ok, Err, IfOk}
 use Rattle.std.proofs.lemmas.List.{length-map}
 use Rattle.mi_props.specs.declared.props.PropFault.{PropFault}
@@ -12,11 +12,10 @@ use Rattle.std.specs.FinMap as fin
 use Rattle.std.specs.FinMap.Entries.{below_all}
 use Rattle.mi_text.specs.Maps.{Name, Map, name_cmp}
 use Rattle.mi_text.proofs.MapLemmas.{same_itself, entries-map_values, keys-map_values}
-use Rattle.mi_base.specs.declared.entry.Entry.{Entry}
 use Rattle.mi_base.specs.declared.entry.Entry.TheVariants as entry
 use Rattle.mi_base.specs.Machine.{Machine}
 use Rattle.mi_base.specs.Names.{system_name}
-use Rattle.mi_base.specs.System.{default_system, is_system_property, has_system}
+use Rattle.mi_base.specs.System.{default_system, is_system_property}
 use Rattle.mi_image.specs.declared.item.Item.{Item}
 use Rattle.mi_image.specs.declared.item.Item.TheVariants.{Head, Whole}
 use Rattle.mi_image.specs.Items.{Items, machine_over, entry_over, AreRight, MayStand}

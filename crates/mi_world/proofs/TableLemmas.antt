@@ -1,5 +1,5 @@
 -- The maps that the program's trees by texts mean.
-use Rattle.std.proofs.Common.{◌≡◌, Bool, List, Option, Some}
+use Rattle.std.proofs.Common.{◌≡◌, Bool, List, Some}
 use Rattle.std.specs.Prelude.{string_bytes, String}
 use Rattle.std.specs.declared.alloc.Global.{Global}
 use Rattle.std.specs.Ordering.{nat_cmp}

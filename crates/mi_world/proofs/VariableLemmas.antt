@@ -6,7 +6,7 @@ use Rattle.std.specs.Option.{option_or}
 use Rattle.std.specs.List.{AllByRecursion, cons_option, filter_map, starts_with}
 use Rattle.std.specs.List.Sorted.{IsStrictlySortedBy}
 use Rattle.std.specs.Map.{keys_of, lookup}
-use Rattle.std.specs.Ordering.{is_eq, is_lt, nat_cmp, ordering_then}
+use Rattle.std.specs.Ordering.{is_eq, is_lt, ordering_then}
 use Rattle.std.specs.declared.cmp.Ordering.{Ordering}
 use Rattle.std.specs.declared.cmp.Ordering.TheVariants.{Less, Equal, Greater}
 use Rattle.std.specs.Cmp.{tied_itself, nat_cmp_total}
@@ -14,16 +14,14 @@ use Rattle.std.specs.FinMap.{get, keys, entries, entries_sorted, is_sorted}
 use Rattle.std.specs.FinMap.Entries.{below_all}
 use Rattle.std.proofs.lemmas.List.{take_more, map-append, append-nil}
 use Rattle.std.proofs.lemmas.List.Kept.{IsStrictlySortedBy-filter}
-use Rattle.std.proofs.lemmas.Map.Keys.{sorted_head, sorted_tail}
 use Rattle.mi_text.specs.Maps.{Name, Map, name_cmp, same_name, is_among}
 use Rattle.mi_text.specs.Fold.{folded}
 use Rattle.mi_text.specs.Folded.{KeysRise, value_at_fold}
-use Rattle.mi_text.proofs.MapLemmas.{from_same, same_itself, among-keys}
+use Rattle.mi_text.proofs.MapLemmas.{from_same, among-keys}
 use Rattle.mi_base.specs.declared.entry.Variable.{Variable}
-use Rattle.mi_base.specs.declared.entry.FileEntry.{FileEntry}
 use Rattle.mi_base.specs.declared.entry.Entry.{Entry}
 use Rattle.mi_base.specs.declared.entry.Entry.TheVariants as entry
-use Rattle.mi_base.specs.Machine.{Machine, as_variable, variable_at}
+use Rattle.mi_base.specs.Machine.{as_variable, variable_at}
 use Rattle.mi_base.specs.Names.{variable_name}
 use Rattle.mi_image.specs.declared.item.Item.{Item}
 use Rattle.mi_image.specs.declared.item.Item.TheVariants.{Head, Whole}

@@ -2,7 +2,7 @@
 use Rattle.std.specs.Prelude.{ℕ, Bool, List, [], Option, Some, None, is_some, option_map, unwrap_or}
 use Rattle.std.specs.List.{list_any}
 use Rattle.std.specs.FinMap.{empty, get}
-use Rattle.mi_text.specs.Maps.{Name, Map, is_among}
+use Rattle.mi_text.specs.Maps.{Name, Map}
 use Rattle.mi_text.specs.declared.guid.Guid.{Guid}
 use Rattle.mi_base.specs.declared.entry.Product.{Product}
 use Rattle.mi_base.specs.Machine.{Machine, client_at, product_at}

@@ -1,3 +1,4 @@
+pub mod Refusals
 pub mod Bounds
 pub mod Flags
 pub mod Variables
@@ -9,7 +10,6 @@ pub mod Directories
 pub mod Systems
 pub mod Firsts
 pub mod Recall
+pub mod Seen
 pub mod Costs
 pub mod Choices
-pub mod Never
-pub mod Seen

@@ -1,10 +1,10 @@
 -- Folders of an earlier run, as the program finds them. (Changing the Target Location for a Directory.)
-use Rattle.std.specs.Prelude.{◌≡◌, ℕ, Bool, if◌then◌else◌, List, [], ◌∷◌, map, drop, Option, Some, None, option_map, option_and_then}
+use Rattle.std.specs.Prelude.{◌≡◌, ℕ, if◌then◌else◌, List, [], ◌∷◌, map, drop, Option, None, option_map, option_and_then}
 use Rattle.std.specs.Option.{option_or}
 use Rattle.std.specs.Result.{result_ok}
 use Rattle.std.specs.Borrow.{Bor}
 use Rattle.std.specs.FinMap.{get, values, entries, from_entries}
-use Rattle.mi_text.specs.Maps.{Name, Map, name_cmp, same_name}
+use Rattle.mi_text.specs.Maps.{Name, Map, same_name}
 use Rattle.mi_text.specs.Path.{folder_of, up_to_last}
 use Rattle.mi_text.specs.declared.guid.Guid.{Guid}
 use Rattle.mi_base.specs.declared.entry.Client.{Client}

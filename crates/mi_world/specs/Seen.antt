@@ -101,6 +101,10 @@ pub record IsOf (g : Given) (s : Seen) : Type 0 where
 abbrev pub IsCosted : Seen → Type 0
 IsCosted s = IsSome s.placed × IsSome s.selection
 
+-- it wasn't carried out yet
+abbrev pub IsUncosted : Seen → Type 0
+IsUncosted s = (s.placed ≡ None) × (s.selection ≡ None)
+
 -- a row of Directory has this key
 abbrev pub IsRow : Seen → Name → Type 0
 IsRow s directory = IsSome (option_and_then (λ dirs. row_of dirs directory) (dirs_in s))

@@ -1,5 +1,5 @@
 -- Environment variables as the program keeps them. (Environment Table.)
-use Rattle.std.specs.Prelude.{ℕ, ◌++◌, ◌∷◌, [], Bool, if◌then◌else◌, List, codes, Option, Some, None, unwrap_or, option_map}
+use Rattle.std.specs.Prelude.{ℕ, ◌++◌, ◌∷◌, [], Bool, if◌then◌else◌, List, codes, Option, unwrap_or, option_map}
 use Rattle.std.specs.Option.{option_or}
 use Rattle.std.specs.FinMap.{get}
 use Rattle.mi_text.specs.Maps.{Name}

@@ -4,8 +4,10 @@ ghost use Rattle.std.specs.Prelude.{◌≡◌, List, ℕ, All, IfOk, map};
 ghost use Rattle.mi_text.specs.Maps.{Map};
 ghost use Rattle.mi_dirs.specs.Rows as rows;
 ghost use Rattle.mi_dirs.specs.Rows.{given};
+ghost use Rattle.mi_dirs.specs.Places.{Place};
 ghost use Rattle.mi_dirs.specs.Views.{IsFolder};
 ghost use Rattle.mi_image.specs.Items.{machine_over};
+ghost use Rattle.mi_schema.specs.declared.typed_rows.DirectoryRow.{DirectoryRow};
 ghost use Rattle.mi_schema.specs.RowsOf.{rows_in};
 ghost use Rattle.mi_model.specs.Properties.{dir_row, in_table, resolved};
 ghost use Rattle.mi_model.specs.World.{Given};
@@ -57,6 +59,7 @@ pub(crate) fn place(
     folder: &str,
 ) -> Result<Placed, WorldError>
     ensures dirs { (held files : Map (List ℕ)) (g : Given) → rows_in loaded.now ≡ g.rows → machine_over held files image.now ≡ g.former → folder.now ≡ g.folder → Places result (resolved g props.now) }
+    ensures keys { IfOk result (λ p. map (λ (d : Place). d.key) p.dirs ≡ map (λ (r : DirectoryRow). r.directory) (rows_in loaded.now).directory) }
     ensures files { IfOk result (λ p. AreKeptPaths directories.now p.dirs (rows_in loaded.now).file 0 p.files) }
 {
     let remembered = remembered(alloc, loaded, image)?;

@@ -2,10 +2,12 @@
 
 ghost use Rattle.std.specs.Prelude.{◌≡◌, IfOk};
 ghost use Rattle.mi_model.specs.Properties.{as_fault};
+ghost use Rattle.mi_world.specs.Refusals.{from_select};
 ghost use Rattle.mi_world.specs.declared.error.WorldError.TheVariants.{NoMemory as no_memory};
 
 use mi_base::{Fault, NoMemory, Text};
 use mi_dirs::DirFault;
+use mi_select::SelectError;
 use std::alloc::Global;
 
 /// Want of memory, or why CostFinalize or an action of type 35 is refused.
@@ -20,6 +22,17 @@ impl From<NoMemory> for WorldError {
 
     fn from(_e: NoMemory) -> WorldError {
         WorldError::NoMemory
+    }
+}
+
+impl From<SelectError> for WorldError {
+    ghost from_gives = { λ refused e. e ≡ from_select refused };
+
+    fn from(refused: SelectError) -> WorldError {
+        match refused {
+            SelectError::NoMemory => WorldError::NoMemory,
+            SelectError::Fault(fault) => WorldError::Fault(fault),
+        }
     }
 }
 

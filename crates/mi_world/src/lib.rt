@@ -2,6 +2,7 @@
 //! selection beside the machine so far and the open script (InstallExecuteSequence table; CostFinalize Action).
 #![tactic(auto)]
 
+mod cost;
 mod costing;
 mod directories;
 mod error;
@@ -13,7 +14,7 @@ mod properties;
 mod recall;
 mod rows;
 mod seen;
-mod selection;
+mod sees;
 mod system;
 mod table;
 mod variables;
@@ -22,6 +23,7 @@ mod world;
 pub use error::WorldError;
 pub use first::first_props;
 pub use properties::Properties;
+pub use rows::product_code;
 pub use seen::Seen;
-pub use selection::{Action, Request, Selection};
+pub use sees::phases_ask;
 pub use world::World;

@@ -4,7 +4,8 @@ ghost use Rattle.std.specs.Prelude.{◌≡◌, IsSome, OnOk, Some, option_map};
 ghost use Rattle.mi_dirs.specs.Places.{row_of};
 ghost use Rattle.mi_schema.specs.RowsOf.{rows_in};
 ghost use Rattle.mi_model.specs.States.{action_state, request_state, installed_state};
-ghost use Rattle.mi_world.specs.Choices.{request_as, action_as};
+ghost use Rattle.mi_select.specs.Actions.{action_to};
+ghost use Rattle.mi_select.specs.Choices.{request_to};
 ghost use Rattle.mi_world.specs.Places.{AreKeptPaths};
 ghost use Rattle.mi_world.specs.Seen.{seen_lookups, kept_state, dirs_in, with_target, AreMoved, HaveMoved, IsRow};
 ghost use Rattle.mi_world.specs.declared.placed.Placed as placed;
@@ -14,12 +15,12 @@ use crate::error::{WorldError, directory_fault};
 use crate::known::Known;
 use crate::placed::{Placed, files_bound, files_of};
 use crate::properties::Properties;
-use crate::selection::{Action, Request, Selection};
 use crate::table::Table;
 use mi_base::{Env, Sign};
 use mi_dirs::{DirError, Dirs};
 use mi_format::BoundedEnv;
 use mi_schema::Package;
+use mi_select::{Action, Request, Selection};
 use std::alloc::Global;
 
 /// What an action sees: the package, its properties and the former machine's variables, and from CostFinalize on the
@@ -48,7 +49,7 @@ fn installed_state(there: Option<bool>) -> i32
 
 // 3 for local, 2 for absent, and -1 for neither.
 fn action_state(action: Option<Action>) -> i32
-    ensures { result ≡ action_state (Some (option_map action_as action)) }
+    ensures { result ≡ action_state (Some (option_map action_to action)) }
 {
     match action {
         Some(Action::MakeLocal) => 3,
@@ -58,7 +59,7 @@ fn action_state(action: Option<Action>) -> i32
 }
 
 fn request_state(request: Option<Request>) -> i32
-    ensures { result ≡ request_state (Some (option_map request_as request)) }
+    ensures { result ≡ request_state (Some (option_map request_to request)) }
 {
     match request {
         Some(Request::Local | Request::Reinstall) => 3,

@@ -9,7 +9,9 @@ ghost use Rattle.mi_image.specs.Items.{machine_over};
 ghost use Rattle.mi_image.specs.Overlays.{former_items, present_items};
 ghost use Rattle.mi_model.specs.World.{Given};
 ghost use Rattle.mi_model.specs.Properties as model;
-ghost use Rattle.mi_world.specs.Seen.{world_over, Becomes, IsCosted, IsOf, IsRow, Starts};
+ghost use Rattle.mi_schema.specs.Lawful.{IsLawful};
+ghost use Rattle.mi_schema.specs.RowsOf.{rows_in};
+ghost use Rattle.mi_world.specs.Seen.{world_over, Becomes, IsCosted, IsUncosted, IsOf, IsRow, Starts};
 
 use crate::error::WorldError;
 use crate::known::Known;
@@ -41,8 +43,9 @@ impl World {
         now: u64,
     ) -> Result<World, NoMemory>
         ensures started { (held files : Map (List ℕ)) (g : Given) → Starts g loaded props (machine_over held files image) now → IfOk result (λ w. world_over held files g w.seen w.plan ≡ model.started g) }
-        ensures seen { (held files : Map (List ℕ)) (g : Given) → Starts g loaded props (machine_over held files image) now → IfOk result (λ w. IsOf g w.seen) }
+        ensures seen { (held files : Map (List ℕ)) (g : Given) → rows_in loaded ≡ g.rows → machine_over held files image ≡ g.former → now ≡ g.now → IfOk result (λ w. IsOf g w.seen) }
         ensures package { IfOk result (λ w. w.seen.loaded ≡ loaded) }
+        ensures uncosted { IfOk result (λ w. IsUncosted w.seen) }
         ensures image { IfOk result (λ w. (former_items w.plan.overlay ≡ image) × (present_items w.plan.overlay ≡ image)) }
         ensures script { IfOk result (λ w. w.plan.script ≡ []) }
     {
@@ -82,6 +85,23 @@ impl World {
     {
         self.seen.props.set(alloc, name, value)?;
         Ok(())
+    }
+
+    /// The directories, then the selection by the properties as they were, then the properties of the directories (CostFinalize
+    /// Action). `folder` is the package's in the source. The package is lawful, CostFinalize wasn't carried out before, and nothing
+    /// of the machine is changed yet. Refused with the `Cycle` or `BadPath` of Directory, else with what the selection is refused
+    /// with: `BadProperty`, and the first refusal of the lists of features and of key paths; after an error the world isn't used
+    /// again.
+    pub fn cost(&mut self, alloc: Global, folder: &str) -> Result<(), WorldError>
+        requires lawful { IsLawful self.old.seen.loaded }
+        requires first { IsUncosted self.old.seen }
+        requires former { present_items self.old.plan.overlay ≡ former_items self.old.plan.overlay }
+        ensures cost { (held files : Map (List ℕ)) (g : Given) → IsOf g self.old.seen → machine_over held files (former_items self.old.plan.overlay) ≡ g.former → folder.now ≡ g.folder → Becomes result (model.cost (world_over held files g self.old.seen self.old.plan)) (world_over held files g self.new.seen self.new.plan) }
+        ensures seen { (g : Given) → IsOf g self.old.seen → OnOk result (IsOf g self.new.seen × IsCosted self.new.seen) }
+        ensures package { self.new.seen.loaded ≡ self.old.seen.loaded }
+        ensures plan { self.new.plan ≡ self.old.plan }
+    {
+        self.seen.cost(alloc, self.plan.overlay.image(), folder)
     }
 
     /// A directory's target is from now on the folder that a text names, as an action of type 35 does (Custom Action Type 35);

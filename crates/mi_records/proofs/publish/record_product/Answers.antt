@@ -10,4 +10,4 @@ returns-then-is_empty-clause-makes c = λ held files.
 
 pub returns-else-is_empty-clause-makes : goal.returns-else-is_empty-clause-makes
 returns-else-is_empty-clause-makes c = λ held files.
-    if_ok c.put_entry.result (c.put_entry.ensures.makes held files) (is_recorded held files c.args.plan.now c.put_entry.new.plan c.args.product (sym c.is_empty.ensures ∙ c.if-is_empty.false))
+    if_ok c.put_record.result (c.put_record.ensures.makes held files) (is_recorded held files c.args.plan.now c.put_record.new.plan c.args.product (sym c.is_empty.ensures ∙ c.if-is_empty.false))

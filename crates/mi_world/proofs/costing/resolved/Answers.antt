@@ -1,4 +1,4 @@
-use Rattle.std.proofs.Common.{◌≡◌, List, Ok, Err, subst, sym, ap, ◌∙◌, map}
+use Rattle.std.proofs.Common.{List, Err, subst, sym, ap, ◌∙◌}
 use Rattle.std.specs.Prelude.{Result}
 use Rattle.mi_base.specs.declared.answers.Fault.{Fault}
 use Rattle.mi_dirs.specs.declared.fault.DirError.{DirError}

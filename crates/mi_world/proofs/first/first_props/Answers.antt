@@ -1,6 +1,5 @@
-use Rattle.std.proofs.Common.{◌≡◌, List, None, Some, ap, sym, ◌∙◌}
-use Rattle.mi_text.specs.Maps.{Name}
-use Rattle.mi_props.specs.Props.{Value, started, start_fault}
+use Rattle.std.proofs.Common.{◌≡◌, Some, ap, sym, ◌∙◌}
+use Rattle.mi_props.specs.Props.{started, start_fault}
 use Rattle.mi_image.specs.Items.{machine_over}
 use Rattle.mi_schema.specs.RowsOf.{rows_in}
 use Rattle.mi_model.specs.Properties.{first_properties, table_properties}

@@ -1,4 +1,4 @@
-use Rattle.std.proofs.Common.{◌≡◌, true, ap, ◌∙◌, sym}
+use Rattle.std.proofs.Common.{true, ap, ◌∙◌, sym}
 use Rattle.std.specs.FinMap.{insert}
 use Rattle.mi_text.specs.Maps.{Name}
 use Rattle.mi_world.specs.Ground.{is_set}

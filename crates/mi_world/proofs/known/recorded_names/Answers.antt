@@ -1,6 +1,6 @@
-use Rattle.std.proofs.Common.{◌≡◌, List, [], Option, ap, ◌∙◌, sym}
+use Rattle.std.proofs.Common.{◌≡◌, [], Option, ap, ◌∙◌}
 use Rattle.std.specs.Prelude.{option_map, unwrap_or}
-use Rattle.mi_text.specs.Maps.{Name, is_among}
+use Rattle.mi_text.specs.Maps.{is_among}
 use Rattle.mi_base.specs.declared.entry.Product.{Product}
 use Rattle.mi_base.specs.Machine.{product_at}
 use Rattle.mi_image.specs.Items.{machine_over}

@@ -1,8 +1,7 @@
 -- What the rows in order tell.
-use Rattle.std.proofs.Common.{List, ap, ◌∙◌, subst, sym, map, Bor}
+use Rattle.std.proofs.Common.{List, ap, ◌∙◌, subst, map, Bor}
 use Rattle.mi_image.specs.Items.{machine_over}
 use Rattle.mi_schema.specs.RowsOf.{rows_in}
-use Rattle.mi_schema.specs.TableRows.{product_code}
 use Rattle.mi_schema.specs.declared.typed_rows.ComponentRow.{ComponentRow}
 use Rattle.mi_world.specs.Recall.{in_order, AreToldBy}
 use Rattle.mi_world.proofs.RecallLemmas.{remembered_is}

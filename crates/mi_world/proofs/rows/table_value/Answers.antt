@@ -1,5 +1,5 @@
 -- The first row of the name.
-use Rattle.std.proofs.Common.{◌≡◌, List, ℕ, [], Option, ap, sym, ◌∙◌, arith, length}
+use Rattle.std.proofs.Common.{◌≡◌, [], Option, ap, sym, ◌∙◌, arith, length}
 use Rattle.std.specs.Prelude.{option_map, unwrap_or}
 use Rattle.std.proofs.lemmas.List.{length-map}
 use Rattle.mi_schema.specs.declared.typed_rows.PropertyRow.{PropertyRow}

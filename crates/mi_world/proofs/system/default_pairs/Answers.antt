@@ -1,4 +1,3 @@
-use Rattle.std.proofs.Common.{◌∙◌, refl}
 use Rattle.mi_base.specs.System.{default_system}
 use Rattle.mi_world.proofs.system.default_pairs.Goals as goal
 

@@ -1,4 +1,4 @@
-use Rattle.std.proofs.Common.{◌≡◌, ℕ, List, [], Bor, Option, sym, ap, ◌∙◌}
+use Rattle.std.proofs.Common.{ℕ, List, [], Bor, sym, ap, ◌∙◌}
 use Rattle.std.specs.Prelude.{Vec}
 use Rattle.std.specs.declared.alloc.Global.{Global}
 use Rattle.mi_text.specs.Maps.{Name}

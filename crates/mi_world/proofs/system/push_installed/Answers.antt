@@ -1,6 +1,5 @@
-use Rattle.std.proofs.Common.{◌≡◌, Bool, List, ℕ, [], ◌∷◌, ◌++◌, Option, Some, None, cond, ap, sym, ◌∙◌}
+use Rattle.std.proofs.Common.{[], ◌∷◌, ◌++◌, Option, cond, ap, sym, ◌∙◌}
 use Rattle.std.specs.Prelude.{codes, is_some}
-use Rattle.mi_text.specs.Maps.{Name}
 use Rattle.mi_base.specs.declared.entry.Product.{Product}
 use Rattle.mi_base.specs.Machine.{product_at}
 use Rattle.mi_image.specs.Items.{machine_over}

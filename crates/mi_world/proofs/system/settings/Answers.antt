@@ -1,9 +1,9 @@
-use Rattle.std.proofs.Common.{◌≡◌, List, ℕ, [], ◌∷◌, ◌++◌, ap, sym, ◌∙◌, cond}
+use Rattle.std.proofs.Common.{List, ℕ, [], ◌∷◌, ◌++◌, ap, ◌∙◌, cond}
 use Rattle.std.specs.Prelude.{codes}
 use Rattle.mi_text.specs.Maps.{Name}
 use Rattle.mi_image.specs.Items.{machine_over}
 use Rattle.mi_schema.specs.RowsOf.{rows_in}
-use Rattle.mi_model.specs.Settings.{settings, system_properties, is_recorded}
+use Rattle.mi_model.specs.Settings.{settings, is_recorded}
 use Rattle.mi_world.proofs.system.settings.Goals as goal
 
 pub returns : goal.returns

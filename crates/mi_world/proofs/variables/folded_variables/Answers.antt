@@ -1,4 +1,4 @@
-use Rattle.std.proofs.Common.{◌≡◌, ℕ, List, Bor, map, ap, ◌∙◌}
+use Rattle.std.proofs.Common.{ℕ, List, Bor, map, ap, ◌∙◌}
 use Rattle.std.specs.Prelude.{filter, nat_eq}
 use Rattle.std.specs.List.{filter_map, starts_with}
 use Rattle.std.specs.FinMap.{empty, keys}

@@ -1,5 +1,4 @@
 use Rattle.std.proofs.Common.{◌≡◌, Some, refl, sym, ap, ◌∙◌}
-use Rattle.mi_base.specs.declared.answers.Fault.{Fault}
 use Rattle.mi_world.specs.declared.placed.Placed.{Placed}
 use Rattle.mi_world.specs.Seen.{with_target}
 use Rattle.mi_world.proofs.seen.Seen.set_dir.Goals as goal

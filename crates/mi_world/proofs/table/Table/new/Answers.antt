@@ -2,7 +2,7 @@ use Rattle.std.proofs.Common.{List, ap, ◌∙◌}
 use Rattle.std.specs.Prelude.{String}
 use Rattle.std.specs.declared.alloc.Global.{Global}
 use Rattle.std.specs.FinMap.{get, get-empty}
-use Rattle.mi_text.specs.Maps.{Name, name_cmp}
+use Rattle.mi_text.specs.Maps.{name_cmp}
 use Rattle.mi_props.specs.Props.{Value, values_of}
 use Rattle.mi_world.proofs.table.Table.new.Goals as goal
 

@@ -1,0 +1,78 @@
+use Rattle.std.proofs.Common.{ℕ, IsNone, Option, Err, refl, sym, ap, subst, ◌∙◌, arith}
+use Rattle.mi_volume.specs.Maps.{Map}
+use Rattle.mi_undo.specs.Area.{CanGoBack}
+use Rattle.mi_model.specs.Causes.{BelowCount}
+use Rattle.mi_carry.specs.Segments.{after_segments}
+use Rattle.mi_carry.specs.Causes.{Differs, MayStop}
+use Rattle.mi_carry.specs.Falls.{AnswersStop}
+use Rattle.mi_carry.specs.Halts.{Goes, IfBack, HaltCaused}
+use Rattle.mi_carry.proofs.EndLemmas.{all_outside, lifted, declined_ends, done_ends, fell_ends, unknown_ends, stop_before, fell_caused}
+use Rattle.mi_carry.proofs.carried.work.Goals as goal
+
+pub returns-in-Err-clause-ends : goal.returns-in-Err-clause-ends
+returns-in-Err-clause-ends g c = λ told.
+    let s = g.V.Volume.state c.args.vol.now in
+    rw (c.vol-1.given.1 (sym c.in-Err.ensures.handed_back), c.give_up.ensures)
+    (declined_ends g.S.Source.told s (g.V.Volume.state c.in-Err.refused.vol.now) s.held _ c.args.refusal c.from.result refl (all_outside s (c.requires.free told)) (c.in-Err.ensures.declines told))
+
+pub carry_walk-requires-clause-works : goal.carry_walk-requires-clause-works
+carry_walk-requires-clause-works g c = λ told. ((g.V.Volume.state c.args.vol.now).held, (c.in-Ok.ensures.opens told).works)
+
+pub fall_back-requires-clause-can_go_back : goal.fall_back-requires-clause-can_go_back
+fall_back-requires-clause-can_go_back g c = λ told.
+    let F = (g.V.Volume.state c.args.vol.now).held in
+    let goes = c.carry_walk.ensures.goes told F (c.in-Ok.ensures.opens told).works in
+    (F, subst (λ r. IfBack r (CanGoBack (g.V.Volume.state c.carry_walk.new.area.vol.now) c.carry_walk.new.area.kept F)) (c.in-Err-Back.is ∙ ap Err c.in-Err-Back.field-0-is) goes.back)
+
+pub returns-in-Ok-carry_walk-clause-ends : goal.returns-in-Ok-carry_walk-clause-ends
+returns-in-Ok-carry_walk-clause-ends g c = λ told.
+    let s = g.V.Volume.state c.args.vol.now in
+    let opens = c.in-Ok.ensures.opens told in
+    let goes = c.carry_walk.ensures.goes told s.held opens.works in
+    rw (c.vol-in-Ok-carry_walk-1.given.1 (sym (c.carry_walk.ensures.reference ∙ c.in-Ok.ensures.reference)), c.end.ensures)
+    (done_ends g.S.Source.told s (g.V.Volume.state c.carry_walk.new.area.vol.now) c.carry_walk.new.area.kept s.held _ c.args.refusal _
+    (subst (Goes g.S.Source.told s (g.V.Volume.state c.carry_walk.new.area.vol.now) c.carry_walk.new.area.kept s.held _ c.args.refusal) c.in-Ok-carry_walk.is
+    (lifted g.S.Source.told s (g.V.Volume.state c.in-Ok.area.vol.now) _ _ s.held _ _ c.args.refusal c.carry_walk.result c.in-Ok.ensures.passes.faults c.carry_walk.ensures.passes.faults
+    (ap (λ (m : Map). after_segments (g.S.Source.files c.args.src.now) m c.args.parts.now) (opens.outside ∙ all_outside s (c.requires.free told))) opens.goes goes)))
+
+pub returns-in-Err-Back-clause-ends : goal.returns-in-Err-Back-clause-ends
+returns-in-Err-Back-clause-ends g c = λ told.
+    let s = g.V.Volume.state c.args.vol.now in
+    let opens = c.in-Ok.ensures.opens told in
+    let goes = c.carry_walk.ensures.goes told s.held opens.works in
+    let fails = c.in-Err-Back.is ∙ ap Err c.in-Err-Back.field-0-is in
+    rw (c.vol-in-Err-Back-1.given.1 (sym (c.carry_walk.ensures.reference ∙ c.in-Ok.ensures.reference)))
+    (fell_ends g.S.Source.told s (g.V.Volume.state c.carry_walk.new.area.vol.now) (g.V.Volume.state c.fall_back.new.area.0) c.carry_walk.new.area.kept s.held _ c.args.refusal _ _ _ _ c.in-Err-Back.stopped c.fall_back.result
+    (omega (arith, c.in-Ok.ensures.passes.faults, c.carry_walk.ensures.passes.faults)) c.fall_back.ensures.passes.faults c.fall_back.ensures.answers
+    (subst (Goes g.S.Source.told s (g.V.Volume.state c.carry_walk.new.area.vol.now) c.carry_walk.new.area.kept s.held _ c.args.refusal) fails
+    (lifted g.S.Source.told s (g.V.Volume.state c.in-Ok.area.vol.now) _ _ s.held _ _ c.args.refusal c.carry_walk.result c.in-Ok.ensures.passes.faults c.carry_walk.ensures.passes.faults
+    (ap (λ (m : Map). after_segments (g.S.Source.files c.args.src.now) m c.args.parts.now) (opens.outside ∙ all_outside s (c.requires.free told))) opens.goes goes))
+    (c.fall_back.ensures.falls told s.held (subst (λ r. IfBack r (CanGoBack (g.V.Volume.state c.carry_walk.new.area.vol.now) c.carry_walk.new.area.kept s.held)) fails goes.back)))
+
+pub returns-in-Err-Back-clause-caused : goal.returns-in-Err-Back-clause-caused
+returns-in-Err-Back-clause-caused g c =
+    let s = g.V.Volume.state c.args.vol.now in
+    let t = g.V.Volume.state c.in-Ok.area.vol.now in
+    let u = g.V.Volume.state c.carry_walk.new.area.vol.now in
+    let fails = c.in-Err-Back.is ∙ ap Err c.in-Err-Back.field-0-is in
+    let source = BelowCount (g.S.Source.faults c.args.src.now) (g.S.Source.faults c.carry_walk.new.src) in
+    let may = subst (λ (o : Option ℕ). MayStop (Differs g.S.Source.told c.args.parts.now) (IsNone o) source c.args.refusal c.args.begun c.in-Err-Back.stopped.reached (BelowCount t.faults u.faults) c.in-Err-Back.stopped.why) c.in-Ok.ensures.passes.capacity
+    (subst (HaltCaused (Differs g.S.Source.told c.args.parts.now) (IsNone t.capacity) source c.args.refusal c.args.begun t.faults u.faults) fails c.carry_walk.ensures.caused) in
+    rw (c.vol-in-Err-Back-1.given.1 (sym (c.carry_walk.ensures.reference ∙ c.in-Ok.ensures.reference)))
+    (fell_caused (Differs g.S.Source.told c.args.parts.now) (IsNone s.capacity) source c.args.refusal c.args.begun c.in-Err-Back.stopped.reached s.faults u.faults _ c.in-Err-Back.stopped.why c.fall_back.result
+    (omega (arith, c.in-Ok.ensures.passes.faults, c.carry_walk.ensures.passes.faults)) c.fall_back.ensures.passes.faults
+    (stop_before (Differs g.S.Source.told c.args.parts.now) (IsNone s.capacity) source c.args.refusal c.args.begun c.in-Err-Back.stopped.reached s.faults t.faults u.faults c.in-Err-Back.stopped.why c.in-Ok.ensures.passes.faults c.carry_walk.ensures.passes.faults may)
+    (subst (λ (o : Option ℕ). AnswersStop (IsNone o) c.in-Err-Back.stopped.why s.faults u.faults (g.V.Volume.state c.fall_back.new.area.0).faults c.fall_back.result) (c.carry_walk.ensures.passes.capacity ∙ c.in-Ok.ensures.passes.capacity)
+    (subst (λ (n : ℕ). AnswersStop (IsNone u.capacity) c.in-Err-Back.stopped.why n u.faults (g.V.Volume.state c.fall_back.new.area.0).faults c.fall_back.result) c.faults-first.ensures c.fall_back.ensures.answers)))
+
+pub returns-in-Err-Unknown-clause-ends : goal.returns-in-Err-Unknown-clause-ends
+returns-in-Err-Unknown-clause-ends g c = λ told.
+    let s = g.V.Volume.state c.args.vol.now in
+    let opens = c.in-Ok.ensures.opens told in
+    let goes = c.carry_walk.ensures.goes told s.held opens.works in
+    let fails = c.in-Err-Unknown.is ∙ ap Err c.in-Err-Unknown.field-0-is in
+    rw (c.vol-in-Err-Unknown-1.given.1 (sym (c.carry_walk.ensures.reference ∙ c.in-Ok.ensures.reference)), c.end-in-Err-Unknown.ensures, c.suspended_in_commit.ensures)
+    (unknown_ends g.S.Source.told s (g.V.Volume.state c.carry_walk.new.area.vol.now) c.carry_walk.new.area.kept s.held _ c.args.refusal c.in-Err-Unknown.before c.in-Err-Unknown.again c.in-Err-Unknown.reached
+    (subst (Goes g.S.Source.told s (g.V.Volume.state c.carry_walk.new.area.vol.now) c.carry_walk.new.area.kept s.held _ c.args.refusal) fails
+    (lifted g.S.Source.told s (g.V.Volume.state c.in-Ok.area.vol.now) _ _ s.held _ _ c.args.refusal c.carry_walk.result c.in-Ok.ensures.passes.faults c.carry_walk.ensures.passes.faults
+    (ap (λ (m : Map). after_segments (g.S.Source.files c.args.src.now) m c.args.parts.now) (opens.outside ∙ all_outside s (c.requires.free told))) opens.goes goes)))

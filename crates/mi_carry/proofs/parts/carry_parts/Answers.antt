@@ -1,0 +1,60 @@
+use Rattle.std.proofs.Common.{ℕ, List, [], ◌∷◌, Option, IsNone, refl, sym, ap, subst, ◌∙◌, arith}
+use Rattle.std.proofs.lemmas.List.{take_all}
+use Rattle.mi_volume.proofs.Moments.{then_passes, started}
+use Rattle.mi_undo.specs.Stands.{outside}
+use Rattle.mi_model.specs.Plans.{Planned}
+use Rattle.mi_carry.specs.Segments.{after_segments}
+use Rattle.mi_carry.specs.Causes.{Differs}
+use Rattle.mi_carry.proofs.CauseLemmas.{stop_weaker, differs_among, below_before}
+use Rattle.mi_carry.proofs.PartLemmas.{more_map, then_failed, then_one, all_along}
+use Rattle.mi_carry.proofs.parts.carry_parts.Goals as goal
+
+pub loop-part-init : goal.loop-part-init
+loop-part-init g c = record {
+  reference = refl;
+  working = c.requires.working;
+  entries = omega arith;
+  goes = λ told F w. (started _ _, w);
+  map = λ told s F w. refl;
+  passes = record { later = omega arith; faults = omega arith; capacity = refl };
+  stays = refl;
+  counts = omega arith;
+}
+
+pub carry_part-requires-clause-works : goal.carry_part-requires-clause-works
+carry_part-requires-clause-works g c = λ t. let w = c.requires.works t in (w.0, (c.loop-part.invariant.goes t w.0 w.1).1)
+
+pub returns-in-Err-clause-along : goal.returns-in-Err-clause-along
+returns-in-Err-clause-along g c = λ t F w.
+    let so_far = c.loop-part.invariant.goes t F w in
+    then_failed _ _ _ _ F _ _ so_far.0 (c.in-Err.ensures.along t F so_far.1)
+
+pub loop-part-preserved : goal.loop-part-preserved
+loop-part-preserved g c = record {
+  reference = c.in-Ok.ensures.reference ∙ c.loop-part.invariant.reference;
+  working = c.in-Ok.ensures.working;
+  entries = omega (arith, c.in-Ok.ensures.entries, c.loop-part.invariant.entries);
+  goes = λ t F w. let so_far = c.loop-part.invariant.goes t F w in then_one _ _ _ _ F _ so_far.0 (c.in-Ok.ensures.along t F so_far.1);
+  map = λ t s F w.
+      let so_far = c.loop-part.invariant.goes t F w in
+      more_map _ _ _ _ _ c.args.parts.now c.loop-part.part-index c.part-item.result c.loop-part.invariant.stays c.loop-part-test.true c.part-item.is (c.loop-part.invariant.map t s F w) (c.in-Ok.ensures.map t s F so_far.1);
+  passes = then_passes _ _ _ c.loop-part.invariant.passes c.in-Ok.ensures.passes;
+  stays = c.in-Ok.ensures.source_stays ∙ c.loop-part.invariant.stays;
+  counts = omega (arith, c.loop-part.invariant.counts, c.in-Ok.ensures.source_counts);
+}
+
+pub returns-clause-along : goal.returns-clause-along
+returns-clause-along g c = λ t F w. all_along _ _ _ F _ (c.loop-part.invariant.goes t F w)
+
+pub returns-clause-map : goal.returns-clause-map
+returns-clause-map g c = λ t s F w.
+    c.loop-part.invariant.map t s F w
+    ∙ ap (λ (parts : List Planned). after_segments (g.S.Source.files c.args.src.now) (outside (g.V.Volume.state c.args.area.now.vol.now).held) parts) (take_all c.loop-part.part-index c.args.parts.now c.loop-part-test.false)
+
+pub returns-in-Err-clause-stopped : goal.returns-in-Err-clause-stopped
+returns-in-Err-clause-stopped g c =
+    stop_weaker (Differs g.S.Source.told (c.part-item.result ∷ [])) (Differs g.S.Source.told c.args.parts.now) c.in-Err.why
+    (differs_among g.S.Source.told c.args.parts.now c.loop-part.part-index c.part-item.result c.loop-part-test.true c.part-item.is)
+    (λ below none. below_before _ _ _ c.loop-part.invariant.passes.faults c.in-Err.ensures.passes.faults (below (subst (λ (o : Option ℕ). IsNone o) (sym c.loop-part.invariant.passes.capacity) none)))
+    (λ below. below_before _ _ _ c.loop-part.invariant.counts c.in-Err.ensures.source_counts below)
+    c.in-Err.ensures.stopped

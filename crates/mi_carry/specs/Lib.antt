@@ -1,0 +1,6 @@
+pub mod Segments
+pub mod Stops
+pub mod Causes
+pub mod Ends
+pub mod Falls
+pub mod Halts

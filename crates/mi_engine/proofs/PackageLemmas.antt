@@ -1,0 +1,183 @@
+-- A package up to its walk.
+use Rattle.std.proofs.Common.{◌≡◌, ℕ, Bool, true, false, map, Option, Some, None, Result, Ok, Err, refl, sym, ap, ◌∙◌, subst}
+use Rattle.std.specs.Prelude.{◌&&◌, not, option_map, is_some, IfOk, IfErr, OnOk, if◌then◌else◌}
+use Rattle.mi_text.specs.Maps.{Name}
+use Rattle.mi_source.specs.Paths.{Files}
+use Rattle.mi_base.specs.Machine.{Machine, product_at}
+use Rattle.mi_base.specs.declared.answers.Fault.{Fault}
+use Rattle.mi_base.specs.declared.answers.Cause.{Cause}
+use Rattle.mi_base.specs.declared.answers.Cause.TheVariants.{Table, UnknownProduct}
+use Rattle.mi_schema.specs.Checks.{load_fault}
+use Rattle.mi_schema.specs.Rows.{◌or_else◌}
+use Rattle.mi_schema.specs.TableRows.{Rows, product_code}
+use Rattle.mi_plan.specs.declared.planned.WalkPlan.{WalkPlan}
+use Rattle.mi_plan.specs.Made.{as_planned}
+use Rattle.mi_text.specs.declared.guid.Guid.{Guid}
+use Rattle.mi_base.specs.declared.entry.Product.{Product}
+use Rattle.mi_props.specs.Props.{Values}
+use Rattle.mi_model.specs.Properties.{first_properties}
+use Rattle.mi_model.specs.World.{Given}
+use Rattle.mi_model.specs.Walk.{walk}
+use Rattle.mi_model.specs.Assignments.{Assigned}
+use Rattle.mi_model.specs.Planning.{IsPlan}
+use Rattle.mi_model.specs.PackageOutcome.{Outcome, Refused, only, of_walk, of_given, of_loaded, given_of}
+use Rattle.mi_model.specs.Settings.{is_recorded}
+use Rattle.mi_model.specs.StageOutcome.{of_package}
+use Rattle.mi_model.specs.Unbuilt.{unbuilt}
+use Rattle.mi_engine.specs.declared.stop.Stop.{Stop}
+use Rattle.mi_engine.specs.declared.stop.Stop.TheVariants.{NoMemory, Refuse}
+use Rattle.mi_engine.specs.Calls.{CausedStop, Judges, Prepares, Readies, Walks, first_cause, unknown_product}
+use Rattle.mi_engine.specs.Walks.{IsWalkRefusal}
+use Rattle.mi_engine.proofs.RefusalLemmas.{walk_ends}
+
+-- ---- why a loaded package isn't walked over
+
+-- which causes there are
+abbrev pub IsFirst : Cause → Type 0
+IsFirst (Table fault) = Unit {0}
+IsFirst (UnknownProduct x) = Unit {0}
+IsFirst other = ⊥
+
+abbrev AreFirst : Option Cause → Type 0
+AreFirst None = Unit {0}
+AreFirst (Some cause) = IsFirst cause
+
+module _ (recorded : Bool) (g : Given) where
+  -- what a package that is loaded comes to
+  abbrev pub loaded_out : Outcome
+  loaded_out = of_loaded (unbuilt g.rows) (of_given None recorded g)
+
+  abbrev unrecorded : Bool
+  unrecorded = recorded && not (is_recorded g.rows g.former)
+
+  abbrev own_code : ℕ
+  own_code = product_code g.rows
+
+  none_first : (o : Option Fault) (later : Option Cause) → (option_map Table o or_else later) ≡ None → (o ≡ None) × (later ≡ None)
+  none_first None later is = (refl, is)
+  none_first (Some fault) later is = absurd cc
+
+  recorded_so : (b : Bool) (n : ℕ) → unknown_product b n ≡ None → b ≡ false
+  recorded_so true n is = absurd cc
+  recorded_so false n is = refl
+
+  of_product : (b : Bool) → unrecorded ≡ b → of_given None recorded g ≡ (if b then only (Refused (UnknownProduct (record { number = own_code }))) else of_walk None (walk g))
+  of_product b is = ap (λ (x : Bool). if x then only (Refused (UnknownProduct (record { number = own_code }))) else of_walk None (walk g)) is
+
+  pub walks_on : first_cause recorded g ≡ None → loaded_out ≡ of_walk None (walk g)
+  walks_on is =
+      let both = none_first (unbuilt g.rows) (unknown_product unrecorded own_code) is in
+      ap (λ (o : Option Fault). of_loaded o (of_given None recorded g)) both.0 ∙ of_product false (recorded_so unrecorded own_code both.1)
+
+  by_product : (b : Bool) (cause : Cause) → unrecorded ≡ b → unknown_product b own_code ≡ Some cause → of_given None recorded g ≡ only (Refused cause)
+  by_product true cause is some = let same : UnknownProduct (record { number = own_code }) ≡ cause = cc in of_product true is ∙ ap (λ (c : Cause). only (Refused c)) same
+  by_product false cause is some = absurd cc
+
+  by_fault : (o : Option Fault) (cause : Cause) → (option_map Table o or_else unknown_product unrecorded own_code) ≡ Some cause → of_loaded o (of_given None recorded g) ≡ only (Refused cause)
+  by_fault (Some fault) cause is = let same : Table fault ≡ cause = cc in ap (λ (c : Cause). only (Refused c)) same
+  by_fault None cause is = by_product unrecorded cause refl is
+
+  pub refused_so : (cause : Cause) → first_cause recorded g ≡ Some cause → loaded_out ≡ only (Refused cause)
+  refused_so cause is = by_fault (unbuilt g.rows) cause is
+
+  first_product : (b : Bool) (n : ℕ) → AreFirst (unknown_product b n)
+  first_product true n = tt
+  first_product false n = tt
+
+  first_fault_so : (o : Option Fault) → AreFirst (option_map Table o or_else unknown_product unrecorded own_code)
+  first_fault_so (Some fault) = tt
+  first_fault_so None = first_product unrecorded own_code
+
+  pub is_first : (cause : Cause) → first_cause recorded g ≡ Some cause → IsFirst cause
+  is_first cause is = subst AreFirst is (first_fault_so (unbuilt g.rows))
+
+  -- ---- step by step
+
+  pub walks_by : (files : Files) (r : Result WalkPlan Stop) → first_cause recorded g ≡ None → IfOk r (λ (p : WalkPlan). IsPlan files (walk g) p.begun.items (map as_planned p.segments.items) p.refusal) → IfErr r (λ (e : Stop). e ≡ NoMemory) → Walks files recorded g r
+  walks_by files (Ok plan) none is stops = (none, is)
+  walks_by files (Err NoMemory) none is stops = tt
+  walks_by files (Err (Refuse cause)) none is stops = let clash : Refuse cause ≡ NoMemory = stops in absurd cc
+
+  pub stopped_by : (files : Files) (e : Stop) → Readies recorded g (Err e) → Walks files recorded g (Err e)
+  stopped_by files NoMemory is = tt
+  stopped_by files (Refuse cause) is = is
+
+  pub refusal_ends : (files : Files) (r : Result WalkPlan Stop) → Walks files recorded g r → IfOk r (λ (p : WalkPlan). IsWalkRefusal p.refusal)
+  refusal_ends files (Ok plan) is = subst IsWalkRefusal is.1.refusal (walk_ends g)
+  refusal_ends files (Err e) is = tt
+
+  pub ready_by : (r : Result Values Stop) → first_cause recorded g ≡ None → IfOk r (λ (p : Values). p ≡ first_properties g) → IfErr r (λ (e : Stop). e ≡ NoMemory) → Readies recorded g r
+  ready_by (Ok props) none is stops = (none, is)
+  ready_by (Err NoMemory) none is stops = tt
+  ready_by (Err (Refuse cause)) none is stops = let clash : Refuse cause ≡ NoMemory = stops in absurd cc
+
+  -- of the same rows and machine
+  module _ (rows : Rows) (m : Machine) (same : rows ≡ g.rows) (former : m ≡ g.former) where
+    abbrev unknown_of : Rows → Machine → Option Cause
+    unknown_of x n = unknown_product (recorded && not (is_recorded x n)) (product_code x)
+
+    abbrev cause_of : Rows → Machine → Option Cause
+    cause_of x n = option_map Table (unbuilt x) or_else unknown_of x n
+
+    cause_is : cause_of rows m ≡ first_cause recorded g
+    cause_is = ap (λ (x : Rows). cause_of x m) same ∙ ap (λ (n : Machine). cause_of g.rows n) former
+
+    pub none_so : option_map Table (unbuilt rows) ≡ None → unknown_of rows m ≡ None → first_cause recorded g ≡ None
+    none_so built found = sym cause_is ∙ ap (λ (o : Option Cause). o or_else unknown_of rows m) built ∙ found
+
+    pub unknown_so : (e : Stop) → option_map Table (unbuilt rows) ≡ None → Judges {T = Unit {0}} (unknown_of rows m) (Err e) → Readies recorded g (Err e)
+    unknown_so NoMemory built is = tt
+    unknown_so (Refuse cause) built is = sym cause_is ∙ ap (λ (o : Option Cause). o or_else unknown_of rows m) built ∙ is
+
+-- ---- a product that has to be recorded
+
+and_false : (r b : Bool) → b ≡ true → (r && not b) ≡ false
+and_false true b is = ap not is
+and_false false b is = refl
+
+and_true : (r b : Bool) → r ≡ true → b ≡ false → (r && not b) ≡ true
+and_true true b is isnt = ap not isnt
+and_true false b is isnt = absurd cc
+
+pub known_so : (recorded : Bool) (rows : Rows) (m : Machine) (code : ℕ) (o : Option Product) → code ≡ product_code rows → o ≡ product_at m code → is_some o ≡ true → unknown_product (recorded && not (is_recorded rows m)) (product_code rows) ≡ None
+unfolding is_recorded
+known_so recorded rows m code o is at some =
+    let here : is_some (product_at m (product_code rows)) ≡ true = ap (λ (n : ℕ). is_some (product_at m n)) (sym is) ∙ ap is_some (sym at) ∙ some in
+    ap (λ (b : Bool). unknown_product b (product_code rows)) (and_false recorded (is_some (product_at m (product_code rows))) here)
+
+pub missing_so : (recorded : Bool) (rows : Rows) (m : Machine) (code : Guid) (o : Option Product) → recorded ≡ true → code.number ≡ product_code rows → o ≡ product_at m code.number → is_some o ≡ false → unknown_product (recorded && not (is_recorded rows m)) (product_code rows) ≡ Some (UnknownProduct code)
+unfolding is_recorded
+missing_so recorded rows m code o asks is at none =
+    let here : is_some (product_at m (product_code rows)) ≡ false = ap (λ (n : ℕ). is_some (product_at m n)) (sym is) ∙ ap is_some (sym at) ∙ none in
+    ap (λ (b : Bool). unknown_product b (product_code rows)) (and_true recorded (is_some (product_at m (product_code rows))) asks here)
+    ∙ ap (λ (n : ℕ). unknown_product true n) (sym is)
+
+pub built_so : (o : Option Fault) → option_map Table o ≡ None → o ≡ None
+built_so None is = refl
+built_so (Some fault) is = absurd cc
+
+pub on_ok : {T E P : Type 0} (r : Result T E) → P → OnOk r P
+on_ok (Ok x) p = p
+on_ok (Err e) p = tt
+
+-- ---- from the source
+
+pub caused_by : (source source_fails : Type 0) (x : Outcome) (cause : Cause) → IsFirst cause → (source → x ≡ only (Refused cause)) → CausedStop source source_fails x (Refuse cause)
+caused_by source source_fails x (Table fault) is so = so
+caused_by source source_fails x (UnknownProduct c) is so = so
+caused_by source source_fails x other is so = absurd is
+
+module _ (source source_fails : Type 0) (files : Files) (folder : Name) (sets : Assigned) (m : Machine) (now : ℕ) (recorded : Bool) where
+  abbrev pub given : Given
+  given = given_of files folder sets m now
+
+  abbrev pub package_out : Outcome
+  package_out = of_package files now m recorded folder sets
+
+  loaded_so : load_fault files folder ≡ None → package_out ≡ loaded_out recorded given
+  loaded_so none = ap (λ (o : Option Fault). of_loaded o (loaded_out recorded given)) none
+
+  pub prepared : (untold : Given) (r : Result WalkPlan Stop) → Walks files recorded untold r → (source → (load_fault files folder ≡ None) × Walks files recorded given r) → Prepares source source_fails files given package_out r
+  prepared untold (Ok plan) w told = λ t. let x = told t in record { is = loaded_so x.0 ∙ walks_on recorded given x.1.0; whole = x.1.1 }
+  prepared untold (Err NoMemory) w told = tt
+  prepared untold (Err (Refuse cause)) w told = caused_by source source_fails package_out cause (is_first recorded untold cause w) (λ t. let x = told t in loaded_so x.0 ∙ refused_so recorded given cause x.1)

@@ -1,8 +1,0 @@
-use Rattle.std.proofs.Common.{◌∙◌}
-use Rattle.mi_engine.proofs.UnbuiltLemmas.{tables_before}
-use Rattle.mi_engine.proofs.planned.before_registry.Goals as goal
-
-pub returns : goal.returns
-returns c =
-    c.first_row.ensures
-    ∙ tables_before c.args.loaded.now c.len.result c.len-2.result c.len-3.result c.len-4.result c.len-5.result c.len-6.result c.len-7.result c.len.ensures.len c.len-2.ensures.len c.len-3.ensures.len c.len-4.ensures.len c.len-5.ensures.len c.len-6.ensures.len c.len-7.ensures.len

@@ -1,0 +1,166 @@
+//! A package up to its walk.
+
+ghost use Rattle.std.specs.Prelude.{◌≡◌, ◌≤◌, ◌&&◌, ◌++◌, not, List, ℕ, None, IfOk, IfErr, OnOk, map};
+ghost use Rattle.mi_text.specs.Maps.{Map};
+ghost use Rattle.mi_source.specs.Counts.{Rose};
+ghost use Rattle.mi_image.specs.Items.{AreRight, machine_over};
+ghost use Rattle.mi_schema.specs.Lawful.{IsLawful};
+ghost use Rattle.mi_schema.specs.RowsOf.{rows_in};
+ghost use Rattle.mi_schema.specs.TableRows.{product_code as code_of};
+ghost use Rattle.mi_model.specs.PackageOutcome.{given_of};
+ghost use Rattle.mi_model.specs.Planning.{IsPlan};
+ghost use Rattle.mi_model.specs.Properties.{first_properties};
+ghost use Rattle.mi_model.specs.Settings.{is_recorded};
+ghost use Rattle.mi_model.specs.StageOutcome.{of_package};
+ghost use Rattle.mi_model.specs.Unbuilt.{IsBuilt, unbuilt};
+ghost use Rattle.mi_model.specs.Walk.{walk};
+ghost use Rattle.mi_model.specs.World.{Given};
+ghost use Rattle.mi_engine.specs.Calls.{ArePublic, IsOver, Judges, Prepares, Readies, Walks, sets_of, unknown_product};
+ghost use Rattle.mi_engine.specs.Walks.{AreThere, IsWalkRefusal, MayRun};
+ghost use Rattle.mi_plan.specs.Made.{as_planned};
+ghost use Rattle.mi_world.specs.Seen.{Starts};
+
+use crate::stop::Stop;
+use crate::unbuilt::require_built;
+use mi_base::Cause;
+use mi_image::Image;
+use mi_plan::{WalkPlan, plan_walk};
+use mi_props::PropError;
+use mi_schema::{Package, values_stand};
+use mi_source::Source;
+use mi_words::PackageWords;
+use mi_world::{Properties, first_props, product_code};
+use std::alloc::Global;
+
+/// Refuses where the product has to be recorded and isn't (Windows Installer command-line options).
+fn require_product(loaded: &Package, image: &Image, recorded: bool) -> Result<(), Stop>
+    ensures { (held files : Map (List ℕ)) → Judges (unknown_product (recorded && not (is_recorded (rows_in loaded.now) (machine_over held files image.now))) (code_of (rows_in loaded.now))) result }
+{
+    if !recorded {
+        return Ok(());
+    }
+    let code = product_code(loaded);
+    match image.product(code) {
+        Some(_) => Ok(()),
+        None => Err(Stop::Refuse(Cause::UnknownProduct(code))),
+    }
+}
+
+/// Each item of an image may stand at its name.
+fn items_stand(image: &Image)
+    ensures { AreRight image.now }
+{
+    let _ = image.get(b"");
+}
+
+/// The properties before any action.
+fn properties(
+    alloc: Global,
+    loaded: &Package,
+    image: &Image,
+    asked: &PackageWords<'_>,
+) -> Result<Properties, Stop>
+    requires lawful { IsLawful loaded.now }
+    requires public { ArePublic asked.now }
+    ensures first { (held files : Map (List ℕ)) (g : Given) → IsOver g loaded.now (machine_over held files image.now) asked.now g.now → IfOk result (λ p. p ≡ first_properties g) }
+    ensures stopped { IfErr result (λ stop. stop ≡ Stop.NoMemory) }
+{
+    values_stand(loaded);
+    items_stand(image);
+    let words = asked.properties(alloc)?;
+    match first_props(alloc, loaded, image, words.as_slice()) {
+        Ok(first) => Ok(first),
+        Err(PropError::NoMemory) => Err(Stop::NoMemory),
+        Err(PropError::Fault(_)) => unreachable!(),
+    }
+}
+
+/// The properties before any action, or why the package isn't walked over.
+fn ready(
+    alloc: Global,
+    loaded: &Package,
+    image: &Image,
+    asked: &PackageWords<'_>,
+) -> Result<Properties, Stop>
+    requires lawful { IsLawful loaded.now }
+    requires public { ArePublic asked.now }
+    ensures readies { (held files : Map (List ℕ)) (g : Given) → IsOver g loaded.now (machine_over held files image.now) asked.now g.now → Readies asked.now.recorded g result }
+    ensures built { OnOk result (unbuilt (rows_in loaded.now) ≡ None) }
+{
+    require_built(alloc, loaded)?;
+    match require_product(loaded, image, asked.recorded) {
+        Ok(()) => properties(alloc, loaded, image, asked),
+        Err(stop) => Err(stop),
+    }
+}
+
+/// Plans the walk of a package that is built.
+fn walk_over(
+    alloc: Global,
+    loaded: Package,
+    first: Properties,
+    image: Image,
+    folder: &str,
+    now: u64,
+) -> Result<WalkPlan, Stop>
+    requires lawful { IsLawful loaded }
+    requires built { IsBuilt (rows_in loaded) }
+    ensures plan { (held files : Map (List ℕ)) (g : Given) → Starts g loaded first (machine_over held files image) now → folder.now ≡ g.folder → IfOk result (λ p. IsPlan files (walk g) p.begun.items (map as_planned p.segments.items) p.refusal) }
+    ensures lengths { (held files : Map (List ℕ)) (g : Given) → Starts g loaded first (machine_over held files image) now → folder.now ≡ g.folder → IfOk result (λ p. AreThere files p) }
+    ensures may_run { IfOk result MayRun }
+    ensures stopped { IfErr result (λ stop. stop ≡ Stop.NoMemory) }
+{
+    match plan_walk(alloc, loaded, first, image, folder, now) {
+        Ok(plan) => Ok(plan),
+        Err(_) => Err(Stop::NoMemory),
+    }
+}
+
+/// Plans the walk of a loaded package over the machine of an image, or stops before it.
+fn plan_package(
+    alloc: Global,
+    loaded: Package,
+    image: Image,
+    asked: &PackageWords<'_>,
+    now: u64,
+) -> Result<WalkPlan, Stop>
+    requires lawful { IsLawful loaded }
+    requires public { ArePublic asked.now }
+    ensures walks { (held files : Map (List ℕ)) (g : Given) → IsOver g loaded (machine_over held files image) asked.now now → Walks files asked.now.recorded g result }
+    ensures lengths { (held files : Map (List ℕ)) (g : Given) → IsOver g loaded (machine_over held files image) asked.now now → IfOk result (λ p. AreThere files p) }
+    ensures may_run { IfOk result MayRun }
+{
+    match ready(alloc, &loaded, &image, asked) {
+        Ok(first) => walk_over(alloc, loaded, first, image, asked.folder, now),
+        Err(stop) => {
+            drop(loaded);
+            drop(image);
+            Err(stop)
+        }
+    }
+}
+
+/// Loads the package of a folder and plans its walk over the machine of an image, or stops before it.
+pub fn prepare<S: Source>(
+    alloc: Global,
+    src: &mut S,
+    asked: &PackageWords<'_>,
+    image: Image,
+    now: u64,
+) -> Result<WalkPlan, Stop>
+    requires public { ArePublic asked.now }
+    ensures prepares { (held : Map (List ℕ)) → Prepares S.told (Rose (S.faults src.old) (S.faults src.new)) (S.files src.old) (given_of (S.files src.old) asked.now.folder.now (sets_of asked.now) (machine_over held (S.files src.old) image) now) (of_package (S.files src.old) now (machine_over held (S.files src.old) image) asked.now.recorded asked.now.folder.now (sets_of asked.now)) result }
+    ensures lengths { S.told → IfOk result (λ p. AreThere (S.files src.old) p) }
+    ensures may_run { IfOk result MayRun }
+    ensures refusal { IfOk result (λ p. IsWalkRefusal p.refusal) }
+    ensures stays { S.files src.new ≡ S.files src.old }
+    ensures counts { S.faults src.old ≤ S.faults src.new }
+{
+    match Package::load(alloc, src, asked.folder) {
+        Ok(loaded) => plan_package(alloc, loaded, image, asked, now),
+        Err(error) => {
+            drop(image);
+            Err(Stop::from(error))
+        }
+    }
+}

@@ -1,0 +1,5 @@
+pub mod Made
+pub mod Nexts
+pub mod Turns
+pub mod Stages
+pub mod Plain

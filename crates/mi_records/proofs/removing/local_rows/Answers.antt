@@ -1,0 +1,25 @@
+-- The rows of RemoveRegistry, and those that are made local.
+use Rattle.std.proofs.Common.{pos, negsuc, map, ap, ◌∙◌}
+use Rattle.std.specs.Prelude.{filter}
+use Rattle.mi_schema.specs.Laws.{IsWithin}
+use Rattle.mi_schema.specs.declared.package.Package.{Package}
+use Rattle.mi_schema.specs.declared.typed_rows.RemoveRegistryRow.{RemoveRegistryRow}
+use Rattle.mi_schema.specs.RowsOf.{rows_in}
+use Rattle.mi_schema.specs.TableRows.{in_key_order}
+use Rattle.mi_records.specs.Order.{as_numbered}
+use Rattle.mi_records.proofs.PhaseLemmas.{all_picked}
+use Rattle.mi_records.proofs.RemovingLemmas.{local_are}
+use Rattle.mi_records.proofs.removing.local_rows.Goals as goal
+
+pub returns-clause-rows : goal.returns-clause-rows
+returns-clause-rows g c = λ w asked.
+    let L = g.S.Env.lookups c.args.seen.now in
+    let choices = g.S.Sees.choices c.args.seen.now in
+    ap (map as_numbered) (c.in_ok-taken.ensures ∙ ap (filter (λ r. choices.local r.1.now.component)) c.as_slice.ensures.value)
+    ∙ local_are L choices (g.S.Sees.rows c.args.seen.now) w asked c.in_ok-rows.rows.items
+    (c.in_ok-rows.ensures.rows ∙ ap (λ (p : Package). in_key_order (λ (r : RemoveRegistryRow). r.remove_registry) (rows_in p).remove_registry) c.package.ensures)
+
+pub returns-clause-roots : goal.returns-clause-roots
+returns-clause-roots g c =
+    let choices = g.S.Sees.choices c.args.seen.now in
+    all_picked (λ r. IsWithin (negsuc 0) (pos 3) r.1.now.root) (λ r. choices.local r.1.now.component) c.in_ok-rows.rows.items c.in_ok-taken.taken.items (c.in_ok-taken.ensures ∙ ap (filter (λ r. choices.local r.1.now.component)) c.as_slice.ensures.value) c.in_ok-rows.ensures.roots

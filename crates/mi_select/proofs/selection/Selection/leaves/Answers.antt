@@ -1,0 +1,9 @@
+use Rattle.std.proofs.Common.{Some, None}
+use Rattle.mi_select.proofs.LookLemmas.{leaving-kept}
+use Rattle.mi_select.proofs.selection.Selection.leaves.Goals as goal
+
+pub returns-in-Some : goal.returns-in-Some
+returns-in-Some c = leaving-kept c.self.inside.features.entries c.self.inside.components.entries c.self.inside.mode c.args.self.now c.self.view_is c.args.component.now c.self.invariant (Some c.in-Some.chosen.now) c.in-Some.ensures.value
+
+pub returns-in-None : goal.returns-in-None
+returns-in-None c = leaving-kept c.self.inside.features.entries c.self.inside.components.entries c.self.inside.mode c.args.self.now c.self.view_is c.args.component.now c.self.invariant None c.in-None.ensures.value
