@@ -33,7 +33,7 @@ use Rattle.mi_model.specs.World.{Given}
 use Rattle.mi_model.specs.Properties.{table_properties}
 use Rattle.mi_model.specs.Settings.{settings, system_pair, system_properties, is_recorded}
 use Rattle.mi_model.specs.Assignments.{Assigned, Placed, name_in, is_assignment, assigned, kept_words, unless_other, assignments, with_words}
-use Rattle.mi_model.specs.StageOutcome.{unless_test, command_of}
+use Rattle.mi_engine.specs.StageOutcome.{unless_test, command_of}
 use Rattle.mi_model.specs.Words as words
 use Rattle.mi_model.specs.Words.{Command, Package, Selftest, Clients, Products, Recover, package_in, selftest_in, sized_test, test_size, alone, is_repair, repair_sets, command_in, command_of_kept}
 use Rattle.mi_engine.specs.declared.words.Asked.{Asked}

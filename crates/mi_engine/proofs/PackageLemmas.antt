@@ -22,8 +22,8 @@ use Rattle.mi_model.specs.Assignments.{Assigned}
 use Rattle.mi_model.specs.Planning.{IsPlan}
 use Rattle.mi_model.specs.PackageOutcome.{Outcome, Refused, only, of_walk, of_given, of_loaded, given_of}
 use Rattle.mi_model.specs.Settings.{is_recorded}
-use Rattle.mi_model.specs.StageOutcome.{of_package}
-use Rattle.mi_model.specs.Unbuilt.{unbuilt}
+use Rattle.mi_engine.specs.StageOutcome.{of_package}
+use Rattle.mi_plan.specs.Unbuilt.{unbuilt}
 use Rattle.mi_engine.specs.declared.stop.Stop.{Stop}
 use Rattle.mi_engine.specs.declared.stop.Stop.TheVariants.{NoMemory, Refuse}
 use Rattle.mi_engine.specs.Calls.{CausedStop, Judges, Prepares, Readies, Walks, first_cause, unknown_product}

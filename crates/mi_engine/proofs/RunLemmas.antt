@@ -29,7 +29,7 @@ use Rattle.mi_model.specs.Logs.{IsLog}
 use Rattle.mi_model.specs.Outcome.{Handed}
 use Rattle.mi_model.specs.PackageOutcome.{Outcome, only}
 use Rattle.mi_model.specs.PackageOutcome as o
-use Rattle.mi_model.specs.StageOutcome.{command_of, of_machine, of_former, of_words, IsWithoutRoom, ComesTo}
+use Rattle.mi_engine.specs.StageOutcome.{command_of, of_machine, of_former, of_words, IsWithoutRoom, ComesTo}
 use Rattle.mi_model.specs.Texts.{Text}
 use Rattle.mi_model.specs.TopCall.{handed}
 use Rattle.mi_model.specs.Words.{Command, Package, Selftest, Clients, Products, Recover, walks}

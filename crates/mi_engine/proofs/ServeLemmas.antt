@@ -20,7 +20,7 @@ use Rattle.mi_model.specs.Logs.{IsLog}
 use Rattle.mi_model.specs.Outcome.{Handed}
 use Rattle.mi_model.specs.PackageOutcome.{Outcome, only}
 use Rattle.mi_model.specs.PackageOutcome as o
-use Rattle.mi_model.specs.StageOutcome.{of_package, of_command, of_machine}
+use Rattle.mi_engine.specs.StageOutcome.{of_package, of_command, of_machine}
 use Rattle.mi_model.specs.Words.{Command, Package, Selftest, Clients, Products, Recover, walks}
 use Rattle.mi_engine.specs.declared.stop.Stop.{Stop}
 use Rattle.mi_engine.specs.declared.stop.Stop.TheVariants as stop

@@ -12,7 +12,7 @@ use Rattle.mi_schema.specs.Checks.{first_fault}
 use Rattle.mi_schema.specs.Rows.{◌or_else◌}
 use Rattle.mi_schema.specs.RowsOf.{rows_in, behind}
 use Rattle.mi_schema.specs.TableRows.{Rows}
-use Rattle.mi_model.specs.Unbuilt.{at_first_row, unbuilt, IsBuilt}
+use Rattle.mi_plan.specs.Unbuilt.{at_first_row, unbuilt, IsBuilt}
 use Rattle.mi_engine.specs.declared.stop.Stop.{Stop}
 use Rattle.mi_engine.specs.declared.stop.Stop.TheVariants.{NoMemory, Refuse}
 use Rattle.mi_engine.specs.Calls.{counted_fault, Judges, Refuses}

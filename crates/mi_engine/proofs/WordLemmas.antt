@@ -5,7 +5,7 @@ use Rattle.std.specs.Str.{bytes_eq}
 use Rattle.mi_text.specs.Fold.{folded}
 use Rattle.mi_model.specs.Texts.{Text}
 use Rattle.mi_model.specs.Assignments.{Assigned, Placed, kept_words, assignments, with_words}
-use Rattle.mi_model.specs.StageOutcome.{unless_test, command_of}
+use Rattle.mi_engine.specs.StageOutcome.{unless_test, command_of}
 use Rattle.mi_model.specs.Words as words
 use Rattle.mi_model.specs.Words.{Command, Package, Selftest, Clients, Products, Recover, package_in, selftest_in, alone, is_repair, repair_sets, command_in, command_of_kept}
 

@@ -26,7 +26,7 @@ use Rattle.mi_props.specs.Props.{Values, all_names}
 use Rattle.mi_model.specs.Properties.{first_properties}
 use Rattle.mi_model.specs.Settings.{is_recorded}
 use Rattle.mi_schema.specs.TableRows.{product_code}
-use Rattle.mi_model.specs.Unbuilt.{unbuilt}
+use Rattle.mi_plan.specs.Unbuilt.{unbuilt}
 use Rattle.mi_engine.specs.declared.stop.Stop.{Stop}
 use Rattle.mi_engine.specs.declared.stop.Stop.TheVariants.{NoMemory, Refuse}
 

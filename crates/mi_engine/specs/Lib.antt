@@ -1,5 +1,6 @@
 pub mod Answers
 pub mod Asked
+pub mod StageOutcome
 pub mod Calls
 pub mod Codes
 pub mod Endings

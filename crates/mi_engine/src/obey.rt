@@ -9,7 +9,7 @@ ghost use Rattle.mi_base.specs.Machine.{volume_of};
 ghost use Rattle.mi_image.specs.Items.{machine_over};
 ghost use Rattle.mi_model.specs.Listings.{clients_text_of, products_text_of};
 ghost use Rattle.mi_model.specs.Outcome.{Handed};
-ghost use Rattle.mi_model.specs.StageOutcome.{of_command, of_package};
+ghost use Rattle.mi_engine.specs.StageOutcome.{of_command, of_package};
 ghost use Rattle.mi_model.specs.Words.{Installs, Package};
 ghost use Rattle.mi_engine.specs.Answers.{IsTold};
 ghost use Rattle.mi_engine.specs.Asked.{IsPublic, asked as commanded};

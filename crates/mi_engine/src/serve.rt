@@ -7,7 +7,7 @@ ghost use Rattle.mi_undo.specs.Keeps.{IsFree};
 ghost use Rattle.mi_base.specs.Machine.{machine_of};
 ghost use Rattle.mi_model.specs.Outcome.{Handed};
 ghost use Rattle.mi_model.specs.PackageOutcome.{Outcome};
-ghost use Rattle.mi_model.specs.StageOutcome.{ComesTo, command_of, of_machine};
+ghost use Rattle.mi_engine.specs.StageOutcome.{ComesTo, command_of, of_machine};
 ghost use Rattle.mi_model.specs.Texts.{Text};
 ghost use Rattle.mi_model.specs.TopCall.{handed};
 ghost use Rattle.mi_model.specs.Words.{Installs};

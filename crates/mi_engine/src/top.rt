@@ -13,7 +13,7 @@ ghost use Rattle.mi_model.specs.Causes.{BelowCount, SameCount, AnswersWords, Cau
 ghost use Rattle.mi_model.specs.Leaves.{MayStand, AtExit, ReadsAfter, Cleans};
 ghost use Rattle.mi_model.specs.Logs.{IsLog, WritesFront, Logs};
 ghost use Rattle.mi_model.specs.PackageOutcome.{Outcome};
-ghost use Rattle.mi_model.specs.StageOutcome.{ComesTo, command_of};
+ghost use Rattle.mi_engine.specs.StageOutcome.{ComesTo, command_of};
 ghost use Rattle.mi_model.specs.TopCall.{handed};
 ghost use Rattle.mi_model.specs.Words.{Installs, walks};
 ghost use Rattle.mi_engine.specs.Answers.{IsTold, IsStill, MeetsFull};

@@ -6,7 +6,7 @@ ghost use Rattle.mi_base.specs.declared.answers.Fault.TheVariants.{NotYet};
 ghost use Rattle.mi_base.specs.declared.answers.Cause.TheVariants as cause;
 ghost use Rattle.mi_schema.specs.Checks.{first_fault};
 ghost use Rattle.mi_schema.specs.RowsOf.{rows_in};
-ghost use Rattle.mi_model.specs.Unbuilt.{unbuilt};
+ghost use Rattle.mi_plan.specs.Unbuilt.{unbuilt};
 ghost use Rattle.mi_engine.specs.Calls.{counted_fault, Judges, Refuses};
 
 use crate::stop::Stop;

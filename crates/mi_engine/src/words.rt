@@ -2,7 +2,7 @@
 
 ghost use Rattle.std.specs.Prelude.{◌≡◌, ℕ, Result, Ok, Err, MatchResult, MatchOption};
 ghost use Rattle.mi_model.specs.Assignments.{texts_of, kept_words};
-ghost use Rattle.mi_model.specs.StageOutcome.{command_of, unless_test};
+ghost use Rattle.mi_engine.specs.StageOutcome.{command_of, unless_test};
 ghost use Rattle.mi_model.specs.Words.{Command as Commanded, walks};
 ghost use Rattle.mi_engine.specs.Asked.{asked};
 

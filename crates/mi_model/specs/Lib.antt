@@ -45,12 +45,10 @@ pub mod Selftest
 pub mod Sequence
 pub mod Settings
 pub mod Shortcuts
-pub mod StageOutcome
 pub mod States
 pub mod Steps
 pub mod Texts
 pub mod TopCall
-pub mod Unbuilt
 pub mod Walk
 pub mod Words
 pub mod World

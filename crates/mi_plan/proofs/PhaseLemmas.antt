@@ -33,7 +33,7 @@ use Rattle.mi_model.specs.PhaseRows.{Touches, by_rows, phase_rows, after_rows}
 use Rattle.mi_model.specs.Plans.{Plans, Spells, all_touches}
 use Rattle.mi_model.specs.Refusals.{◌>>=◌, each}
 use Rattle.mi_model.specs.Texts.{Text}
-use Rattle.mi_model.specs.Unbuilt.{IsBuilt}
+use Rattle.mi_plan.specs.Unbuilt.{IsBuilt}
 use Rattle.mi_model.specs.Asked.{comes, leaves}
 use Rattle.mi_model.specs.FilePaths.{path_of_row, copy_path}
 use Rattle.mi_model.specs.Shortcuts as shortcuts

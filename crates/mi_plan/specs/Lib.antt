@@ -1,5 +1,6 @@
 pub mod Made
 pub mod Nexts
 pub mod Turns
+pub mod Unbuilt
 pub mod Stages
 pub mod Plain

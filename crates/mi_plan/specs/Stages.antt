@@ -7,7 +7,7 @@ use Rattle.mi_schema.specs.RowsOf.{rows_in}
 use Rattle.mi_image.specs.Overlays.{former_items, present_items}
 use Rattle.mi_model.specs.World.{Given}
 use Rattle.mi_model.specs.Sequence.{is_costed}
-use Rattle.mi_model.specs.Unbuilt.{IsBuilt}
+use Rattle.mi_plan.specs.Unbuilt.{IsBuilt}
 use Rattle.mi_seq.specs.declared.step.Step.{Step}
 use Rattle.mi_seq.specs.declared.step.Step.TheVariants as step
 use Rattle.mi_seq.specs.declared.walk.Walk.{Walk}

@@ -12,7 +12,7 @@ ghost use Rattle.mi_base.specs.declared.answers.Cause.TheVariants.{Table};
 ghost use Rattle.mi_model.specs.Sequence.{sequence};
 ghost use Rattle.mi_model.specs.Walk.{walk};
 ghost use Rattle.mi_model.specs.Planning.{IsPlan};
-ghost use Rattle.mi_model.specs.Unbuilt.{IsBuilt};
+ghost use Rattle.mi_plan.specs.Unbuilt.{IsBuilt};
 ghost use Rattle.mi_runner.specs.Records.{MayCarry, HasLength};
 ghost use Rattle.mi_script.specs.Scripts.{touched_names};
 ghost use Rattle.mi_undo.specs.Area.{AreOutside};

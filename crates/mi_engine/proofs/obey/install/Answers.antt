@@ -4,7 +4,7 @@ use Rattle.mi_source.specs.Paths.{Files}
 use Rattle.mi_base.specs.declared.answers.Kind.{Kind}
 use Rattle.mi_image.specs.Items.{machine_over}
 use Rattle.mi_model.specs.PackageOutcome.{given_of}
-use Rattle.mi_model.specs.StageOutcome.{of_package}
+use Rattle.mi_engine.specs.StageOutcome.{of_package}
 use Rattle.mi_model.specs.Words.{Package}
 use Rattle.mi_engine.specs.Answers.{IsTold}
 use Rattle.mi_engine.specs.Calls.{IsPlanned, sets_of}

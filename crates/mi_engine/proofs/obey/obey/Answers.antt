@@ -3,7 +3,7 @@ use Rattle.mi_source.specs.Counts.{Rose}
 use Rattle.mi_image.specs.Items.{machine_over}
 use Rattle.mi_undo.specs.Stands.{settled}
 use Rattle.mi_model.specs.Listings.{clients_text_of, products_text_of}
-use Rattle.mi_model.specs.StageOutcome.{of_command}
+use Rattle.mi_engine.specs.StageOutcome.{of_command}
 use Rattle.mi_model.specs.Words.{Clients, Products, Recover, Package}
 use Rattle.mi_engine.specs.declared.words.Asked.{Asked}
 use Rattle.mi_engine.specs.Answers.{IsTold}

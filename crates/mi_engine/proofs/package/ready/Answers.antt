@@ -1,6 +1,6 @@
 use Rattle.mi_image.specs.Items.{machine_over}
 use Rattle.mi_schema.specs.RowsOf.{rows_in}
-use Rattle.mi_model.specs.Unbuilt.{unbuilt}
+use Rattle.mi_plan.specs.Unbuilt.{unbuilt}
 use Rattle.mi_engine.proofs.PackageLemmas.{none_so, ready_by, unknown_so, built_so, on_ok}
 use Rattle.mi_engine.proofs.package.ready.Goals as goal
 

@@ -3,7 +3,7 @@ use Rattle.mi_source.specs.Counts.{Rose}
 use Rattle.mi_base.specs.Machine.{machine_of}
 use Rattle.mi_base.specs.declared.answers.Kind.{Kind}
 use Rattle.mi_image.specs.Items.{machine_over}
-use Rattle.mi_model.specs.StageOutcome.{of_command, of_machine}
+use Rattle.mi_engine.specs.StageOutcome.{of_command, of_machine}
 use Rattle.mi_engine.specs.Answers.{IsTold}
 use Rattle.mi_engine.specs.Asked.{asked}
 use Rattle.mi_engine.specs.Endings.{kind_unscanned}

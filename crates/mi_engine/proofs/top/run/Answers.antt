@@ -1,7 +1,7 @@
 use Rattle.std.proofs.Common.{◌≡◌}
 use Rattle.mi_model.specs.Assignments.{texts_of}
 use Rattle.mi_model.specs.Logs.{IsLog}
-use Rattle.mi_model.specs.StageOutcome.{command_of}
+use Rattle.mi_engine.specs.StageOutcome.{command_of}
 use Rattle.mi_model.specs.Words.{walks}
 use Rattle.mi_undo.specs.Stands.{settled}
 use Rattle.mi_engine.specs.Answers.{IsTold}

@@ -1,7 +1,7 @@
 use Rattle.std.proofs.Common.{Ok, Err}
 use Rattle.mi_source.specs.Counts.{Rose}
 use Rattle.mi_model.specs.Assignments.{texts_of}
-use Rattle.mi_model.specs.StageOutcome.{command_of}
+use Rattle.mi_engine.specs.StageOutcome.{command_of}
 use Rattle.mi_engine.specs.Asked.{asked}
 use Rattle.mi_engine.specs.Replies.{log_in}
 use Rattle.mi_engine.proofs.FirstLemmas.{asked_public}

@@ -3,7 +3,7 @@ use Rattle.std.specs.Option.{option_map}
 use Rattle.mi_base.specs.declared.answers.Fault.TheVariants.{NotYet}
 use Rattle.mi_base.specs.declared.answers.Cause.TheVariants.{Table}
 use Rattle.mi_schema.specs.RowsOf.{rows_in}
-use Rattle.mi_model.specs.Unbuilt.{unbuilt}
+use Rattle.mi_plan.specs.Unbuilt.{unbuilt}
 use Rattle.mi_engine.proofs.UnbuiltLemmas.{refused_by}
 use Rattle.mi_engine.proofs.unbuilt.require_built.Goals as goal
 

@@ -21,7 +21,7 @@ use Rattle.mi_model.specs.Words as words
 use Rattle.mi_model.specs.Words.{Command, Package, Selftest, Clients, Products, Recover}
 use Rattle.mi_model.specs.PackageOutcome.{Listed, Recovered, Refused, Outcome, only, of_loaded, of_given, given_of}
 use Rattle.mi_model.specs.Outcome.{Handed}
-use Rattle.mi_model.specs.Unbuilt.{unbuilt}
+use Rattle.mi_plan.specs.Unbuilt.{unbuilt}
 
 -- ---- the words
 
