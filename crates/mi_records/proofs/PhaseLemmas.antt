@@ -67,7 +67,7 @@ module _ (L : Lookups) (c : Choices) (p : Package) (w : World) (asked : IsAsked 
       ∙ ap (λ b. cond (is_of_user (root_of L r.root)) c.mode.u b) (asked.mode (λ mode. mode.m))
 
   written_is : (r : Numbered RegistryRow) → is_written w r ≡ (not (c.present r.row.component) || is_asked L c.mode r.row.root)
-  written_is r = ap (λ b. not b || is_asked_anew w r.row) (asked.present r.row) ∙ ap (λ b. not (c.present r.row.component) || b) (asked_anew r.row)
+  written_is r = ap (λ b. not b || is_asked_anew w r.row) (asked.present r.row.component) ∙ ap (λ b. not (c.present r.row.component) || b) (asked_anew r.row)
 
   taken_in : (rows : List (ℕ × Bor RegistryRow)) → filter (is_written w) (filter (λ r. comes w r.row.component) (map as_numbered rows)) ≡ map as_numbered (filter (λ r. is_taken L c r.1.now) rows)
   taken_in [] = refl
