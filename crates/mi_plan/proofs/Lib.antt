@@ -5,4 +5,7 @@ mod StageLemmas
 mod ArmLemmas
 mod TurnLemmas
 mod StartLemmas
-pub mod PlainLemmas
+mod DeviceLemmas
+mod RefusalLemmas
+mod LengthLemmas
+pub mod CarriedLemmas

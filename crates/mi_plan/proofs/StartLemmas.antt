@@ -23,6 +23,10 @@ use Rattle.mi_base.specs.declared.answers.Cause.{Cause}
 use Rattle.mi_plan.specs.declared.planned.WalkPlan.{WalkPlan}
 use Rattle.mi_plan.specs.declared.segment.Segment.{Segment}
 use Rattle.mi_plan.specs.Made.{as_planned}
+use Rattle.mi_plan.specs.Lengths.{HaveLength, SegmentsHave, HaveLengths}
+use Rattle.mi_plan.specs.declared.turn.Turn.TheVariants.{Went}
+use Rattle.mi_runner.specs.Records.{HasLength}
+use Rattle.std.proofs.lemmas.List.Elements.{All-nil}
 use Rattle.mi_model_laws.proofs.PlanningLemmas.{starts}
 use Rattle.mi_seq.specs.declared.walk.Walk.{Walk}
 use Rattle.mi_seq.specs.Walks.{rest, Stands}
@@ -59,6 +63,8 @@ pub so_far_at_start : (held : Map (List ℕ)) (files : Files) (g : Given) (k : W
 so_far_at_start held files g k walk start none nothing rows = record {
   of = start.of;
   former = start.former;
+  handed = start.handed;
+  contents = start.contents;
   walking =
       subst (λ (rs : List Row). Walking files g rs (world_of held files g k) k.begun.items (planned_of k) k.world.plan.script) (sym (rows ∙ ap sequence start.of.knows.rows))
       (subst (λ w. Walking files g (sequence g.rows) w k.begun.items (planned_of k) k.world.plan.script) (sym start.world)
@@ -78,3 +84,10 @@ plan_so files w p k why begun segments refusal is =
     subst (λ (b : Vec Name Global). IsPlan files w b.items (map as_planned p.segments.items) p.refusal) (sym begun)
     (subst (λ (s : Vec Segment Global). IsPlan files w k.begun.items (map as_planned s.items) p.refusal) (sym segments)
     (subst (λ (o : Option Cause). IsPlan files w k.begun.items (planned_of k) o) (sym refusal) is))
+
+-- at the start nothing is planned
+pub lengths_at_start : (files : Files) (k : Work) → k.world.plan.script ≡ [] → k.segments.items ≡ [] → HaveLengths files k Went
+lengths_at_start files k script segments = (
+  subst (λ (rs : List Rec). HaveLength files rs) (sym script) (All-nil (HasLength files)),
+  subst (λ (ss : List Segment). SegmentsHave files ss) (sym segments) (All-nil (λ (s : Segment). HaveLength files s.script)),
+)

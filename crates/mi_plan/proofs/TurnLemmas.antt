@@ -1,6 +1,8 @@
 -- What a turn makes of the walk so far, from the next step and from what it was taken for.
 use Rattle.std.proofs.Common.{◌≡◌, ◌⊎◌, inl, inr, ℕ, ◌<◌, ◌≤◌, Bool, true, false, List, [], ◌∷◌, ◌++◌, map, length, Option, Some, None, refl, sym, ap, ◌∙◌, subst}
-use Rattle.std.specs.Prelude.{IsSome, option_and_then, IfOk, OnOk, Result, Ok, Err}
+use Rattle.std.specs.Prelude.{IsSome, option_and_then, IfOk, OnOk, Result, Ok, Err, Vec}
+use Rattle.std.specs.declared.alloc.Global.{Global}
+use Rattle.mi_plan.specs.declared.segment.Segment.{Segment}
 use Rattle.std.specs.Map.{keys_of}
 use Rattle.mi_text.specs.Maps.{Name, Map}
 use Rattle.mi_text.specs.Lookups.{Lookups}
@@ -45,6 +47,8 @@ use Rattle.mi_plan.specs.Nexts.{Row, IsNext}
 use Rattle.mi_plan.specs.Turns.{IsBegun, IsOver, IsSoFar, IsTurned, world_of, planned_of}
 use Rattle.mi_plan.specs.Stages.{IsUnchanged, IsOfSome, is_initialized, IsStaged, IsRight, IsReady, MayTake, Leaves, costs, IsDone, IsStepped, IsRefusedBy, with_refused}
 use Rattle.mi_plan.specs.Made.{as_planned, with_action}
+use Rattle.mi_plan.specs.Lengths.{SegmentsHave, HaveLengths}
+use Rattle.mi_plan.specs.Refusals.{EndsRight}
 use Rattle.mi_plan.proofs.StepLemmas.{tells, sets_row, row_is}
 use Rattle.mi_plan.proofs.StageLemmas.{staged, phase_stands, not_begun, once_more, next_shorter}
 
@@ -111,7 +115,7 @@ module _ (k : Work) (old new : Walk) (ready : IsReady k old) where
 
   -- ---- a row that was begun
 
-  module _ (folder : Name) (j : Work) (s : Step) (t : Turn) (b : Begun k old new s) (d : IsDone folder s k j t) where
+  module _ (volume source : Type 0) (held : Map (List ℕ)) (files : Files) (folder : Name) (j : Work) (s : Step) (t : Turn) (b : Begun k old new s) (d : IsDone volume source held files folder s k j t) where
     same_rest : t ≡ Went → rest j.world.seen.loaded new ≡ rest p new
     same_rest went = ap (λ (q : Package). rest q new) (d.leaves went).loaded
 
@@ -131,7 +135,7 @@ module _ (k : Work) (old new : Walk) (ready : IsReady k old) where
               (subst (λ (rows : List Row). costs (k.begun.items ++ b.row.action ∷ []) rows ≤ 1) (sym (same_rest went)) (once_more L k.begun.items (rest p old) b.row (rest p new) b.next ready.once));
         }
 
-    module _ (held : Map (List ℕ)) (files : Files) (g : Given) (so : IsSoFar held files g k old) (there : folder ≡ g.folder) where
+    module _ (v : volume) (x : source) (g : Given) (so : IsSoFar held files g k old) (there : folder ≡ g.folder) where
       is_next : IsNext files g (rest p old) b.row (rest p new) (world_of held files g k) k.begun.items (planned_of k) k.world.plan.script (meant s)
       is_next =
           let same = looks held files g k.world.seen k.world.plan so.of in
@@ -142,15 +146,17 @@ module _ (k : Work) (old new : Walk) (ready : IsReady k old) where
           }
 
       over : IsOver held files g folder k.world
-      over = record { of = so.of; former = so.former; there = there }
+      over = record { of = so.of; former = so.former; there = there; handed = so.handed; contents = so.contents }
 
       done_turned : IsTurned held files g j new t
-      done_turned = by_turn t refl (d.steps held files g (rest p old) b.row (rest p new) over b.action is_next)
+      done_turned = by_turn t refl (d.steps v x g (rest p old) b.row (rest p new) over b.action is_next)
         where
           by_turn : (u : Turn) → t ≡ u → IsBegun files g (rest p new) (world_of held files g j) j.begun.items (planned_of j) j.world.plan.script u → IsTurned held files g j new u
           by_turn Went is walking = record {
             of = (d.leaves is).of g so.of;
             former = ap (machine_over held files) d.former ∙ so.former;
+            handed = so.handed;
+            contents = d.there v x is so.contents;
             walking = subst (λ (rows : List Row). Walking files g rows (world_of held files g j) j.begun.items (planned_of j) j.world.plan.script) (sym (same_rest is)) walking;
           }
           by_turn (Ended why) is planned = planned
@@ -165,42 +171,55 @@ module _ (k : Work) (old new : Walk) (ready : IsReady k old) where
         (next_ends files g (world_of held files g k) k.begun.items (planned_of k) k.world.plan.script (rest p old) so.walking
         (ap (λ (M : Lookups). next_row M (rest p old)) (sym (looks held files g k.world.seen k.world.plan so.of)) ∙ e.none) e.outside))
 
+    over_lengths : (files : Files) → HaveLengths files k Went → HaveLengths files j t
+    over_lengths files have = subst (λ (u : Turn). HaveLengths files j u) (sym is) (subst (λ (i : Work). HaveLengths files i (Ended None)) (sym same) have.1)
+
+    over_ends : EndsRight t
+    over_ends = subst EndsRight (sym is) tt
+
     not_went : {P : Type 0} → t ≡ Went → P
     not_went went = let here : Ended None ≡ Went = sym is ∙ went in cc
 
   -- ---- by the step
 
-  abbrev Told : Name → Work → Step → Turn → Type 0
-  Told folder j s t = (Begun k old new s × IsDone folder s k j t) ⊎ (seq.Ends p L k.begun.items old new × (t ≡ Ended None) × (j ≡ k))
+  module _ (volume source : Type 0) (held : Map (List ℕ)) (files : Files) (folder : Name) where
+    abbrev Told : Work → Step → Turn → Type 0
+    Told j s t = (Begun k old new s × IsDone volume source held files folder s k j t) ⊎ (seq.Ends p L k.begun.items old new × (t ≡ Ended None) × (j ≡ k))
 
-  told : (folder : Name) (j : Work) (s : Step) (t : Turn) → seq.Steps p L k.begun.items old new s → IsStepped folder s k j t → Told folder j s t
-  told folder j (step.Plain action) t b d = inl (b, d)
-  told folder j step.Launch t b d = inl (b, d)
-  told folder j step.Cost t b d = inl (b, d)
-  told folder j step.Initialize t b d = inl (b, d)
-  told folder j (step.Phase phase) t b d = inl (b, d)
-  told folder j (step.SetProperty action name text) t b d = inl (b, d)
-  told folder j (step.SetDir action dir text) t b d = inl (b, d)
-  told folder j (step.Error action text) t b d = inl (b, d)
-  told folder j (step.Execute action) t b d = inl (b, d)
-  told folder j step.Finalize t b d = inl (b, d)
-  told folder j step.End t b d = inr (b, d.0, d.1)
+    told : (j : Work) (s : Step) (t : Turn) → seq.Steps p L k.begun.items old new s → IsStepped volume source held files folder s k j t → Told j s t
+    told j (step.Plain action) t b d = inl (b, d)
+    told j step.Launch t b d = inl (b, d)
+    told j step.Cost t b d = inl (b, d)
+    told j step.Initialize t b d = inl (b, d)
+    told j (step.Phase phase) t b d = inl (b, d)
+    told j (step.SetProperty action name text) t b d = inl (b, d)
+    told j (step.SetDir action dir text) t b d = inl (b, d)
+    told j (step.Error action text) t b d = inl (b, d)
+    told j (step.Execute action) t b d = inl (b, d)
+    told j step.Finalize t b d = inl (b, d)
+    told j step.End t b d = inr (b, d.0, d.1)
 
-  module _ (folder : Name) (j : Work) (s : Step) (t : Turn) (b : seq.Steps p L k.begun.items old new s) (d : IsStepped folder s k j t) where
-    pub stepped_turned : (held : Map (List ℕ)) (files : Files) (g : Given) → folder ≡ g.folder → IsSoFar held files g k old → IsTurned held files g j new t
-    stepped_turned held files g there so = elim (told folder j s t b d) [
-      | inl x ↦ done_turned folder j s t x.0 x.1 held files g so there
-      | inr x ↦ over_turned j t x.0 x.1 x.2 held files g so
-    ]
+    module _ (j : Work) (s : Step) (t : Turn) (b : seq.Steps p L k.begun.items old new s) (d : IsStepped volume source held files folder s k j t) where
+      pub stepped_turned : volume → source → (g : Given) → folder ≡ g.folder → IsSoFar held files g k old → IsTurned held files g j new t
+      stepped_turned v x g there so = elim (told j s t b d) [
+        | inl y ↦ done_turned volume source held files folder j s t y.0 y.1 v x g so there
+        | inr y ↦ over_turned j t y.0 y.1 y.2 held files g so
+      ]
 
-    pub stepped_ready : t ≡ Went → IsReady j new
-    stepped_ready went = elim (told folder j s t b d) [ inl x ↦ done_ready folder j s t x.0 x.1 went | inr x ↦ not_went j t x.0 x.1 x.2 went ]
+      pub stepped_lengths : source → HaveLengths files k Went → HaveLengths files j t
+      stepped_lengths x have = elim (told j s t b d) [ inl y ↦ y.1.lengths x have | inr y ↦ over_lengths j t y.0 y.1 y.2 files have ]
 
-    pub stepped_shorter : t ≡ Went → length (rest j.world.seen.loaded new) < length (rest p old)
-    stepped_shorter went = elim (told folder j s t b d) [ inl x ↦ done_shorter folder j s t x.0 x.1 went | inr x ↦ not_went j t x.0 x.1 x.2 went ]
+      pub stepped_ends : EndsRight t
+      stepped_ends = elim (told j s t b d) [ inl y ↦ y.1.ends | inr y ↦ over_ends j t y.0 y.1 y.2 ]
 
-    pub stepped_former : former_items j.world.plan.overlay ≡ former_items k.world.plan.overlay
-    stepped_former = elim (told folder j s t b d) [ inl x ↦ x.1.former | inr x ↦ ap (λ (i : Work). former_items i.world.plan.overlay) x.2 ]
+      pub stepped_ready : t ≡ Went → IsReady j new
+      stepped_ready went = elim (told j s t b d) [ inl y ↦ done_ready volume source held files folder j s t y.0 y.1 went | inr y ↦ not_went j t y.0 y.1 y.2 went ]
+
+      pub stepped_shorter : t ≡ Went → length (rest j.world.seen.loaded new) < length (rest p old)
+      stepped_shorter went = elim (told j s t b d) [ inl y ↦ done_shorter volume source held files folder j s t y.0 y.1 went | inr y ↦ not_went j t y.0 y.1 y.2 went ]
+
+      pub stepped_former : former_items j.world.plan.overlay ≡ former_items k.world.plan.overlay
+      stepped_former = elim (told j s t b d) [ inl y ↦ y.1.former | inr y ↦ ap (λ (i : Work). former_items i.world.plan.overlay) y.2 ]
 
   -- ---- where it is refused
 
@@ -252,3 +271,29 @@ refused_result k old new ready j (error.Refused action fault) (Ok t) is ended pl
     subst (λ (u : Turn). IsTurned held files g j new u) (sym ended) (refused_turned k old new ready j action fault (is k.begun.items ready.stands) plans begun held files g so)
 refused_result k old new ready j error.NoMemory (Ok t) is ended plans begun held files g so = absurd ended
 refused_result k old new ready j e (Err x) is ended plans begun held files g so = tt
+
+-- where a walk is refused its segments stay
+pub refused_lengths : {E : Type 0} (files : Files) (k j : Work) (e : SeqError) (r : Result Turn E) → IfOk r (IsRefusedBy e) → j.segments ≡ k.segments → HaveLengths files k Went → IfOk r (HaveLengths files j)
+refused_lengths files k j e (Ok t) ended same have = by_error e ended
+  where
+    segments : SegmentsHave files j.segments.items
+    segments = subst (λ (v : Vec Segment Global). SegmentsHave files v.items) (sym same) have.1
+
+    by_error : (e : SeqError) → IsRefusedBy e t → HaveLengths files j t
+    by_error (error.Refused action fault) ended = subst (λ (u : Turn). HaveLengths files j u) (sym ended) segments
+    by_error error.NoMemory ended = absurd ended
+refused_lengths files k j e (Err x) ended same have = tt
+
+pub refused_right : {E : Type 0} (e : SeqError) (r : Result Turn E) → IfOk r (IsRefusedBy e) → IfOk r EndsRight
+refused_right (error.Refused action fault) (Ok t) ended = subst EndsRight (sym ended) tt
+refused_right error.NoMemory (Ok t) ended = absurd ended
+refused_right e (Err x) ended = tt
+
+-- the same walk over what the devices hold still
+pub over_same : (held held' files files' : Map (List ℕ)) (g : Given) (k j : Work) (old new : Walk) (t : Turn) → held' ≡ held → files' ≡ files
+    → (IsSoFar held' files' g k old → IsTurned held' files' g j new t) → IsSoFar held files g k old → IsTurned held files g j new t
+over_same held held' files files' g k j old new t same_held same_files turned =
+    subst (λ (h : Map (List ℕ)). IsSoFar h files g k old → IsTurned h files g j new t) same_held (subst (λ (f : Map (List ℕ)). IsSoFar held' f g k old → IsTurned held' f g j new t) same_files turned)
+
+pub lengths_same : (files files' : Files) (k j : Work) (t : Turn) → files' ≡ files → (HaveLengths files' k Went → HaveLengths files' j t) → HaveLengths files k Went → HaveLengths files j t
+lengths_same files files' k j t same f = subst (λ (x : Files). HaveLengths x k Went → HaveLengths x j t) same f

@@ -1,6 +1,10 @@
 pub mod Made
+pub mod Refusals
+pub mod Devices
+pub mod Phases
 pub mod Nexts
 pub mod Turns
 pub mod Unbuilt
+pub mod Lengths
 pub mod Stages
-pub mod Plain
+pub mod Carried

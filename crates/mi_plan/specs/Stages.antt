@@ -1,10 +1,12 @@
 -- Where the walk stands: what may be planned there. (Suggested InstallExecuteSequence.)
 use Rattle.std.specs.Prelude.{◌≡◌, ◌≤◌, ◌+◌, ℕ, Bool, true, false, List, [], ◌∷◌, ◌++◌, map, codes, if◌then◌else◌, Option, Some, None}
-use Rattle.mi_text.specs.Maps.{Name, same_name, is_among}
+use Rattle.mi_text.specs.Maps.{Name, Map, same_name, is_among}
 use Rattle.mi_schema.specs.declared.package.Package.{Package}
 use Rattle.mi_schema.specs.Lawful.{IsLawful}
 use Rattle.mi_schema.specs.RowsOf.{rows_in}
+use Rattle.mi_image.specs.Items.{AreThere}
 use Rattle.mi_image.specs.Overlays.{former_items, present_items}
+use Rattle.mi_source.specs.Paths.{Files}
 use Rattle.mi_model.specs.World.{Given}
 use Rattle.mi_model.specs.Sequence.{is_costed}
 use Rattle.mi_plan.specs.Unbuilt.{IsBuilt}
@@ -25,6 +27,8 @@ use Rattle.mi_base.specs.declared.answers.Cause.TheVariants.{Table}
 use Rattle.mi_plan.specs.Made.{with_action}
 use Rattle.mi_plan.specs.Nexts.{Row}
 use Rattle.mi_plan.specs.Turns.{Steps}
+use Rattle.mi_plan.specs.Lengths.{HaveLengths}
+use Rattle.mi_plan.specs.Refusals.{EndsRight}
 
 -- ---- where it stands
 
@@ -69,6 +73,7 @@ pub record IsFresh (w : World) : Type 0 where
   pub of : IsOfSome w.seen
   pub uncosted : IsUncosted w.seen
   pub unchanged : IsUnchanged w
+  pub script : w.plan.script ≡ []
 
 -- The loop may go on.
 pub record IsReady (k : Work) (w : Walk) : Type 0 where
@@ -95,6 +100,13 @@ abbrev pub is_phase : Step → Bool
 is_phase (step.Phase p) = true
 is_phase other = false
 
+-- it adds records to the open script, or begins a new one
+abbrev pub writes_script : Step → Bool
+writes_script (step.Phase p) = true
+writes_script (step.Execute action) = true
+writes_script step.Finalize = true
+writes_script other = false
+
 -- what a step that was taken leaves
 pub record Leaves (s : Step) (old new : World) : Type 0 where
   pub loaded : new.seen.loaded ≡ old.seen.loaded
@@ -103,18 +115,26 @@ pub record Leaves (s : Step) (old new : World) : Type 0 where
   pub costed : IsOfSome old.seen → IsCosted old.seen → IsCosted new.seen
   pub uncosted : is_cost s ≡ false → IsUncosted old.seen → IsUncosted new.seen
   pub present : is_phase s ≡ false → present_items new.plan.overlay ≡ present_items old.plan.overlay
+  pub script : writes_script s ≡ false → new.plan.script ≡ old.plan.script
 
--- what a step that isn't the end has made of all
-pub record IsDone (folder : Name) (s : Step) (old new : Work) (t : Turn) : Type 0 where
-  pub steps : Steps folder s old new t
+-- what the image says of contents is there still
+abbrev pub StaysThere : Map (List ℕ) → Files → World → World → Type 0
+StaysThere held files old new = AreThere held files (present_items old.plan.overlay) → AreThere held files (present_items new.plan.overlay)
+
+-- What a step that isn't the end has made of all; `volume` and `source` say that this device tells what it holds.
+pub record IsDone (volume source : Type 0) (held : Map (List ℕ)) (files : Files) (folder : Name) (s : Step) (old new : Work) (t : Turn) : Type 0 where
+  pub steps : volume → source → Steps held files folder s old new t
+  pub there : volume → source → t ≡ Went → StaysThere held files old.world new.world
+  pub lengths : source → HaveLengths files old Went → HaveLengths files new t
+  pub ends : EndsRight t
   pub begun : new.begun.items ≡ old.begun.items ++ action_of s ∷ []
   pub leaves : t ≡ Went → Leaves s old.world new.world
   pub former : former_items new.world.plan.overlay ≡ former_items old.world.plan.overlay
 
 -- The turn of a step.
-abbrev pub IsStepped : Name → Step → Work → Work → Turn → Type 0
-IsStepped folder step.End old new t = (t ≡ Ended None) × (new ≡ old)
-IsStepped folder other old new t = IsDone folder other old new t
+abbrev pub IsStepped : Type 0 → Type 0 → Map (List ℕ) → Files → Name → Step → Work → Work → Turn → Type 0
+IsStepped volume source held files folder step.End old new t = (t ≡ Ended None) × (new ≡ old)
+IsStepped volume source held files folder other old new t = IsDone volume source held files folder other old new t
 
 -- ---- where the walk has no next step
 

@@ -3,8 +3,8 @@ use Rattle.std.specs.Prelude.{◌≡◌, ℕ, List, [], ◌∷◌, ◌++◌, map
 use Rattle.mi_text.specs.Maps.{Name, Map}
 use Rattle.mi_source.specs.Paths.{Files}
 use Rattle.mi_script.specs.declared.rec.Rec.{Rec}
-use Rattle.mi_image.specs.Items.{machine_over}
-use Rattle.mi_image.specs.Overlays.{former_items}
+use Rattle.mi_image.specs.Items.{machine_over, AreThere}
+use Rattle.mi_image.specs.Overlays.{former_items, present_items}
 use Rattle.mi_model.specs.World.{Given, World}
 use Rattle.mi_model.specs.Properties.{started}
 use Rattle.mi_model.specs.Walk.{walk}
@@ -40,6 +40,8 @@ planned_of k = map as_planned k.segments.items
 pub record IsSoFar (held : Map (List ℕ)) (files : Files) (g : Given) (k : Work) (w : Walk) : Type 0 where
   pub of : IsOf g k.world.seen
   pub former : machine_over held files (former_items k.world.plan.overlay) ≡ g.former
+  pub handed : g.files ≡ files
+  pub contents : AreThere held files (present_items k.world.plan.overlay)
   pub walking : Walking files g (rest k.world.seen.loaded w) (world_of held files g k) k.begun.items (planned_of k) k.world.plan.script
 
 -- The world is the one before any action of a walk over this.
@@ -47,6 +49,8 @@ pub record IsStart (held : Map (List ℕ)) (files : Files) (g : Given) (w : TheW
   pub of : IsOf g w.seen
   pub former : machine_over held files (former_items w.plan.overlay) ≡ g.former
   pub world : world_over held files g w.seen w.plan ≡ started g
+  pub handed : g.files ≡ files
+  pub contents : AreThere held files (present_items w.plan.overlay)
   pub script : w.plan.script ≡ []
 
 -- The walk goes on, or is planned whole.
@@ -56,32 +60,34 @@ IsTurned held files g k w (Ended why) = IsPlan files (walk g) k.begun.items (pla
 
 -- ---- steps
 
--- the walk is over this
+-- the walk is over this, whose files are the source's, and what the image says of contents is there
 pub record IsOver (held : Map (List ℕ)) (files : Files) (g : Given) (folder : Name) (w : TheWorld) : Type 0 where
   pub of : IsOf g w.seen
   pub former : machine_over held files (former_items w.plan.overlay) ≡ g.former
   pub there : folder ≡ g.folder
+  pub handed : g.files ≡ files
+  pub contents : AreThere held files (present_items w.plan.overlay)
 
 -- Whatever row of whatever walk it is that has this step, it was begun so.
-abbrev pub Begins : Name → TheStep → TheWorld → TheWorld → Turn → Type 0
-Begins folder s old new t =
-    (held : Map (List ℕ)) (files : Files) (g : Given) (rows : List Row) (row : Row) (behind : List Row) (names : List Name) (plans : List Planned)
+abbrev pub Begins : Map (List ℕ) → Files → Name → TheStep → TheWorld → TheWorld → Turn → Type 0
+Begins held files folder s old new t =
+    (g : Given) (rows : List Row) (row : Row) (behind : List Row) (names : List Name) (plans : List Planned)
     → IsOver held files g folder old → action_of s ≡ row.action
     → IsNext files g rows row behind (world_over held files g old.seen old.plan) names plans old.plan.script (meant s)
     → IsBegun files g behind (world_over held files g new.seen new.plan) (names ++ row.action ∷ []) plans new.plan.script t
 
 -- the same behind the beginning of its action
-abbrev pub Takes : Name → TheStep → Work → Work → Turn → Type 0
-Takes folder s old new t =
-    (held : Map (List ℕ)) (files : Files) (g : Given) (rows : List Row) (row : Row) (behind : List Row) (names : List Name)
+abbrev pub Takes : Map (List ℕ) → Files → Name → TheStep → Work → Work → Turn → Type 0
+Takes held files folder s old new t =
+    (g : Given) (rows : List Row) (row : Row) (behind : List Row) (names : List Name)
     → IsOver held files g folder old.world → action_of s ≡ row.action → old.begun.items ≡ names ++ row.action ∷ []
     → IsNext files g rows row behind (world_of held files g old) names (planned_of old) old.world.plan.script (meant s)
     → IsBegun files g behind (world_of held files g new) new.begun.items (planned_of new) new.world.plan.script t
 
 -- the same from before it
-abbrev pub Steps : Name → TheStep → Work → Work → Turn → Type 0
-Steps folder s old new t =
-    (held : Map (List ℕ)) (files : Files) (g : Given) (rows : List Row) (row : Row) (behind : List Row)
+abbrev pub Steps : Map (List ℕ) → Files → Name → TheStep → Work → Work → Turn → Type 0
+Steps held files folder s old new t =
+    (g : Given) (rows : List Row) (row : Row) (behind : List Row)
     → IsOver held files g folder old.world → action_of s ≡ row.action
     → IsNext files g rows row behind (world_of held files g old) old.begun.items (planned_of old) old.world.plan.script (meant s)
     → IsBegun files g behind (world_of held files g new) new.begun.items (planned_of new) new.world.plan.script t

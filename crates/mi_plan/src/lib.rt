@@ -3,8 +3,10 @@
 #![tactic(auto)]
 
 mod arms;
+mod carried;
+mod copies;
+mod error;
 mod phases;
-mod plain;
 mod planned;
 mod planning;
 mod segment;
@@ -12,6 +14,7 @@ mod steps;
 mod turn;
 mod work;
 
+pub use error::WalkError;
 pub use planned::WalkPlan;
 pub use planning::plan_walk;
 pub use segment::Segment;

@@ -28,6 +28,7 @@ impl Work {
         ensures overlay { OnOk result (self.new.world.plan.overlay ≡ self.old.world.plan.overlay) }
         ensures script { OnOk result (self.new.world.plan.script ≡ []) }
         ensures begun { OnOk result (self.new.begun ≡ self.old.begun) }
+        ensures kept { OnOk result (self.new.segments.items ≡ self.old.segments.items ++ record { script = self.old.world.plan.script; reached = length self.old.begun.items } ∷ []) }
         ensures segments { OnOk result (map as_planned self.new.segments.items ≡ map as_planned self.old.segments.items ++ record { records = self.old.world.plan.script; reached = length self.old.begun.items } ∷ []) }
     {
         let script = mem::replace(&mut self.world.plan.script, Script::new(alloc));

@@ -1,56 +1,36 @@
--- An arm for each step.
-use Rattle.std.proofs.Common.{Some, refl, sym, ◌∙◌, subst}
-use Rattle.mi_base.specs.declared.answers.Cause.TheVariants.{ErrorAction}
+-- A phase, or a step that asks no device.
+use Rattle.std.proofs.Common.{refl, sym, subst}
 use Rattle.mi_seq.specs.declared.step.Step.{Step}
 use Rattle.mi_seq.specs.declared.step.Step.TheVariants as step
-use Rattle.mi_plan.specs.declared.turn.Turn.TheVariants.{Went, Ended}
-use Rattle.mi_plan.specs.Turns.{Takes}
-use Rattle.mi_plan.proofs.ArmLemmas.{plain_went, initialize_went, error_ended, takes_world, takes_result, ends_result}
+use Rattle.mi_plan.specs.Stages.{MayTake}
+use Rattle.mi_plan.proofs.ArmLemmas.{takes_result, leaves_result, seen_stays, phase_lengths}
+use Rattle.mi_plan.proofs.DeviceLemmas.{asks_none}
 use Rattle.mi_plan.proofs.steps.take.Goals as goal
 
-pub returns-in-Plain-clause-takes : goal.returns-in-Plain-clause-takes
-returns-in-Plain-clause-takes c =
-    let action = c.in-Plain.field-0 in
-    subst (λ (s : Step). Takes c.args.folder.now s c.args.work.now c.args.work.now Went) (sym c.in-Plain.is)
-    (takes_world c.args.folder.now (step.Plain action) c.args.work.now c.args.work.now.world Went (plain_went c.args.folder.now action c.args.work.now.world))
+pub run-requires-clause-may : goal.run-requires-clause-may
+run-requires-clause-may g c = subst (λ (s : Step). MayTake s c.args.work.now.world) c.in-Some.ensures.some c.requires.may
 
-pub returns-in-Initialize-clause-takes : goal.returns-in-Initialize-clause-takes
-returns-in-Initialize-clause-takes c =
-    subst (λ (s : Step). Takes c.args.folder.now s c.args.work.now c.args.work.now Went) (sym c.in-Initialize.is)
-    (takes_world c.args.folder.now step.Initialize c.args.work.now c.args.work.now.world Went (initialize_went c.args.folder.now c.args.work.now.world))
+pub returns-in-Some-clause-takes : goal.returns-in-Some-clause-takes
+returns-in-Some-clause-takes g c = λ v s.
+    takes_result (g.V.Volume.state c.args.vol.now).held (g.S.Source.files c.args.src.now) c.args.folder.now c.args.step (step.Phase c.in-Some.phase) c.args.work.now c.run.new.world c.run.result c.in-Some.ensures.some (c.run.ensures.begins c.args.folder.now v s)
 
-pub returns-in-Error-clause-takes : goal.returns-in-Error-clause-takes
-returns-in-Error-clause-takes c =
-    let action = c.in-Error.action in
-    let text = c.in-Error.text in
-    subst (λ (s : Step). Takes c.args.folder.now s c.args.work.now c.args.work.now (Ended (Some (ErrorAction action text)))) (sym c.in-Error.is)
-    (takes_world c.args.folder.now (step.Error action text) c.args.work.now c.args.work.now.world (Ended (Some (ErrorAction action text))) (error_ended c.args.folder.now action text c.args.work.now.world))
+pub returns-in-Some-clause-lengths : goal.returns-in-Some-clause-lengths
+returns-in-Some-clause-lengths g c = λ s have. phase_lengths (g.S.Source.files c.args.src.now) c.args.work.now c.run.new.world c.run.result (c.run.ensures.lengths s have.0) have
 
-pub returns-in-Launch-clause-takes : goal.returns-in-Launch-clause-takes
-returns-in-Launch-clause-takes c = takes_result c.args.folder.now c.args.step step.Launch c.args.work.now c.args.work.now.world c.launch.result c.in-Launch.is (c.launch.ensures c.args.folder.now)
+pub returns-in-Some-clause-leaves : goal.returns-in-Some-clause-leaves
+returns-in-Some-clause-leaves g c = leaves_result c.args.step (step.Phase c.in-Some.phase) c.args.work.now.world c.run.new.world c.run.result c.in-Some.ensures.some c.run.ensures.leaves
 
-pub returns-in-Cost-clause-takes : goal.returns-in-Cost-clause-takes
-returns-in-Cost-clause-takes c = takes_result c.args.folder.now c.args.step step.Cost c.args.work.now c.cost.new.world c.cost.result c.in-Cost.is c.cost.ensures.begins
+pub returns-in-None-in-Ok-clause-takes : goal.returns-in-None-in-Ok-clause-takes
+returns-in-None-in-Ok-clause-takes g c = λ v s. c.in-None-in-Ok.ensures.takes (g.V.Volume.state c.args.vol.now).held (g.S.Source.files c.args.src.now)
 
-pub returns-in-Phase-clause-takes : goal.returns-in-Phase-clause-takes
-returns-in-Phase-clause-takes c = takes_result c.args.folder.now c.args.step (step.Phase c.in-Phase.phase) c.args.work.now c.run.new.world c.run.result c.in-Phase.is (c.run.ensures.begins c.args.folder.now)
+pub returns-in-None-in-Ok-clause-there : goal.returns-in-None-in-Ok-clause-there
+returns-in-None-in-Ok-clause-there g c = λ v s. seen_stays (g.V.Volume.state c.args.vol.now).held (g.S.Source.files c.args.src.now) c.args.step c.args.work.now.world c.take_seen.new.work.world c.take_seen.result (c.phase_of.ensures.none refl) c.take_seen.ensures.leaves
 
-pub returns-in-SetProperty-clause-takes : goal.returns-in-SetProperty-clause-takes
-returns-in-SetProperty-clause-takes c =
-    takes_result c.args.folder.now c.args.step (step.SetProperty c.in-SetProperty.action c.as_str.result.now c.as_str-in-SetProperty.result.now) c.args.work.now c.set_property.new.world c.set_property.result
-    (c.in-SetProperty.is ∙ (λ i. step.SetProperty c.in-SetProperty.action (sym c.as_str.ensures i) (sym c.as_str-in-SetProperty.ensures i))) (c.set_property.ensures.begins c.args.folder.now)
+pub returns-in-None-in-Ok-clause-lengths : goal.returns-in-None-in-Ok-clause-lengths
+returns-in-None-in-Ok-clause-lengths g c = λ s have. c.in-None-in-Ok.ensures.lengths (g.S.Source.files c.args.src.now) have
 
-pub returns-in-SetDir-clause-takes : goal.returns-in-SetDir-clause-takes
-returns-in-SetDir-clause-takes c =
-    takes_result c.args.folder.now c.args.step (step.SetDir c.in-SetDir.field-0 c.as_str-in-SetDir.result.now c.as_str-in-SetDir-2.result.now) c.args.work.now c.set_dir.new.world c.set_dir.result
-    (c.in-SetDir.is ∙ (λ i. step.SetDir c.in-SetDir.field-0 (sym c.as_str-in-SetDir.ensures i) (sym c.as_str-in-SetDir-2.ensures i))) (c.set_dir.ensures.begins c.args.folder.now c.in-SetDir.field-0)
+pub returns-in-None-in-Ok-clause-asks : goal.returns-in-None-in-Ok-clause-asks
+returns-in-None-in-Ok-clause-asks g c = asks_none g.V.Volume.told (g.V.Volume.state c.args.vol.now) (g.S.Source.files c.args.src.now) (g.S.Source.faults c.args.src.now)
 
-pub returns-in-Execute-clause-takes : goal.returns-in-Execute-clause-takes
-returns-in-Execute-clause-takes c =
-    let e = c.end_segment.ensures in
-    ends_result c.args.folder.now c.args.step (step.Execute c.in-Execute.field-0) c.args.work.now c.end_segment.new.self c.end_segment.result c.in-Execute.is refl e.went e.seen e.overlay e.script e.begun e.segments
-
-pub returns-in-Finalize-clause-takes : goal.returns-in-Finalize-clause-takes
-returns-in-Finalize-clause-takes c =
-    let e = c.end_segment-in-Finalize.ensures in
-    ends_result c.args.folder.now c.args.step step.Finalize c.args.work.now c.end_segment-in-Finalize.new.self c.end_segment-in-Finalize.result c.in-Finalize.is refl e.went e.seen e.overlay e.script e.begun e.segments
+pub returns-in-None-in-Err-clause-asks : goal.returns-in-None-in-Err-clause-asks
+returns-in-None-in-Err-clause-asks g c = asks_none g.V.Volume.told (g.V.Volume.state c.args.vol.now) (g.S.Source.files c.args.src.now) (g.S.Source.faults c.args.src.now)
