@@ -1,6 +1,7 @@
 -- Records that copy nothing of the source, behind others.
 use Rattle.std.proofs.Common.{◌≡◌, ◌≤◌, ℕ, true, false, List, [], ◌∷◌, ◌++◌, length, drop, drop_at, refl, sym, ap, subst, ◌∙◌, arith}
 use Rattle.std.specs.List.{All}
+use Rattle.std.proofs.lemmas.List.{append-nil}
 use Rattle.std.proofs.lemmas.List.Elements.{All-append, All-weaker}
 use Rattle.mi_source.specs.Paths.{Files}
 use Rattle.mi_script.specs.declared.rec.Rec.{Rec}
@@ -14,6 +15,10 @@ no_copy files (Put name bytes) is = tt
 no_copy files (Drop name) is = tt
 no_copy files (Copy name head file path n) is = cc
 no_copy files (Dup name head from) is = tt
+
+-- nothing is added
+pub grows_none : (recs : List Rec) → Grows recs recs
+grows_none recs = ([], sym (append-nil recs))
 
 pub grows_long : (had has : List Rec) → Grows had has → length had ≤ length has
 grows_long had has grows = let e = ap length grows.1 in grind (arith, e)

@@ -15,9 +15,7 @@ ghost use Rattle.mi_plan.specs.Carried.{IsCarried, AreCarried};
 
 use crate::planned::WalkPlan;
 use crate::segment::Segment;
-use mi_base::{
-    Bytes, EncError, Entry, FileEntry, FileHead, Languages, Name, NoMemory, enc_entry,
-};
+use mi_base::{Bytes, EncError, Entry, FileEntry, FileHead, Languages, Name, NoMemory, enc_entry};
 use mi_script::Rec;
 use std::alloc::Global;
 
@@ -73,12 +71,7 @@ fn check_head(alloc: Global, name: &Name, head: &FileHead) -> Result<(), NoMemor
 }
 
 /// Refuses a duplicate of itself or of a name inside the area.
-fn check_duplicate(
-    alloc: Global,
-    name: &Name,
-    head: &FileHead,
-    from: &Name,
-) -> Result<(), NoMemory>
+fn check_duplicate(alloc: Global, name: &Name, head: &FileHead, from: &Name) -> Result<(), NoMemory>
     ensures { OnOk result (HeadMayStand name.now head.now × (from.now ≢ name.now) × (is_inside from.now ≡ false)) }
 {
     if is_inside(from) {

@@ -30,12 +30,7 @@ use mi_world::{Seen, phases_ask};
 use std::alloc::Global;
 
 /// Plans the rows of a phase by what is seen. The tables of the phases that aren't built have no rows.
-fn plan_rows(
-    alloc: Global,
-    seen: &Seen,
-    plan: &mut Plan,
-    phase: Phase,
-) -> Result<(), PlanError>
+fn plan_rows(alloc: Global, seen: &Seen, plan: &mut Plan, phase: Phase) -> Result<(), PlanError>
     requires right { IsRight seen.now.loaded }
     requires costed { IsCosted seen.now }
     ensures phase { (held files : Map (List ℕ)) (g : Given) → IsOf g seen.now → AreThere held files (present_items plan.old.overlay) → IsPlanned held files plan.old plan.new (effect phase) (world_over held files g seen.now plan.old) result }
@@ -63,12 +58,7 @@ fn plan_rows(
 }
 
 /// Plans the rows of a phase that asks no device, and judges that none of its records copies a file of the source.
-fn plan_seen(
-    alloc: Global,
-    seen: &Seen,
-    plan: &mut Plan,
-    phase: Phase,
-) -> Result<(), PhaseError>
+fn plan_seen(alloc: Global, seen: &Seen, plan: &mut Plan, phase: Phase) -> Result<(), PhaseError>
     requires right { IsRight seen.now.loaded }
     requires costed { IsCosted seen.now }
     ensures phase { (held files : Map (List ℕ)) (g : Given) → IsOf g seen.now → AreThere held files (present_items plan.old.overlay) → IsPlannedPhase held files plan.old plan.new (effect phase) (world_over held files g seen.now plan.old) result }

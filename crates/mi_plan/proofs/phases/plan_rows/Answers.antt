@@ -7,6 +7,7 @@ use Rattle.mi_seq.specs.declared.phase.Phase.{Phase}
 use Rattle.mi_seq.specs.Meaning.{effect}
 use Rattle.mi_world.specs.Seen.{world_over}
 use Rattle.mi_plan.proofs.PhaseLemmas.{built_over, removes_no_shortcuts, removes_no_strings, removes_no_copies, removes_nothing, removes_no_folders, creates_no_folders, installs_nothing, copies_nothing, creates_no_shortcuts, writes_no_strings}
+use Rattle.mi_plan.proofs.LengthLemmas.{grows_none}
 use Rattle.mi_plan.proofs.phases.plan_rows.Goals as goal
 
 pub returns-in-RemoveShortcuts-clause-phase : goal.returns-in-RemoveShortcuts-clause-phase
@@ -92,3 +93,33 @@ returns-in-PublishProduct-clause-phase c = λ held files g of there.
     let w = world_over held files g c.args.seen.now c.args.plan.now in
     subst (λ (p : Phase). IsPlanned held files c.args.plan.now c.plan_publish_product.new.plan (effect p) w c.plan_publish_product.result) (sym c.in-PublishProduct.is)
     (c.plan_publish_product.ensures.phase held files w (c.phases_ask.ensures held files g of c.requires.costed) refl)
+
+pub returns-in-RemoveShortcuts-clause-grows : goal.returns-in-RemoveShortcuts-clause-grows
+returns-in-RemoveShortcuts-clause-grows c = grows_none c.args.plan.now.script
+
+pub returns-in-RemoveEnvironmentStrings-clause-grows : goal.returns-in-RemoveEnvironmentStrings-clause-grows
+returns-in-RemoveEnvironmentStrings-clause-grows c = grows_none c.args.plan.now.script
+
+pub returns-in-RemoveDuplicateFiles-clause-grows : goal.returns-in-RemoveDuplicateFiles-clause-grows
+returns-in-RemoveDuplicateFiles-clause-grows c = grows_none c.args.plan.now.script
+
+pub returns-in-RemoveFiles-clause-grows : goal.returns-in-RemoveFiles-clause-grows
+returns-in-RemoveFiles-clause-grows c = grows_none c.args.plan.now.script
+
+pub returns-in-RemoveFolders-clause-grows : goal.returns-in-RemoveFolders-clause-grows
+returns-in-RemoveFolders-clause-grows c = grows_none c.args.plan.now.script
+
+pub returns-in-CreateFolders-clause-grows : goal.returns-in-CreateFolders-clause-grows
+returns-in-CreateFolders-clause-grows c = grows_none c.args.plan.now.script
+
+pub returns-in-InstallFiles-clause-grows : goal.returns-in-InstallFiles-clause-grows
+returns-in-InstallFiles-clause-grows c = grows_none c.args.plan.now.script
+
+pub returns-in-DuplicateFiles-clause-grows : goal.returns-in-DuplicateFiles-clause-grows
+returns-in-DuplicateFiles-clause-grows c = grows_none c.args.plan.now.script
+
+pub returns-in-CreateShortcuts-clause-grows : goal.returns-in-CreateShortcuts-clause-grows
+returns-in-CreateShortcuts-clause-grows c = grows_none c.args.plan.now.script
+
+pub returns-in-WriteEnvironmentStrings-clause-grows : goal.returns-in-WriteEnvironmentStrings-clause-grows
+returns-in-WriteEnvironmentStrings-clause-grows c = grows_none c.args.plan.now.script
