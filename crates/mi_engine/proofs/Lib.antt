@@ -1,5 +1,4 @@
 mod FirstLemmas
-mod RefusalLemmas
 mod WordLemmas
 mod LookLemmas
 mod MachineLemmas

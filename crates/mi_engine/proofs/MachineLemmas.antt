@@ -1,5 +1,5 @@
 -- The machine that is read of a volume is spelled by the map that is held.
-use Rattle.std.proofs.Common.{◌≡◌, ℕ, Bool, true, false, cond, ◌&&◌, eqb, arith, List, [], ◌∷◌, None, Result, Ok, Err, refl, sym, ap, ◌∙◌}
+use Rattle.std.proofs.Common.{◌≡◌, ℕ, Bool, true, false, cond, ◌&&◌, eqb, arith, List, [], ◌∷◌, None, Result, Ok, Err, refl, sym, ap, ◌∙◌, subst}
 use Rattle.std.specs.Prelude.{option_map, option_and_then, IsOkAnd}
 use Rattle.std.proofs.lemmas.Bool.Decides.{nat_tests}
 use Rattle.std.specs.FinMap.{get}
@@ -11,7 +11,7 @@ use Rattle.mi_base.specs.SpelledMaps.{is_area}
 use Rattle.mi_base.specs.Machine.{Machine, volume_of, machine_of, read_entry}
 use Rattle.mi_base.proofs.MachineLemmas.{get-volume_of, volume_same, entry_same}
 use Rattle.mi_source.specs.Paths.{Files}
-use Rattle.mi_image.specs.Items.{Items, machine_over, ImageOf}
+use Rattle.mi_image.specs.Items.{Items, machine_over, AreThere, ImageOf}
 
 -- ---- the map that spells the machine
 
@@ -46,3 +46,8 @@ former_is held m free is = same _ _ (λ q. at q (is_area q) refl)
 pub scanned_spells : (files : Files) (h h' : Map (List ℕ)) (image : Items) (r : Result Machine Name) → ((q : Name) → is_inside q ≡ true → get h q ≡ None) → h' ≡ h → ((m : Machine) → r ≡ Ok m → machine_of h ≡ Ok m) → IsOkAnd r (ImageOf h files image) → volume_of (machine_over h' files image) ≡ h'
 scanned_spells files h h' image (Ok m) free is read of = ap (λ (x : Map (List ℕ)). volume_of (machine_over x files image)) is ∙ ap volume_of of.stands ∙ former_is h m free (read m refl) ∙ sym is
 scanned_spells files h h' image (Err name) free is read of = absurd of
+
+-- what the scanned image says of contents is there
+pub scanned_contents : (files : Files) (h h' : Map (List ℕ)) (image : Items) (r : Result Machine Name) → h' ≡ h → IsOkAnd r (ImageOf h files image) → AreThere h' files image
+scanned_contents files h h' image (Ok m) is of = subst (λ (x : Map (List ℕ)). AreThere x files image) (sym is) of.there
+scanned_contents files h h' image (Err name) is of = absurd of

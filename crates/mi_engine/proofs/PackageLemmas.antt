@@ -1,12 +1,17 @@
 -- A package up to its walk.
 use Rattle.std.proofs.Common.{◌≡◌, ℕ, Bool, true, false, map, Option, Some, None, Result, Ok, Err, refl, sym, ap, ◌∙◌, subst}
 use Rattle.std.specs.Prelude.{◌&&◌, not, option_map, is_some, IfOk, IfErr, OnOk, if◌then◌else◌}
-use Rattle.mi_text.specs.Maps.{Name}
+use Rattle.mi_text.specs.Maps.{Name, Map}
+use Rattle.std.specs.Prelude.{List}
+use Rattle.mi_image.specs.Items.{Items, machine_over, AreThere as HasContents}
+use Rattle.mi_schema.specs.declared.package.Package.{Package}
+use Rattle.mi_words.specs.declared.command.PackageWords.{PackageWords}
+use Rattle.mi_engine.specs.Walks.{AreThere}
 use Rattle.mi_source.specs.Paths.{Files}
 use Rattle.mi_base.specs.Machine.{Machine, product_at}
 use Rattle.mi_base.specs.declared.answers.Fault.{Fault}
 use Rattle.mi_base.specs.declared.answers.Cause.{Cause}
-use Rattle.mi_base.specs.declared.answers.Cause.TheVariants.{Table, UnknownProduct}
+use Rattle.mi_base.specs.declared.answers.Cause.TheVariants.{VolumeFault, SourceFault, Table, UnknownProduct}
 use Rattle.mi_schema.specs.Checks.{load_fault}
 use Rattle.mi_schema.specs.Rows.{◌or_else◌}
 use Rattle.mi_schema.specs.TableRows.{Rows, product_code}
@@ -26,9 +31,7 @@ use Rattle.mi_engine.specs.StageOutcome.{of_package}
 use Rattle.mi_plan.specs.Unbuilt.{unbuilt}
 use Rattle.mi_engine.specs.declared.stop.Stop.{Stop}
 use Rattle.mi_engine.specs.declared.stop.Stop.TheVariants.{NoMemory, Refuse}
-use Rattle.mi_engine.specs.Calls.{CausedStop, Judges, Prepares, Readies, Walks, first_cause, unknown_product}
-use Rattle.mi_engine.specs.Walks.{IsWalkRefusal}
-use Rattle.mi_engine.proofs.RefusalLemmas.{walk_ends}
+use Rattle.mi_engine.specs.Calls.{CausedStop, FailsBy, IsOver, Judges, Prepares, Readies, Walks, first_cause, unknown_product}
 
 -- ---- why a loaded package isn't walked over
 
@@ -93,18 +96,26 @@ module _ (recorded : Bool) (g : Given) where
 
   -- ---- step by step
 
-  pub walks_by : (files : Files) (r : Result WalkPlan Stop) → first_cause recorded g ≡ None → IfOk r (λ (p : WalkPlan). IsPlan files (walk g) p.begun.items (map as_planned p.segments.items) p.refusal) → IfErr r (λ (e : Stop). e ≡ NoMemory) → Walks files recorded g r
-  walks_by files (Ok plan) none is stops = (none, is)
-  walks_by files (Err NoMemory) none is stops = tt
-  walks_by files (Err (Refuse cause)) none is stops = let clash : Refuse cause ≡ NoMemory = stops in absurd cc
+  pub walks_by : (volume_fails source_fails : Type 0) (r : Result WalkPlan Stop) → first_cause recorded g ≡ None → IfErr r (FailsBy volume_fails source_fails) → Walks volume_fails source_fails recorded g r
+  walks_by volume_fails source_fails (Ok plan) none fails = none
+  walks_by volume_fails source_fails (Err NoMemory) none fails = tt
+  walks_by volume_fails source_fails (Err (Refuse VolumeFault)) none fails = fails
+  walks_by volume_fails source_fails (Err (Refuse SourceFault)) none fails = fails
+  walks_by volume_fails source_fails (Err (Refuse other)) none fails = absurd fails
 
-  pub stopped_by : (files : Files) (e : Stop) → Readies recorded g (Err e) → Walks files recorded g (Err e)
-  stopped_by files NoMemory is = tt
-  stopped_by files (Refuse cause) is = is
+  pub stopped_by : (volume_fails source_fails : Type 0) (e : Stop) → Readies recorded g (Err e) → Walks volume_fails source_fails recorded g (Err e)
+  stopped_by volume_fails source_fails NoMemory is = tt
+  stopped_by volume_fails source_fails (Refuse VolumeFault) is = absurd (is_first VolumeFault is)
+  stopped_by volume_fails source_fails (Refuse SourceFault) is = absurd (is_first SourceFault is)
+  stopped_by volume_fails source_fails (Refuse other) is = is
 
-  pub refusal_ends : (files : Files) (r : Result WalkPlan Stop) → Walks files recorded g r → IfOk r (λ (p : WalkPlan). IsWalkRefusal p.refusal)
-  refusal_ends files (Ok plan) is = subst IsWalkRefusal is.1.refusal (walk_ends g)
-  refusal_ends files (Err e) is = tt
+  -- the source failed in a later step
+  pub walks_on_fails : (volume_fails x y : Type 0) → (x → y) → (r : Result WalkPlan Stop) → Walks volume_fails x recorded g r → Walks volume_fails y recorded g r
+  walks_on_fails volume_fails x y f (Ok plan) is = is
+  walks_on_fails volume_fails x y f (Err NoMemory) is = tt
+  walks_on_fails volume_fails x y f (Err (Refuse VolumeFault)) is = is
+  walks_on_fails volume_fails x y f (Err (Refuse SourceFault)) is = f is
+  walks_on_fails volume_fails x y f (Err (Refuse other)) is = is
 
   pub ready_by : (r : Result Values Stop) → first_cause recorded g ≡ None → IfOk r (λ (p : Values). p ≡ first_properties g) → IfErr r (λ (e : Stop). e ≡ NoMemory) → Readies recorded g r
   ready_by (Ok props) none is stops = (none, is)
@@ -162,12 +173,7 @@ on_ok (Err e) p = tt
 
 -- ---- from the source
 
-pub caused_by : (source source_fails : Type 0) (x : Outcome) (cause : Cause) → IsFirst cause → (source → x ≡ only (Refused cause)) → CausedStop source source_fails x (Refuse cause)
-caused_by source source_fails x (Table fault) is so = so
-caused_by source source_fails x (UnknownProduct c) is so = so
-caused_by source source_fails x other is so = absurd is
-
-module _ (source source_fails : Type 0) (files : Files) (folder : Name) (sets : Assigned) (m : Machine) (now : ℕ) (recorded : Bool) where
+module _ (told source volume_fails source_fails : Type 0) (files : Files) (folder : Name) (sets : Assigned) (m : Machine) (now : ℕ) (recorded : Bool) where
   abbrev pub given : Given
   given = given_of files folder sets m now
 
@@ -177,7 +183,32 @@ module _ (source source_fails : Type 0) (files : Files) (folder : Name) (sets : 
   loaded_so : load_fault files folder ≡ None → package_out ≡ loaded_out recorded given
   loaded_so none = ap (λ (o : Option Fault). of_loaded o (loaded_out recorded given)) none
 
-  pub prepared : (untold : Given) (r : Result WalkPlan Stop) → Walks files recorded untold r → (source → (load_fault files folder ≡ None) × Walks files recorded given r) → Prepares source source_fails files given package_out r
-  prepared untold (Ok plan) w told = λ t. let x = told t in record { is = loaded_so x.0 ∙ walks_on recorded given x.1.0; whole = x.1.1 }
-  prepared untold (Err NoMemory) w told = tt
-  prepared untold (Err (Refuse cause)) w told = caused_by source source_fails package_out cause (is_first recorded untold cause w) (λ t. let x = told t in loaded_so x.0 ∙ refused_so recorded given cause x.1)
+  abbrev IsLoaded : Result WalkPlan Stop → Type 0
+  IsLoaded r = source → (load_fault files folder ≡ None) × Walks volume_fails source_fails recorded given r
+
+  refused : (untold : Given) (cause : Cause) → Walks volume_fails source_fails recorded untold (Err (Refuse cause)) → IsLoaded (Err (Refuse cause)) → CausedStop source volume_fails source_fails package_out (Refuse cause)
+  refused untold VolumeFault w loaded = w
+  refused untold SourceFault w loaded = w
+  refused untold (Table fault) w loaded = λ s. let x = loaded s in loaded_so x.0 ∙ refused_so recorded given (Table fault) x.1
+  refused untold (UnknownProduct code) w loaded = λ s. let x = loaded s in loaded_so x.0 ∙ refused_so recorded given (UnknownProduct code) x.1
+  refused untold other w loaded = absurd (is_first recorded untold other w)
+
+  pub prepared : (untold : Given) (r : Result WalkPlan Stop) → Walks volume_fails source_fails recorded untold r → IsLoaded r → (told → source)
+      → (told → IfOk r (λ (p : WalkPlan). IsPlan files (walk given) p.begun.items (map as_planned p.segments.items) p.refusal)) → Prepares told source volume_fails source_fails files given package_out r
+  prepared untold (Ok plan) w loaded of planned = λ t. let x = loaded (of t) in record { is = loaded_so x.0 ∙ walks_on recorded given x.1; whole = planned t }
+  prepared untold (Err NoMemory) w loaded of planned = tt
+  prepared untold (Err (Refuse cause)) w loaded of planned = refused untold cause w loaded
+
+-- ---- over the source as it was before the package was loaded
+
+-- the plan of a walk over this
+abbrev HasPlan : Files → Files → Map (List ℕ) → Items → Given → Package → PackageWords → ℕ → Result WalkPlan Stop → Type 0
+HasPlan files handed held image g loaded asked now r = g.files ≡ handed → HasContents held files image → IsOver g loaded (machine_over held files image) asked now
+    → IfOk r (λ (p : WalkPlan). IsPlan files (walk g) p.begun.items (map as_planned p.segments.items) p.refusal)
+
+pub planned_over : (files files' : Files) (r : Result WalkPlan Stop) (held : Map (List ℕ)) (image : Items) (g : Given) (loaded : Package) (asked : PackageWords) (now : ℕ) → files' ≡ files → HasPlan files' files' held image g loaded asked now r
+    → HasPlan files files held image g loaded asked now r
+planned_over files files' r held image g loaded asked now same plan = subst (λ (x : Files). HasPlan x x held image g loaded asked now r) same plan
+
+pub lengths_over : (files files' : Files) (r : Result WalkPlan Stop) → files' ≡ files → IfOk r (λ (p : WalkPlan). AreThere files' p) → IfOk r (λ (p : WalkPlan). AreThere files p)
+lengths_over files files' r same is = subst (λ (x : Files). IfOk r (λ (p : WalkPlan). AreThere x p)) same is

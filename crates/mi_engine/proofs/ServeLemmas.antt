@@ -8,7 +8,7 @@ use Rattle.mi_volume.specs.State.{State, Rose}
 use Rattle.mi_source.specs.Paths.{Files}
 use Rattle.mi_undo.specs.Keeps.{IsFree}
 use Rattle.mi_base.specs.Machine.{Machine, machine_of}
-use Rattle.mi_base.specs.declared.answers.Cause.TheVariants.{SourceFault, BadImage, Table, UnknownProduct}
+use Rattle.mi_base.specs.declared.answers.Cause.TheVariants.{VolumeFault, SourceFault, BadImage, Table, UnknownProduct}
 use Rattle.mi_base.specs.declared.answers.Kind.{Kind}
 use Rattle.mi_base.specs.declared.answers.Kind.TheVariants.{Listed, Recovered}
 use Rattle.mi_image.specs.Items.{Items, machine_over, ImageOf}
@@ -116,37 +116,42 @@ module _ (volume source : Type 0) (recorded : Bool) (folder : Name) (sets : Assi
   abbrev told_package : Type 0
   told_package = IsTold volume source (Ok install)
 
-  stop_caused : (s : State) (e : Stop) → CausedStop source source_fails out e → Caused s.faults s.faults volume told_package out (Rose s s) source_fails (kind_stopped e)
-  stop_caused s stop.NoMemory c = tt
-  stop_caused s (stop.Refuse SourceFault) c = c
-  stop_caused s (stop.Refuse (Table fault)) c = λ t. ap (λ (x : Outcome). x.end) (c (t.1 tt))
-  stop_caused s (stop.Refuse (UnknownProduct code)) c = λ t. ap (λ (x : Outcome). x.end) (c (t.1 tt))
-  stop_caused s (stop.Refuse other) c = absurd c
+  stop_caused : (s t : State) (e : Stop) → CausedStop source (Rose s t) source_fails out e → Caused s.faults t.faults volume told_package out (Rose s t) source_fails (kind_stopped e)
+  stop_caused s t stop.NoMemory c = tt
+  stop_caused s t (stop.Refuse VolumeFault) c = c
+  stop_caused s t (stop.Refuse SourceFault) c = c
+  stop_caused s t (stop.Refuse (Table fault)) c = λ is. ap (λ (x : Outcome). x.end) (c (is.1 tt))
+  stop_caused s t (stop.Refuse (UnknownProduct code)) c = λ is. ap (λ (x : Outcome). x.end) (c (is.1 tt))
+  stop_caused s t (stop.Refuse other) c = absurd c
 
-  stop_answers : (e : Stop) → CausedStop source source_fails out e → AnswersCommand install (kind_stopped e)
-  stop_answers stop.NoMemory c = tt
-  stop_answers (stop.Refuse SourceFault) c = tt
-  stop_answers (stop.Refuse (Table fault)) c = tt
-  stop_answers (stop.Refuse (UnknownProduct code)) c = tt
-  stop_answers (stop.Refuse other) c = absurd c
+  stop_answers : (volume_fails : Type 0) (e : Stop) → CausedStop source volume_fails source_fails out e → AnswersCommand install (kind_stopped e)
+  stop_answers volume_fails stop.NoMemory c = tt
+  stop_answers volume_fails (stop.Refuse VolumeFault) c = tt
+  stop_answers volume_fails (stop.Refuse SourceFault) c = tt
+  stop_answers volume_fails (stop.Refuse (Table fault)) c = tt
+  stop_answers volume_fails (stop.Refuse (UnknownProduct code)) c = tt
+  stop_answers volume_fails (stop.Refuse other) c = absurd c
 
-  stop_begins : (e : Stop) → CausedStop source source_fails out e → told_package → Begins out 0 (kind_stopped e)
-  stop_begins stop.NoMemory c t = memory_begins out
-  stop_begins (stop.Refuse SourceFault) c t = record { own = λ own. absurd own; most = omega arith }
-  stop_begins (stop.Refuse (Table fault)) c t = record { own = λ own. sym (ap (λ (x : Outcome). x.reached) (c (t.1 tt))); most = omega arith }
-  stop_begins (stop.Refuse (UnknownProduct code)) c t = record { own = λ own. sym (ap (λ (x : Outcome). x.reached) (c (t.1 tt))); most = omega arith }
-  stop_begins (stop.Refuse other) c t = absurd c
+  stop_begins : (volume_fails : Type 0) (e : Stop) → CausedStop source volume_fails source_fails out e → told_package → Begins out 0 (kind_stopped e)
+  stop_begins volume_fails stop.NoMemory c t = memory_begins out
+  stop_begins volume_fails (stop.Refuse VolumeFault) c t = record { own = λ own. absurd own; most = omega arith }
+  stop_begins volume_fails (stop.Refuse SourceFault) c t = record { own = λ own. absurd own; most = omega arith }
+  stop_begins volume_fails (stop.Refuse (Table fault)) c t = record { own = λ own. sym (ap (λ (x : Outcome). x.reached) (c (t.1 tt))); most = omega arith }
+  stop_begins volume_fails (stop.Refuse (UnknownProduct code)) c t = record { own = λ own. sym (ap (λ (x : Outcome). x.reached) (c (t.1 tt))); most = omega arith }
+  stop_begins volume_fails (stop.Refuse other) c t = absurd c
 
-  stop_log : (e : Stop) → CausedStop source source_fails out e → IsLog volume told_package (λ x. x ≡ found) true out (kind_stopped e) 0 (log_of true found (kind_stopped e))
-  stop_log stop.NoMemory c = record { settled = found; begun = out.begun; tells = refl; begins = λ t. refl; is = refl }
-  stop_log (stop.Refuse SourceFault) c = record { settled = found; begun = out.begun; tells = refl; begins = λ t. refl; is = refl }
-  stop_log (stop.Refuse (Table fault)) c = record { settled = found; begun = out.begun; tells = refl; begins = λ t. refl; is = refl }
-  stop_log (stop.Refuse (UnknownProduct code)) c = record { settled = found; begun = out.begun; tells = refl; begins = λ t. refl; is = refl }
-  stop_log (stop.Refuse other) c = absurd c
+  stop_log : (volume_fails : Type 0) (e : Stop) → CausedStop source volume_fails source_fails out e → IsLog volume told_package (λ x. x ≡ found) true out (kind_stopped e) 0 (log_of true found (kind_stopped e))
+  stop_log volume_fails stop.NoMemory c = record { settled = found; begun = out.begun; tells = refl; begins = λ t. refl; is = refl }
+  stop_log volume_fails (stop.Refuse VolumeFault) c = record { settled = found; begun = out.begun; tells = inl refl; begins = λ t. refl; is = refl }
+  stop_log volume_fails (stop.Refuse SourceFault) c = record { settled = found; begun = out.begun; tells = refl; begins = λ t. refl; is = refl }
+  stop_log volume_fails (stop.Refuse (Table fault)) c = record { settled = found; begun = out.begun; tells = refl; begins = λ t. refl; is = refl }
+  stop_log volume_fails (stop.Refuse (UnknownProduct code)) c = record { settled = found; begun = out.begun; tells = refl; begins = λ t. refl; is = refl }
+  stop_log volume_fails (stop.Refuse other) c = absurd c
 
-  pub stopped_serves : (s : State) (e : Stop) (r : Reply) → (volume → IsFree s) → CausedStop source source_fails out e → Replies true found (kind_stopped e) r → Serves volume told_package s s out install (λ x. x ≡ found) source_fails r.kind r.reached (log_in r)
-  stopped_serves s e r free c replies =
-      replied volume told_package s s out install (λ x. x ≡ found) found refl source_fails free (λ v. looks_none s) (kind_stopped e) (log_of true found (kind_stopped e)) r (quiet e) (stop_caused s e c) (stop_answers e c) (stop_begins e c) (stop_log e c) replies.answers replies.reached
+  pub stopped_serves : (s t : State) (e : Stop) (r : Reply) → (volume → IsFree s) → (volume → Looks s t) → CausedStop source (Rose s t) source_fails out e → Replies true found (kind_stopped e) r
+      → Serves volume told_package s t out install (λ x. x ≡ found) source_fails r.kind r.reached (log_in r)
+  stopped_serves s t e r free looks c replies =
+      replied volume told_package s t out install (λ x. x ≡ found) found refl source_fails free looks (kind_stopped e) (log_of true found (kind_stopped e)) r (quiet e) (stop_caused s t e c) (stop_answers (Rose s t) e c) (stop_begins (Rose s t) e c) (stop_log (Rose s t) e c) replies.answers replies.reached
     where
       quiet : (e : Stop) → IsQuiet (kind_stopped e)
       quiet stop.NoMemory = tt

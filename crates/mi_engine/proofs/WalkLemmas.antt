@@ -45,7 +45,8 @@ use Rattle.mi_carry.specs.Causes as carried
 use Rattle.mi_engine.specs.Answers.{IsTold, MeetsFull, IsOwnCause, Begins}
 use Rattle.mi_engine.specs.declared.reply.Reply.{Reply}
 use Rattle.mi_engine.specs.Replies.{log_in, log_of, WantsMemory, SettledReads, Serves}
-use Rattle.mi_engine.specs.Walks.{IsWalkCause, IsWalkRefusal, is_sized_fault, is_sized, IsSized, SaysKind, MayClose}
+use Rattle.mi_plan.specs.Refusals.{IsWalkCause, IsWalkRefusal}
+use Rattle.mi_engine.specs.Walks.{is_sized_fault, is_sized, IsSized, SaysKind, MayClose}
 use Rattle.mi_engine.proofs.LookLemmas.{looks_none}
 use Rattle.mi_engine.proofs.QuietLemmas.{says_whole, memory_begins, memory_log, replied}
 
@@ -103,7 +104,7 @@ may_close told room s refusal begun reached n m NoMemory c = inl tt
 -- ---- carried out over a settled volume: f and h are the source's counts
 
 module _ (volume source : Type 0) (recorded : Bool) (folder : Name) (sets : Assigned) (found : Settled) (f h : ℕ) (files : Files) (s u : State) (g : Given) (out : Outcome) (names : List Name) (plans : List Planned) (refusal : Option Cause)
-    (plan : source → (out ≡ of_walk None (walk g)) × IsPlan files (walk g) names plans refusal) (former : volume → volume_of g.former ≡ s.held) (is_walk : IsWalkRefusal refusal) (differs : List ℕ → ℕ → ℕ → Type 0) (untells : (file : List ℕ) (stated size : ℕ) → differs file stated size → source → ⊥) where
+    (plan : volume → source → (out ≡ of_walk None (walk g)) × IsPlan files (walk g) names plans refusal) (former : volume → volume_of g.former ≡ s.held) (is_walk : IsWalkRefusal refusal) (differs : List ℕ → ℕ → ℕ → Type 0) (untells : (file : List ℕ) (stated size : ℕ) → differs file stated size → source → ⊥) where
   abbrev told : Type 0
   told = IsTold volume source (Ok (Package recorded folder sets))
 
@@ -119,19 +120,19 @@ module _ (volume source : Type 0) (recorded : Bool) (folder : Name) (sets : Assi
   -- ---- the outcome
 
   out_whole : told → out ≡ whole (walk g)
-  out_whole t = (plan (sources t)).0 ∙ walk_whole (walk g)
+  out_whole t = (plan t.0 (sources t)).0 ∙ walk_whole (walk g)
 
   out_end : told → out.end ≡ by_refusal (walk g) refusal
-  out_end t = ap (λ (x : Outcome). x.end) (out_whole t) ∙ ap (by_refusal (walk g)) (plan (sources t)).1.refusal
+  out_end t = ap (λ (x : Outcome). x.end) (out_whole t) ∙ ap (by_refusal (walk g)) (plan t.0 (sources t)).1.refusal
 
   out_begun : told → names ≡ out.begun
-  out_begun t = sym (ap (λ (x : Outcome). x.begun) (out_whole t) ∙ (plan (sources t)).1.begun)
+  out_begun t = sym (ap (λ (x : Outcome). x.begun) (out_whole t) ∙ (plan t.0 (sources t)).1.begun)
 
   out_reached : told → length names ≡ out.reached
-  out_reached t = sym (ap (λ (x : Outcome). x.reached) (out_whole t) ∙ ap (λ (ns : List Name). length ns) (plan (sources t)).1.begun)
+  out_reached t = sym (ap (λ (x : Outcome). x.reached) (out_whole t) ∙ ap (λ (ns : List Name). length ns) (plan t.0 (sources t)).1.begun)
 
   makes : told → refusal ≡ None → (m : Machine) × (out.end ≡ o.Done m) × (A ≡ volume_of m)
-  makes t none = (last_machine (walk g), out_end t ∙ ap (by_refusal (walk g)) none, walk_makes files g names plans refusal s.held (plan (sources t)).1 (former t.0))
+  makes t none = (last_machine (walk g), out_end t ∙ ap (by_refusal (walk g)) none, walk_makes files g names plans refusal s.held (plan t.0 (sources t)).1 (former t.0))
 
   done : told → refusal ≡ None → IsDone out
   done t none = let made = makes t none in (made.0, made.1)
@@ -239,7 +240,7 @@ module _ (volume source : Type 0) (recorded : Bool) (folder : Name) (sets : Assi
     Either kind = MeetsFull told s out fails kind ⊎ Caused s.faults u.faults volume told out (Rose s u) fails kind
 
     walked : told → (x : Given) × (out ≡ of_walk None (walk x))
-    walked t = (g, (plan (sources t)).0)
+    walked t = (g, (plan t.0 (sources t)).0)
 
     paused_limited : (place : Place) (why : Option Cause) (begun again : ℕ) → IsSome s.capacity → f ≤ h → caused_so (Suspended (record { place = place; why = why; begun = begun; again = again })) → Either (Suspended (record { place = place; why = why; begun = begun; again = again }))
     paused_limited InRollback None begun again limited less p = absurd p.met

@@ -5,7 +5,7 @@ use Rattle.mi_source.specs.Paths.{Files}
 use Rattle.mi_base.specs.declared.answers.Fault.{Fault}
 use Rattle.mi_base.specs.declared.answers.Fault.TheVariants.{NotYet}
 use Rattle.mi_base.specs.declared.answers.Cause.{Cause}
-use Rattle.mi_base.specs.declared.answers.Cause.TheVariants.{SourceFault, Table, UnknownProduct}
+use Rattle.mi_base.specs.declared.answers.Cause.TheVariants.{VolumeFault, SourceFault, Table, UnknownProduct}
 use Rattle.mi_schema.specs.declared.error.LoadError.{LoadError}
 use Rattle.mi_schema.specs.declared.error.LoadError.TheVariants as load
 use Rattle.mi_plan.specs.declared.planned.WalkPlan.{WalkPlan}
@@ -74,22 +74,24 @@ pub record IsOver (g : Given) (loaded : Package) (m : Machine) (asked : PackageW
   pub words : sets_of asked ≡ g.words
   pub moment : now ≡ g.now
 
--- why a package isn't walked over: the outcome is that refusal alone, or the source failed; `source` says that the source is told
-abbrev pub CausedStop : Type 0 → Type 0 → Outcome → Stop → Type 0
-CausedStop source source_fails out NoMemory = Unit {0}
-CausedStop source source_fails out (Refuse SourceFault) = source_fails
-CausedStop source source_fails out (Refuse (Table fault)) = source → out ≡ only (Refused (Table fault))
-CausedStop source source_fails out (Refuse (UnknownProduct code)) = source → out ≡ only (Refused (UnknownProduct code))
-CausedStop source source_fails out (Refuse other) = ⊥
+-- why a package isn't walked over: the outcome is that refusal alone, or a device failed; `source` says that the source is told
+abbrev pub CausedStop : Type 0 → Type 0 → Type 0 → Outcome → Stop → Type 0
+CausedStop source volume_fails source_fails out NoMemory = Unit {0}
+CausedStop source volume_fails source_fails out (Refuse VolumeFault) = volume_fails
+CausedStop source volume_fails source_fails out (Refuse SourceFault) = source_fails
+CausedStop source volume_fails source_fails out (Refuse (Table fault)) = source → out ≡ only (Refused (Table fault))
+CausedStop source volume_fails source_fails out (Refuse (UnknownProduct code)) = source → out ≡ only (Refused (UnknownProduct code))
+CausedStop source volume_fails source_fails out (Refuse other) = ⊥
 
 -- the whole walk is planned, and the outcome is its own
 pub record IsPlanned (files : Files) (g : Given) (out : Outcome) (plan : WalkPlan) : Type 0 where
   pub is : out ≡ of_walk None (walk g)
   pub whole : IsPlan files (walk g) plan.begun.items (map as_planned plan.segments.items) plan.refusal
 
-abbrev pub Prepares : Type 0 → Type 0 → Files → Given → Outcome → Result WalkPlan Stop → Type 0
-Prepares source source_fails files g out (Ok plan) = source → IsPlanned files g out plan
-Prepares source source_fails files g out (Err stop) = CausedStop source source_fails out stop
+-- `told` says that both devices are told
+abbrev pub Prepares : Type 0 → Type 0 → Type 0 → Type 0 → Files → Given → Outcome → Result WalkPlan Stop → Type 0
+Prepares told source volume_fails source_fails files g out (Ok plan) = told → IsPlanned files g out plan
+Prepares told source volume_fails source_fails files g out (Err stop) = CausedStop source volume_fails source_fails out stop
 
 -- ---- a loaded package
 
@@ -103,8 +105,17 @@ Readies recorded g (Ok props) = (first_cause recorded g ≡ None) × (props ≡ 
 Readies recorded g (Err NoMemory) = Unit {0}
 Readies recorded g (Err (Refuse cause)) = first_cause recorded g ≡ Some cause
 
--- the plan of the whole walk, or exactly that cause
-abbrev pub Walks : Files → Bool → Given → Result WalkPlan Stop → Type 0
-Walks files recorded g (Ok plan) = (first_cause recorded g ≡ None) × IsPlan files (walk g) plan.begun.items (map as_planned plan.segments.items) plan.refusal
-Walks files recorded g (Err NoMemory) = Unit {0}
-Walks files recorded g (Err (Refuse cause)) = first_cause recorded g ≡ Some cause
+-- a device failed; want of memory is free
+abbrev pub FailsBy : Type 0 → Type 0 → Stop → Type 0
+FailsBy volume_fails source_fails NoMemory = Unit {0}
+FailsBy volume_fails source_fails (Refuse VolumeFault) = volume_fails
+FailsBy volume_fails source_fails (Refuse SourceFault) = source_fails
+FailsBy volume_fails source_fails (Refuse other) = ⊥
+
+-- a walk over the package, or exactly that cause, or a device failed
+abbrev pub Walks : Type 0 → Type 0 → Bool → Given → Result WalkPlan Stop → Type 0
+Walks volume_fails source_fails recorded g (Ok plan) = first_cause recorded g ≡ None
+Walks volume_fails source_fails recorded g (Err NoMemory) = Unit {0}
+Walks volume_fails source_fails recorded g (Err (Refuse VolumeFault)) = volume_fails
+Walks volume_fails source_fails recorded g (Err (Refuse SourceFault)) = source_fails
+Walks volume_fails source_fails recorded g (Err (Refuse cause)) = first_cause recorded g ≡ Some cause

@@ -1,4 +1,4 @@
--- What refuses a walk, and what of its plan may be carried out. (InstallExecuteSequence Table.)
+-- What of the plan of a walk may be carried out, and how its answer is made. (InstallExecuteSequence Table.)
 use Rattle.std.specs.Prelude.{◌≡◌, ◌⊎◌, ◌≤◌, Bool, true, false, length, map, Option, None, Some}
 use Rattle.std.specs.List.{All}
 use Rattle.mi_source.specs.Paths.{Files}
@@ -17,17 +17,7 @@ use Rattle.mi_engine.specs.declared.walk.Ready.{Ready}
 use Rattle.mi_plan.specs.declared.planned.WalkPlan.{WalkPlan}
 use Rattle.mi_plan.specs.declared.segment.Segment.{Segment}
 use Rattle.mi_base.specs.declared.answers.Cause.{Cause}
-use Rattle.mi_base.specs.declared.answers.Cause.TheVariants.{Table, Launch, ErrorAction}
-
-abbrev pub IsWalkCause : Cause → Type 0
-IsWalkCause (Table fault) = Unit {0}
-IsWalkCause (Launch text) = Unit {0}
-IsWalkCause (ErrorAction action text) = Unit {0}
-IsWalkCause other = ⊥
-
-abbrev pub IsWalkRefusal : Option Cause → Type 0
-IsWalkRefusal None = Unit {0}
-IsWalkRefusal (Some cause) = IsWalkCause cause
+use Rattle.mi_base.specs.declared.answers.Cause.TheVariants.{Table}
 
 -- ---- its plan
 

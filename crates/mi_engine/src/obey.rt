@@ -6,7 +6,7 @@ ghost use Rattle.mi_volume.specs.State.{Passes};
 ghost use Rattle.mi_source.specs.Counts.{Rose};
 ghost use Rattle.mi_undo.specs.Keeps.{IsFree};
 ghost use Rattle.mi_base.specs.Machine.{volume_of};
-ghost use Rattle.mi_image.specs.Items.{machine_over};
+ghost use Rattle.mi_image.specs.Items.{machine_over, AreThere as HasContents};
 ghost use Rattle.mi_model.specs.Listings.{clients_text_of, products_text_of};
 ghost use Rattle.mi_model.specs.Outcome.{Handed};
 ghost use Rattle.mi_engine.specs.StageOutcome.{of_command, of_package};
@@ -42,6 +42,7 @@ pub fn obey<S: Source, V: Volume>(
     requires public { IsPublic asked.now }
     requires free { V.told → IsFree (V.state vol.old) }
     requires machine { V.told → volume_of (machine_over (V.state vol.old).held (S.files src.old) image) ≡ (V.state vol.old).held }
+    requires contents { V.told → HasContents (V.state vol.old).held (S.files src.old) image }
     ensures serves { (h : Handed) → IsHanded V.told h (S.files src.old) now settled → Serves V.told (IsTold V.told S.told (Ok (commanded asked.now))) (V.state vol.old) (V.state vol.new) (of_command h (machine_over (V.state vol.old).held (S.files src.old) image) (commanded asked.now)) (commanded asked.now) (λ s. s ≡ settled) (Rose (S.faults src.old) (S.faults src.new)) result.kind result.reached (log_in result) }
     ensures unread { (Installs (Ok (commanded asked.now)) → ⊥) → src.new ≡ src.old }
     ensures passes { Passes (V.state vol.old) (V.state vol.new) }
@@ -68,11 +69,12 @@ fn install<S: Source, V: Volume>(
     requires public { ArePublic asked.now }
     requires free { V.told → IsFree (V.state vol.old) }
     requires machine { V.told → volume_of (machine_over (V.state vol.old).held (S.files src.old) image) ≡ (V.state vol.old).held }
+    requires contents { V.told → HasContents (V.state vol.old).held (S.files src.old) image }
     ensures serves { Serves V.told (IsTold V.told S.told (Ok (Package asked.now.recorded asked.now.folder.now (sets_of asked.now)))) (V.state vol.old) (V.state vol.new) (of_package (S.files src.old) now (machine_over (V.state vol.old).held (S.files src.old) image) asked.now.recorded asked.now.folder.now (sets_of asked.now)) (Package asked.now.recorded asked.now.folder.now (sets_of asked.now)) (λ s. s ≡ settled) (Rose (S.faults src.old) (S.faults src.new)) result.kind result.reached (log_in result) }
     ensures passes { Passes (V.state vol.old) (V.state vol.new) }
     ensures counts { S.faults src.old ≤ S.faults src.new }
 {
-    match prepare(alloc, src, asked, image, now) {
+    match prepare(alloc, asked, image, now, src, vol) {
         Ok(plan) => carry(alloc, plan, settled, src, vol),
         Err(stop) => logged(alloc, stopped(stop), settled, true),
     }

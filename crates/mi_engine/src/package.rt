@@ -2,8 +2,11 @@
 
 ghost use Rattle.std.specs.Prelude.{◌≡◌, ◌≤◌, ◌&&◌, ◌++◌, not, List, ℕ, None, IfOk, IfErr, OnOk, map};
 ghost use Rattle.mi_text.specs.Maps.{Map};
+ghost use Rattle.mi_volume.specs.State as volume;
+ghost use Rattle.mi_volume.specs.State.{Passes};
 ghost use Rattle.mi_source.specs.Counts.{Rose};
-ghost use Rattle.mi_image.specs.Items.{AreRight, machine_over};
+ghost use Rattle.mi_image.specs.Items.{AreRight, machine_over, AreThere as HasContents};
+ghost use Rattle.mi_image.specs.Looks.{OnlyLooks};
 ghost use Rattle.mi_schema.specs.Lawful.{IsLawful};
 ghost use Rattle.mi_schema.specs.RowsOf.{rows_in};
 ghost use Rattle.mi_schema.specs.TableRows.{product_code as code_of};
@@ -15,8 +18,9 @@ ghost use Rattle.mi_engine.specs.StageOutcome.{of_package};
 ghost use Rattle.mi_plan.specs.Unbuilt.{IsBuilt, unbuilt};
 ghost use Rattle.mi_model.specs.Walk.{walk};
 ghost use Rattle.mi_model.specs.World.{Given};
-ghost use Rattle.mi_engine.specs.Calls.{ArePublic, IsOver, Judges, Prepares, Readies, Walks, sets_of, unknown_product};
-ghost use Rattle.mi_engine.specs.Walks.{AreThere, IsWalkRefusal, MayRun};
+ghost use Rattle.mi_engine.specs.Calls.{ArePublic, FailsBy, IsOver, Judges, Prepares, Readies, Walks, sets_of, unknown_product};
+ghost use Rattle.mi_engine.specs.Walks.{AreThere, MayRun};
+ghost use Rattle.mi_plan.specs.Refusals.{IsWalkRefusal};
 ghost use Rattle.mi_plan.specs.Made.{as_planned};
 ghost use Rattle.mi_world.specs.Seen.{Starts};
 
@@ -24,10 +28,11 @@ use crate::stop::Stop;
 use crate::unbuilt::require_built;
 use mi_base::Cause;
 use mi_image::Image;
-use mi_plan::{WalkPlan, plan_walk};
+use mi_plan::{WalkError, WalkPlan, plan_walk};
 use mi_props::PropError;
 use mi_schema::{Package, values_stand};
 use mi_source::Source;
+use mi_volume::Volume;
 use mi_words::PackageWords;
 use mi_world::{Properties, first_props, product_code};
 use std::alloc::Global;
@@ -95,43 +100,62 @@ fn ready(
 }
 
 /// Plans the walk of a package that is built.
-fn walk_over(
+fn walk_over<S: Source, V: Volume>(
     alloc: Global,
     loaded: Package,
     first: Properties,
     image: Image,
     folder: &str,
     now: u64,
+    src: &mut S,
+    vol: &mut V,
 ) -> Result<WalkPlan, Stop>
     requires lawful { IsLawful loaded }
     requires built { IsBuilt (rows_in loaded) }
-    ensures plan { (held files : Map (List ℕ)) (g : Given) → Starts g loaded first (machine_over held files image) now → folder.now ≡ g.folder → IfOk result (λ p. IsPlan files (walk g) p.begun.items (map as_planned p.segments.items) p.refusal) }
-    ensures lengths { (held files : Map (List ℕ)) (g : Given) → Starts g loaded first (machine_over held files image) now → folder.now ≡ g.folder → IfOk result (λ p. AreThere files p) }
+    ensures plan { (g : Given) → V.told → S.told → g.files ≡ (S.files src.old) → HasContents (V.state vol.old).held (S.files src.old) image → Starts g loaded first (machine_over (V.state vol.old).held (S.files src.old) image) now → folder.now ≡ g.folder
+        → IfOk result (λ p. IsPlan (S.files src.old) (walk g) p.begun.items (map as_planned p.segments.items) p.refusal) }
+    ensures lengths { S.told → IfOk result (λ p. AreThere (S.files src.old) p) }
     ensures may_run { IfOk result MayRun }
-    ensures stopped { IfErr result (λ stop. stop ≡ Stop.NoMemory) }
+    ensures refusal { IfOk result (λ p. IsWalkRefusal p.refusal) }
+    ensures stopped { IfErr result (FailsBy (volume.Rose (V.state vol.old) (V.state vol.new)) (Rose (S.faults src.old) (S.faults src.new))) }
+    ensures looks { V.told → OnlyLooks (V.state vol.old) (V.state vol.new) }
+    ensures passes { Passes (V.state vol.old) (V.state vol.new) }
+    ensures stays { S.files src.new ≡ S.files src.old }
+    ensures counts { S.faults src.old ≤ S.faults src.new }
 {
-    match plan_walk(alloc, loaded, first, image, folder, now) {
+    match plan_walk(alloc, loaded, first, image, folder, now, src, vol) {
         Ok(plan) => Ok(plan),
-        Err(_) => Err(Stop::NoMemory),
+        Err(WalkError::NoMemory) => Err(Stop::NoMemory),
+        Err(WalkError::Source) => Err(Stop::Refuse(Cause::SourceFault)),
+        Err(WalkError::Volume) => Err(Stop::Refuse(Cause::VolumeFault)),
     }
 }
 
 /// Plans the walk of a loaded package over the machine of an image, or stops before it.
-fn plan_package(
+fn plan_package<S: Source, V: Volume>(
     alloc: Global,
     loaded: Package,
     image: Image,
     asked: &PackageWords<'_>,
     now: u64,
+    src: &mut S,
+    vol: &mut V,
 ) -> Result<WalkPlan, Stop>
     requires lawful { IsLawful loaded }
     requires public { ArePublic asked.now }
-    ensures walks { (held files : Map (List ℕ)) (g : Given) → IsOver g loaded (machine_over held files image) asked.now now → Walks files asked.now.recorded g result }
-    ensures lengths { (held files : Map (List ℕ)) (g : Given) → IsOver g loaded (machine_over held files image) asked.now now → IfOk result (λ p. AreThere files p) }
+    ensures walks { (held files : Map (List ℕ)) (g : Given) → IsOver g loaded (machine_over held files image) asked.now now → Walks (volume.Rose (V.state vol.old) (V.state vol.new)) (Rose (S.faults src.old) (S.faults src.new)) asked.now.recorded g result }
+    ensures plan { (g : Given) → V.told → S.told → g.files ≡ (S.files src.old) → HasContents (V.state vol.old).held (S.files src.old) image → IsOver g loaded (machine_over (V.state vol.old).held (S.files src.old) image) asked.now now
+        → IfOk result (λ p. IsPlan (S.files src.old) (walk g) p.begun.items (map as_planned p.segments.items) p.refusal) }
+    ensures lengths { S.told → IfOk result (λ p. AreThere (S.files src.old) p) }
     ensures may_run { IfOk result MayRun }
+    ensures refusal { IfOk result (λ p. IsWalkRefusal p.refusal) }
+    ensures looks { V.told → OnlyLooks (V.state vol.old) (V.state vol.new) }
+    ensures passes { Passes (V.state vol.old) (V.state vol.new) }
+    ensures stays { S.files src.new ≡ S.files src.old }
+    ensures counts { S.faults src.old ≤ S.faults src.new }
 {
     match ready(alloc, &loaded, &image, asked) {
-        Ok(first) => walk_over(alloc, loaded, first, image, asked.folder, now),
+        Ok(first) => walk_over(alloc, loaded, first, image, asked.folder, now, src, vol),
         Err(stop) => {
             drop(loaded);
             drop(image);
@@ -140,24 +164,29 @@ fn plan_package(
     }
 }
 
-/// Loads the package of a folder and plans its walk over the machine of an image, or stops before it.
-pub fn prepare<S: Source>(
+/// Loads the package of a folder and plans its walk over the machine of the volume's image, or stops before it. The devices are only
+/// read.
+pub fn prepare<S: Source, V: Volume>(
     alloc: Global,
-    src: &mut S,
     asked: &PackageWords<'_>,
     image: Image,
     now: u64,
+    src: &mut S,
+    vol: &mut V,
 ) -> Result<WalkPlan, Stop>
     requires public { ArePublic asked.now }
-    ensures prepares { (held : Map (List ℕ)) → Prepares S.told (Rose (S.faults src.old) (S.faults src.new)) (S.files src.old) (given_of (S.files src.old) asked.now.folder.now (sets_of asked.now) (machine_over held (S.files src.old) image) now) (of_package (S.files src.old) now (machine_over held (S.files src.old) image) asked.now.recorded asked.now.folder.now (sets_of asked.now)) result }
+    requires contents { V.told → HasContents (V.state vol.old).held (S.files src.old) image }
+    ensures prepares { Prepares (V.told × S.told) S.told (volume.Rose (V.state vol.old) (V.state vol.new)) (Rose (S.faults src.old) (S.faults src.new)) (S.files src.old) (given_of (S.files src.old) asked.now.folder.now (sets_of asked.now) (machine_over (V.state vol.old).held (S.files src.old) image) now) (of_package (S.files src.old) now (machine_over (V.state vol.old).held (S.files src.old) image) asked.now.recorded asked.now.folder.now (sets_of asked.now)) result }
     ensures lengths { S.told → IfOk result (λ p. AreThere (S.files src.old) p) }
     ensures may_run { IfOk result MayRun }
     ensures refusal { IfOk result (λ p. IsWalkRefusal p.refusal) }
+    ensures looks { V.told → OnlyLooks (V.state vol.old) (V.state vol.new) }
+    ensures passes { Passes (V.state vol.old) (V.state vol.new) }
     ensures stays { S.files src.new ≡ S.files src.old }
     ensures counts { S.faults src.old ≤ S.faults src.new }
 {
     match Package::load(alloc, src, asked.folder) {
-        Ok(loaded) => plan_package(alloc, loaded, image, asked, now),
+        Ok(loaded) => plan_package(alloc, loaded, image, asked, now, src, vol),
         Err(error) => {
             drop(image);
             Err(Stop::from(error))

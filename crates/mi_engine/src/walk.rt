@@ -20,11 +20,12 @@ ghost use Rattle.mi_model.specs.Walk.{walk};
 ghost use Rattle.mi_model.specs.Words.{Package};
 ghost use Rattle.mi_model.specs.World.{Given};
 ghost use Rattle.mi_plan.specs.Made.{as_planned};
+ghost use Rattle.mi_plan.specs.Refusals.{IsWalkRefusal};
 ghost use Rattle.mi_report.specs.WalkLogs.{IsMadeFor, IsWalkKind};
 ghost use Rattle.mi_engine.specs.Answers.{IsTold};
 ghost use Rattle.mi_engine.specs.Calls.{IsPlanned};
 ghost use Rattle.mi_engine.specs.Replies.{Serves, log_in};
-ghost use Rattle.mi_engine.specs.Walks.{AreThere, IsReady, IsWalkRefusal, MayClose, MayRun, SaysKind, is_sized, is_sized_fault};
+ghost use Rattle.mi_engine.specs.Walks.{AreThere, IsReady, MayClose, MayRun, SaysKind, is_sized, is_sized_fault};
 
 use crate::reply::{Reply, out_of_memory};
 use mi_base::{Cause, Fault, Kind, NoMemory, Settled, Text};
@@ -111,7 +112,7 @@ pub fn carry<S: Source, V: Volume>(
     requires may_run { MayRun plan }
     requires lengths { S.told → AreThere (S.files src.old) plan }
     requires refusal { IsWalkRefusal plan.refusal }
-    ensures serves { (recorded : Bool) (folder : List ℕ) (sets : Assigned) (g : Given) (out : Outcome) → (S.told → IsPlanned (S.files src.old) g out plan) → (V.told → volume_of g.former ≡ (V.state vol.old).held)
+    ensures serves { (recorded : Bool) (folder : List ℕ) (sets : Assigned) (g : Given) (out : Outcome) → (V.told → S.told → IsPlanned (S.files src.old) g out plan) → (V.told → volume_of g.former ≡ (V.state vol.old).held)
         → Serves V.told (IsTold V.told S.told (Ok (Package recorded folder sets))) (V.state vol.old) (V.state vol.new) out (Package recorded folder sets) (λ s. s ≡ settled) (Rose (S.faults src.old) (S.faults src.new)) result.kind result.reached (log_in result) }
     ensures passes { Passes (V.state vol.old) (V.state vol.new) }
     ensures counts { S.faults src.old ≤ S.faults src.new }
@@ -140,7 +141,7 @@ fn carry_ready<S: Source, V: Volume>(
     requires there { S.told → All (λ s. All (HasLength (S.files src.old)) s.records) ready.segments.items }
     requires refusal { IsWalkRefusal refusal }
     ensures serves { (recorded : Bool) (folder : List ℕ) (sets : Assigned) (g : Given) (out : Outcome) (names : List (List ℕ)) (settled : Found)
-        → IsMadeFor settled names refusal ready.log → ready.begun ≡ length names → (S.told → (out ≡ of_walk None (walk g)) × IsPlan (S.files src.old) (walk g) names ready.segments.items refusal) → (V.told → volume_of g.former ≡ (V.state vol.old).held)
+        → IsMadeFor settled names refusal ready.log → ready.begun ≡ length names → (V.told → S.told → (out ≡ of_walk None (walk g)) × IsPlan (S.files src.old) (walk g) names ready.segments.items refusal) → (V.told → volume_of g.former ≡ (V.state vol.old).held)
         → Serves V.told (IsTold V.told S.told (Ok (Package recorded folder sets))) (V.state vol.old) (V.state vol.new) out (Package recorded folder sets) (λ s. s ≡ settled) (Rose (S.faults src.old) (S.faults src.new)) result.kind result.reached (log_in result) }
     ensures passes { Passes (V.state vol.old) (V.state vol.new) }
     ensures counts { S.faults src.old ≤ S.faults src.new }

@@ -8,7 +8,7 @@ use Rattle.mi_engine.specs.Answers.{IsTold}
 use Rattle.mi_engine.specs.Asked.{asked}
 use Rattle.mi_engine.specs.Endings.{kind_unscanned}
 use Rattle.mi_engine.specs.Replies.{Replies, log_in}
-use Rattle.mi_engine.proofs.MachineLemmas.{scanned_spells}
+use Rattle.mi_engine.proofs.MachineLemmas.{scanned_spells, scanned_contents}
 use Rattle.mi_engine.proofs.ServeLemmas.{unscanned_serves, scanned_outcome}
 use Rattle.mi_engine.proofs.BeforeLemmas.{serves_from}
 use Rattle.mi_engine.proofs.serve.serve_settled.Goals as goal
@@ -17,6 +17,11 @@ pub obey-requires-clause-machine : goal.obey-requires-clause-machine
 obey-requires-clause-machine g c = λ told.
     let files = g.S.Source.files c.args.src.now in
     scanned_spells files (g.V.Volume.state c.args.vol.now).held (g.V.Volume.state c.scan.new.vol).held c.in-Ok.image (machine_of (g.V.Volume.state c.args.vol.now).held) (c.requires.free told).nothing_inside (c.in-Ok.ensures.looks told).stays.held (λ m is. is) (c.in-Ok.ensures.image told files)
+
+pub obey-requires-clause-contents : goal.obey-requires-clause-contents
+obey-requires-clause-contents g c = λ told.
+    let files = g.S.Source.files c.args.src.now in
+    scanned_contents files (g.V.Volume.state c.args.vol.now).held (g.V.Volume.state c.scan.new.vol).held c.in-Ok.image (machine_of (g.V.Volume.state c.args.vol.now).held) (c.in-Ok.ensures.looks told).stays.held (c.in-Ok.ensures.image told files)
 
 pub returns-in-Ok-clause-serves : goal.returns-in-Ok-clause-serves
 returns-in-Ok-clause-serves g c h is_handed =

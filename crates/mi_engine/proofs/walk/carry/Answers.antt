@@ -10,7 +10,7 @@ use Rattle.mi_model.specs.Plans.{Planned}
 use Rattle.mi_model.specs.Planning.{IsPlan}
 use Rattle.mi_model.specs.Walk.{walk}
 use Rattle.mi_report.specs.WalkLogs.{IsMadeFor}
-use Rattle.mi_engine.specs.Walks.{IsWalkRefusal}
+use Rattle.mi_plan.specs.Refusals.{IsWalkRefusal}
 use Rattle.mi_engine.specs.Answers.{IsTold}
 use Rattle.mi_model.specs.Words.{Package}
 use Rattle.mi_engine.proofs.WalkLemmas.{all_kept, unready_serves}
@@ -38,10 +38,10 @@ returns-in-Ok-clause-serves g c recorded folder sets given out planned former =
     c.carry_ready.ensures.serves recorded folder sets given out names c.args.settled
     (subst (λ (r : Option Cause). IsMadeFor c.args.settled names r c.in-Ok.ready.log) (sym c.refusal_of.ensures) c.in-Ok.ensures.log)
     c.in-Ok.ensures.begun
-    (λ told. (
-      (planned told).is,
+    (λ v told. (
+      (planned v told).is,
       subst (λ (r : Option Cause). IsPlan files (walk given) names c.in-Ok.ready.segments.items r) (sym c.refusal_of.ensures)
-          (subst (λ (l : List Planned). IsPlan files (walk given) names l c.args.plan.refusal) (sym c.in-Ok.ensures.segments) (planned told).whole),
+          (subst (λ (l : List Planned). IsPlan files (walk given) names l c.args.plan.refusal) (sym c.in-Ok.ensures.segments) (planned v told).whole),
     ))
     former
 

@@ -25,7 +25,7 @@ returns-clause-serves g c recorded folder sets given out names settled made begu
     let caused : carried.Caused differs (IsNone s.capacity) (BelowCount f h) refusal (length names) reached s.faults u.faults kind =
     subst (λ (b : ℕ). carried.Caused differs (IsNone s.capacity) (BelowCount f h) refusal b reached s.faults u.faults kind) (c.from.ensures ∙ begun) c.carry_out-carried.ensures.caused in
     said_serves g.V.Volume.told g.S.Source.told recorded folder sets settled f h files s u given out names c.as_slice.result.now refusal
-    (λ told. ((plan told).0, subst (λ (l : List Planned). IsPlan files (walk given) names l refusal) (sym c.as_slice.ensures.value) (plan told).1)) former c.requires.refusal differs (λ file stated size d told. d.untold told) reached
+    (λ v told. ((plan v told).0, subst (λ (l : List Planned). IsPlan files (walk given) names l refusal) (sym c.as_slice.ensures.value) (plan v told).1)) former c.requires.refusal differs (λ file stated size d told. d.untold told) reached
     c.carry_out-carried.ensures.passes.faults c.carry_out-carried.ensures.source_counts kind r.kind r.reached (log_in r) c.answered.ensures.says (c.answered.ensures.reached ∙ ap (min reached) begun) caused
     c.carry_out-carried.ensures.stops c.carry_out-carried.ensures.leaves c.carry_out-carried.ensures.reads c.carry_out-carried.ensures.cleans
     (c.answered.ensures.log settled names refusal made (may_close differs (IsNone s.capacity) (BelowCount f h) refusal (length names) reached s.faults u.faults kind caused))
