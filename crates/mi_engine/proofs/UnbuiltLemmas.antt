@@ -26,16 +26,12 @@ by_entries : {K R : Type 0} (name : Name) (es : List (K × R)) (n : ℕ) → n �
 by_entries name es n long = by_rows name (behind es) n (long ∙ sym (length-map es (λ e. e.1)))
 
 module _ (p : Package) where
-  pub tables_are : (a b c d e f : ℕ) → a ≡ length p.create_folder.entries → b ≡ length p.duplicate_file.entries → c ≡ length p.environment.entries → d ≡ length p.file.entries → e ≡ length p.remove_file.entries → f ≡ length p.shortcut.entries
-      → first_fault counted_fault ((codes "CreateFolder", a) ∷ (codes "DuplicateFile", b) ∷ (codes "Environment", c) ∷ (codes "File", d) ∷ (codes "RemoveFile", e) ∷ (codes "Shortcut", f) ∷ []) ≡ unbuilt (rows_in p)
+  pub tables_are : (a b : ℕ) → a ≡ length p.environment.entries → b ≡ length p.shortcut.entries
+      → first_fault counted_fault ((codes "Environment", a) ∷ (codes "Shortcut", b) ∷ []) ≡ unbuilt (rows_in p)
   unfolding rows_in unbuilt
-  tables_are a b c d e f long_a long_b long_c long_d long_e long_f = λ i.
-      by_entries (codes "CreateFolder") p.create_folder.entries a long_a i or_else
-      by_entries (codes "DuplicateFile") p.duplicate_file.entries b long_b i or_else
-      by_entries (codes "Environment") p.environment.entries c long_c i or_else
-      by_entries (codes "File") p.file.entries d long_d i or_else
-      by_entries (codes "RemoveFile") p.remove_file.entries e long_e i or_else
-      by_entries (codes "Shortcut") p.shortcut.entries f long_f i or_else None
+  tables_are a b long_a long_b = λ i.
+      by_entries (codes "Environment") p.environment.entries a long_a i or_else
+      by_entries (codes "Shortcut") p.shortcut.entries b long_b i or_else None
 
 pub refused_by : (o : Option Cause) (cause : Cause) (why : Stop) → o ≡ Some cause → Refuses cause why → Judges {T = Unit {0}} o (Err why)
 refused_by o cause NoMemory is refuses = tt
@@ -54,17 +50,9 @@ no_rows table (x ∷ rows) is = absurd cc
 pub is_built : (rows : Rows) → unbuilt rows ≡ None → IsBuilt rows
 unfolding unbuilt
 is_built rows is =
-    let a = none_left (at_first_row (codes "CreateFolder") rows.create_folder) _ is in
-    let b = none_left (at_first_row (codes "DuplicateFile") rows.duplicate_file) _ a.1 in
-    let c = none_left (at_first_row (codes "Environment") rows.environment) _ b.1 in
-    let d = none_left (at_first_row (codes "File") rows.file) _ c.1 in
-    let e = none_left (at_first_row (codes "RemoveFile") rows.remove_file) _ d.1 in
-    let f = none_left (at_first_row (codes "Shortcut") rows.shortcut) _ e.1 in
+    let a = none_left (at_first_row (codes "Environment") rows.environment) _ is in
+    let b = none_left (at_first_row (codes "Shortcut") rows.shortcut) _ a.1 in
     record {
-      create_folder = no_rows _ rows.create_folder a.0;
-      duplicate_file = no_rows _ rows.duplicate_file b.0;
-      environment = no_rows _ rows.environment c.0;
-      file = no_rows _ rows.file d.0;
-      remove_file = no_rows _ rows.remove_file e.0;
-      shortcut = no_rows _ rows.shortcut f.0;
+      environment = no_rows _ rows.environment a.0;
+      shortcut = no_rows _ rows.shortcut b.0;
     }

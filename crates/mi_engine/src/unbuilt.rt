@@ -31,11 +31,7 @@ fn unbuilt_table(loaded: &Package) -> Option<&'static str>
     ensures { option_map (λ t. NotYet t.now 1) result ≡ unbuilt (rows_in loaded.now) }
 {
     let tables = [
-        ("CreateFolder", loaded.create_folder.len()),
-        ("DuplicateFile", loaded.duplicate_file.len()),
         ("Environment", loaded.environment.len()),
-        ("File", loaded.file.len()),
-        ("RemoveFile", loaded.remove_file.len()),
         ("Shortcut", loaded.shortcut.len()),
     ];
     first_table(&tables)

@@ -131,20 +131,8 @@ module _ (files : Files) (w : World) (had : List Rec) (built : IsBuilt w.given.r
   no_shortcuts : (test : Name → Bool) → rows_that (λ (r : ShortcutRow). r.shortcut) (λ (r : ShortcutRow). r.component) test w.given.rows.shortcut ≡ []
   no_shortcuts test = no_rows_that (λ (r : ShortcutRow). r.shortcut) (λ (r : ShortcutRow). r.component) test w.given.rows.shortcut built.shortcut
 
-  no_files : (test : Name → Bool) → rows_that (λ (r : FileRow). r.file) (λ (r : FileRow). r.component) test w.given.rows.file ≡ []
-  no_files test = no_rows_that (λ (r : FileRow). r.file) (λ (r : FileRow). r.component) test w.given.rows.file built.file
-
-  no_copies : (test : Name → Bool) → copy_rows test w ≡ []
-  no_copies test = no_rows_that (λ (r : DuplicateFileRow). r.file_key) (λ (r : DuplicateFileRow). r.component) test w.given.rows.duplicate_file built.duplicate_file
-
-  no_folders : (test : Name → Bool) → folder_rows test w ≡ []
-  no_folders test = no_rows_that (λ (r : CreateFolderRow). joined_key r.directory r.component) (λ (r : CreateFolderRow). r.component) test w.given.rows.create_folder built.create_folder
-
   no_variables : in_key_order (λ (r : EnvironmentRow). r.environment) w.given.rows.environment ≡ []
   no_variables = no_rows (λ (r : EnvironmentRow). r.environment) w.given.rows.environment built.environment
-
-  no_patterns : rows_in_force w ≡ []
-  no_patterns = ap (filter (λ (r : Numbered RemoveFileRow). is_in_force w r.row)) (no_rows (λ (r : RemoveFileRow). r.file_key) w.given.rows.remove_file built.remove_file)
 
   pub creates_no_shortcuts : Makes create_shortcuts
   unfolding create_shortcuts
@@ -167,36 +155,3 @@ module _ (files : Files) (w : World) (had : List Rec) (built : IsBuilt w.given.r
   pub writes_no_strings : Makes write_environment_strings
   unfolding write_environment_strings
   writes_no_strings = nothing files write_environment_strings w had (ap (λ (rs : List (Numbered EnvironmentRow)). Ok (map (write_string w) (filter (λ r. comes w r.row.component) rs))) no_variables)
-
-  pub copies_nothing : Makes duplicate_files
-  unfolding duplicate_files
-  copies_nothing = nothing files duplicate_files w had (ap (λ (rs : List (Numbered DuplicateFileRow)). Ok (map (copied_row w) rs)) (no_copies (comes w)))
-
-  pub removes_no_copies : Makes remove_duplicate_files
-  unfolding remove_duplicate_files
-  removes_no_copies = pruned_by remove_duplicate_files (copies.touched_folders w)
-      (ap (λ (rs : List (Numbered DuplicateFileRow)). Ok (map (removed_copy w) rs ++ prune_folders w (copies.touched_folders w) ∷ [])) (no_copies (leaves w)))
-      (ap (filter_map (λ (r : Numbered DuplicateFileRow). option_map up_to_last (option_flatten (copy_path w r.row)))) (no_copies (leaves w)))
-
-  pub installs_nothing : Makes install_files
-  unfolding install_files
-  installs_nothing = nothing files install_files w had (ap (λ (rs : List (Numbered FileRow)). each (install.placed w) rs >>= installed_rows w) (no_files (comes w)))
-
-  pub creates_no_folders : Makes create_folders
-  unfolding create_folders
-  creates_no_folders = nothing files create_folders w had (ap (λ (rs : List (Numbered CreateFolderRow)). Ok (map (made_folder w) rs)) (no_folders (comes w)))
-
-  pub removes_no_folders : Makes remove_folders
-  unfolding remove_folders
-  removes_no_folders = pruned_by remove_folders (filter_map (folder_of_row w) (folder_rows (leaves w) w)) refl (ap (filter_map (folder_of_row w)) (no_folders (leaves w)))
-
-  pub removes_nothing : Makes remove_files
-  unfolding remove_files
-  removes_nothing = pruned_by remove_files (removed.touched_folders w)
-      (ap (λ (rs : List (Numbered FileRow)). Ok (map (removed_file w) rs ++ map (removed_by_pattern w) (rows_in_force w) ++ prune_folders w (removed.touched_folders w) ∷ [])) (no_files (leaves w))
-      ∙ ap (λ (rs : List (Numbered RemoveFileRow)). Ok ([] ++ map (removed_by_pattern w) rs ++ prune_folders w (removed.touched_folders w) ∷ [])) no_patterns)
-      (ap (λ (rs : List (Numbered FileRow)). filter_map (λ (r : Numbered FileRow). option_map up_to_last (path_of_row w r.row)) rs ++ pattern_folders (rows_in_force w)) (no_files (leaves w))
-      ∙ ap pattern_folders no_patterns)
-    where
-      pattern_folders : List (Numbered RemoveFileRow) → List Text
-      pattern_folders rs = filter_map (λ (r : Numbered RemoveFileRow). cond (is_none r.row.file_name) (option_flatten (removed.folder_of_row w r.row)) None) rs

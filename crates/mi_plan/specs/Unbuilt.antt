@@ -15,11 +15,7 @@ at_first_row table (row ∷ rows) = Some (NotYet table 1)
 -- the tables in byte order
 abbrev pub unbuilt_tables : Rows → List (Option Fault)
 unbuilt_tables rows =
-    at_first_row (codes "CreateFolder") rows.create_folder
-    ∷ at_first_row (codes "DuplicateFile") rows.duplicate_file
-    ∷ at_first_row (codes "Environment") rows.environment
-    ∷ at_first_row (codes "File") rows.file
-    ∷ at_first_row (codes "RemoveFile") rows.remove_file
+    at_first_row (codes "Environment") rows.environment
     ∷ at_first_row (codes "Shortcut") rows.shortcut
     ∷ []
 
@@ -29,9 +25,5 @@ unbuilt rows = first_fault (λ fault. fault) (unbuilt_tables rows)
 
 -- No row is in these tables.
 pub record IsBuilt (rows : Rows) : Type 0 where
-  pub create_folder : rows.create_folder ≡ []
-  pub duplicate_file : rows.duplicate_file ≡ []
   pub environment : rows.environment ≡ []
-  pub file : rows.file ≡ []
-  pub remove_file : rows.remove_file ≡ []
   pub shortcut : rows.shortcut ≡ []
