@@ -2,4 +2,4 @@ use Rattle.mi_laws.proofs.ClientLemmas as lemma
 use Rattle.mi_laws.proofs.laws.clients_go_by_absence.Goals as goal
 
 pub returns : goal.returns
-returns g c = lemma.clients_go_by_absence
+returns c = lemma.clients_go_by_absence
