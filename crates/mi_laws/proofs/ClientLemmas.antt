@@ -1,6 +1,6 @@
 -- Client rows go by components that are made Absent alone.
 use Rattle.std.proofs.Common.{◌≡◌, ℕ, Bool, true, false, cond, List, [], ◌∷◌, Option, Some, None, refl, sym, ap, subst, ◌∙◌}
-use Rattle.std.specs.Prelude.{◌&&◌, Result, Ok, Err}
+use Rattle.std.specs.Prelude.{◌&&◌, codes, Result, Ok, Err}
 use Rattle.std.specs.List.{list_any, AllByRecursion}
 use Rattle.std.specs.Option.{option_map_or}
 use Rattle.std.specs.FinMap.{get}
@@ -21,6 +21,7 @@ use Rattle.mi_model_laws.specs.PhaseLaws.{in_turn}
 use Rattle.mi_model_laws.specs.RecordLaws.{client_made, client_after, client_by, component_rows}
 use Rattle.mi_model_laws.proofs.ClientLemmas.{clients_are_processed}
 use Rattle.mi_model_laws.proofs.OnlyLemmas.{phases_change_only}
+use Rattle.mi_model_laws.specs.OnlyLaws.{files_and_folders, shortcuts_and_folders}
 use Rattle.mi_laws.specs.ValueLaws.{Goes}
 use Rattle.mi_laws.specs.ClientLaws.{is_client_of, is_client_of_absent, KeepsClients, phases_but_clients, ClientsGoByAbsence}
 use Rattle.mi_laws.proofs.StandLemmas.{Stands, else_true, stays, no_client_in}
@@ -55,24 +56,48 @@ removed_by_absence : (w : World) (q : Name) → Goes process_components w q → 
 removed_by_absence w q g =
     let gone : in_turn (client_by w q) (component_rows w) (Some g.entry) ≡ None = ap (in_turn (client_by w q) (component_rows w)) (sym g.stood) ∙ sym (clients_are_processed w g.machine g.after q) ∙ g.gone in
     else_true (is_client_of_absent w q) (λ none. subst Stands gone
-        (stays (client_by w q) (is_client_of w q) (λ (c : Numbered ComponentRow) n e. id_stands w c.row q c.row.component_id e n) (component_rows w) (Some g.entry) tt none))
+    (stays (client_by w q) (is_client_of w q) (λ (c : Numbered ComponentRow) n e. id_stands w c.row q c.row.component_id e n) (component_rows w) (Some g.entry) tt none))
 
 others_keep : AllByRecursion KeepsClients phases_but_clients
 others_keep = (
-  no_client_in _ _ phases_change_only.removed_values (λ rest. refl),
-  no_client_in _ _ phases_change_only.removed_shortcuts (λ rest. refl),
-  no_client_in _ _ phases_change_only.removed_variables (λ rest. refl),
-  no_client_in _ _ phases_change_only.removed_copies (λ rest. refl),
-  no_client_in _ _ phases_change_only.removed_files (λ rest. refl),
-  no_client_in _ _ phases_change_only.removed_folders (λ rest. refl),
-  no_client_in _ _ phases_change_only.created_folders (λ rest. refl),
-  no_client_in _ _ phases_change_only.installed_files (λ rest. refl),
-  no_client_in _ _ phases_change_only.copied_files (λ rest. refl),
-  no_client_in _ _ phases_change_only.created_shortcuts (λ rest. refl),
-  no_client_in _ _ phases_change_only.written_values (λ rest. refl),
-  no_client_in _ _ phases_change_only.written_variables (λ rest. refl),
-  no_client_in _ _ phases_change_only.product (λ rest. refl),
-  tt
+  no_client_in (codes "v" ∷ codes "k" ∷ []) _ phases_change_only.removed_values (λ rest. refl),
+  (
+    no_client_in shortcuts_and_folders _ phases_change_only.removed_shortcuts (λ rest. refl),
+    (
+      no_client_in (codes "n/" ∷ []) _ phases_change_only.removed_variables (λ rest. refl),
+      (
+        no_client_in files_and_folders _ phases_change_only.removed_copies (λ rest. refl),
+        (
+          no_client_in files_and_folders _ phases_change_only.removed_files (λ rest. refl),
+          (
+            no_client_in (codes "d/" ∷ []) _ phases_change_only.removed_folders (λ rest. refl),
+            (
+              no_client_in (codes "d/" ∷ []) _ phases_change_only.created_folders (λ rest. refl),
+              (
+                no_client_in files_and_folders _ phases_change_only.installed_files (λ rest. refl),
+                (
+                  no_client_in files_and_folders _ phases_change_only.copied_files (λ rest. refl),
+                  (
+                    no_client_in shortcuts_and_folders _ phases_change_only.created_shortcuts (λ rest. refl),
+                    (
+                      no_client_in (codes "v/" ∷ codes "k/" ∷ []) _ phases_change_only.written_values (λ rest. refl),
+                      (
+                        no_client_in (codes "n/" ∷ []) _ phases_change_only.written_variables (λ rest. refl),
+                        (
+                          no_client_in (codes "p/" ∷ []) _ phases_change_only.product (λ rest. refl),
+                          tt,
+                        ),
+                      ),
+                    ),
+                  ),
+                ),
+              ),
+            ),
+          ),
+        ),
+      ),
+    ),
+  ),
 )
 
 pub clients_go_by_absence : ClientsGoByAbsence

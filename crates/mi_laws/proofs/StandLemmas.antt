@@ -33,8 +33,8 @@ right_none false b e = e
 
 -- what isn't false is true
 pub else_true : (b : Bool) → (b ≡ false → ⊥) → b ≡ true
-else_true true no = refl
-else_true false no = absurd (no refl)
+else_true true isnt = refl
+else_true false isnt = absurd (isnt refl)
 
 -- rows none of which takes it
 pub stays : {R : Type 0} → (step : R → Option Entry → Option Entry) (takes : R → Bool) → ((r : R) → takes r ≡ false → (e : Entry) → Stands (step r (Some e)))

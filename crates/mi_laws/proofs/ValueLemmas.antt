@@ -30,6 +30,7 @@ use Rattle.mi_model.specs.WriteRegistryValues.{written_rows, old_value, value_en
 use Rattle.mi_model.specs.RemoveRegistryValues.{leaving_rows, removal_rows, value_less, remove_registry_values}
 use Rattle.mi_model_laws.specs.RegistryLaws.{goes_with, says_removed, removed_by, taken_by, says_written, written_by, values_after_remove}
 use Rattle.mi_model_laws.proofs.OnlyLemmas.{phases_change_only}
+use Rattle.mi_model_laws.specs.OnlyLaws.{files_and_folders, shortcuts_and_folders}
 use Rattle.mi_model_laws.proofs.RowLemmas.{from_ok, bound, unrefused, behind, with_first}
 use Rattle.mi_model_laws.proofs.RemovalLemmas.{values_are_removed}
 use Rattle.mi_model_laws.proofs.WriteLemmas.{value_acts}
@@ -70,10 +71,10 @@ removal_stands q (Err fault) none e = tt
 unnamed_stands : (w : World) (q : Name) (e : Entry) → (is_named_by_leaving w q || is_named_by_removal w q) ≡ false → Stands (values_after_remove w q (Some e))
 unnamed_stands w q e none =
     stays (λ (r : Numbered RemoveRegistryRow). taken_by q (removal_place (lookups w) r)) (λ r. is_removed_by q (removal_place (lookups w) r)) (λ r. removal_stands q (removal_place (lookups w) r))
-        (removal_rows w) _
-        (stays (λ (r : Numbered RegistryRow). removed_by (is_guarded_value w) q (registry_meaning (lookups w) r)) (λ r. is_taken_by (is_guarded_value w) q (registry_meaning (lookups w) r)) (λ r. row_stands (is_guarded_value w) q (registry_meaning (lookups w) r))
-            (leaving_rows w) (Some e) tt (left_none (is_named_by_leaving w q) (is_named_by_removal w q) none))
-        (right_none (is_named_by_leaving w q) (is_named_by_removal w q) none)
+    (removal_rows w) _
+    (stays (λ (r : Numbered RegistryRow). removed_by (is_guarded_value w) q (registry_meaning (lookups w) r)) (λ r. is_taken_by (is_guarded_value w) q (registry_meaning (lookups w) r)) (λ r. row_stands (is_guarded_value w) q (registry_meaning (lookups w) r))
+    (leaving_rows w) (Some e) tt (left_none (is_named_by_leaving w q) (is_named_by_removal w q) none))
+    (right_none (is_named_by_leaving w q) (is_named_by_removal w q) none)
 
 removed_by_rows : (w : World) (root : ℕ) (key name : Text) → Goes remove_registry_values w (value_name root key name) → (is_named_by_leaving w (value_name root key name) || is_named_by_removal w (value_name root key name)) ≡ true
 removed_by_rows w root key name g =
@@ -111,8 +112,8 @@ row_keeps w root key name r m ts e s =
     let read = bound (registry_meaning (lookups w) r) (λ meaning. unless (value_fault m r.number meaning) (Ok (meaning_touches meaning))) ts e in
     let fine = unrefused (value_fault m r.number read.value) (Ok (meaning_touches read.value)) ts read.rest in
     subst Stands
-        (sym (get-after_touches m ts q ∙ ap (left_at q ts) there.1 ∙ value_acts w root key name r m ts e (Some there.0) ∙ ap (λ r. written_by q r (Some there.0)) read.is))
-        (written_stands m r.number q read.value.place read.value.says there.0 there.1 fine.none)
+    (sym (get-after_touches m ts q ∙ ap (left_at q ts) there.1 ∙ value_acts w root key name r m ts e (Some there.0) ∙ ap (λ r. written_by q r (Some there.0)) read.is))
+    (written_stands m r.number q read.value.place read.value.says there.0 there.1 fine.none)
 
 rows_keep : (w : World) (root : ℕ) (key name : Text) (rows : List (Numbered RegistryRow)) (m : Machine) (touches : List Touches) → by_rows m (map (write_row w) rows) ≡ Ok touches
     → Stands (get m (value_name root key name)) → Stands (get (after_rows m touches) (value_name root key name))
@@ -121,33 +122,55 @@ rows_keep w root key name (r ∷ rows) m touches e s =
     let one = bound (write_row w r m) (behind m (map (write_row w) rows)) touches e in
     let rest = bound (by_rows (after_touches m one.value) (map (write_row w) rows)) (with_first one.value) touches one.rest in
     subst (λ (ts : List Touches). Stands (get (after_rows m ts) (value_name root key name))) (from_ok (one.value ∷ rest.value) touches rest.rest)
-        (rows_keep w root key name rows (after_touches m one.value) rest.value rest.is (row_keeps w root key name r m one.value one.is s))
+    (rows_keep w root key name rows (after_touches m one.value) rest.value rest.is (row_keeps w root key name r m one.value one.is s))
 
 none_is_written_away : (w : World) (root : ℕ) (key name : Text) → ¬ Goes write_registry_values w (value_name root key name)
 unfolding write_registry_values
 none_is_written_away w root key name g =
     let q = value_name root key name in
     subst Stands (ap (λ (m : Machine). get m q) (sym g.after.machine) ∙ g.gone)
-        (rows_keep w root key name (written_rows w) w.machine g.after.rows g.after.touched (subst Stands (sym g.stood) tt))
+    (rows_keep w root key name (written_rows w) w.machine g.after.rows g.after.touched (subst Stands (sym g.stood) tt))
 
 -- ---- the other phases
 
 others_keep : AllByRecursion KeepsValues other_phases
 unfolding value_name
 others_keep = (
-  no_value_in _ _ phases_change_only.clients (λ root key name. refl),
-  no_value_in _ _ phases_change_only.removed_shortcuts (λ root key name. refl),
-  no_value_in _ _ phases_change_only.removed_variables (λ root key name. refl),
-  no_value_in _ _ phases_change_only.removed_copies (λ root key name. refl),
-  no_value_in _ _ phases_change_only.removed_files (λ root key name. refl),
-  no_value_in _ _ phases_change_only.removed_folders (λ root key name. refl),
-  no_value_in _ _ phases_change_only.created_folders (λ root key name. refl),
-  no_value_in _ _ phases_change_only.installed_files (λ root key name. refl),
-  no_value_in _ _ phases_change_only.copied_files (λ root key name. refl),
-  no_value_in _ _ phases_change_only.created_shortcuts (λ root key name. refl),
-  no_value_in _ _ phases_change_only.written_variables (λ root key name. refl),
-  no_value_in _ _ phases_change_only.product (λ root key name. refl),
-  tt
+  no_value_in (codes "c/" ∷ []) _ phases_change_only.clients (λ root key name. refl),
+  (
+    no_value_in shortcuts_and_folders _ phases_change_only.removed_shortcuts (λ root key name. refl),
+    (
+      no_value_in (codes "n/" ∷ []) _ phases_change_only.removed_variables (λ root key name. refl),
+      (
+        no_value_in files_and_folders _ phases_change_only.removed_copies (λ root key name. refl),
+        (
+          no_value_in files_and_folders _ phases_change_only.removed_files (λ root key name. refl),
+          (
+            no_value_in (codes "d/" ∷ []) _ phases_change_only.removed_folders (λ root key name. refl),
+            (
+              no_value_in (codes "d/" ∷ []) _ phases_change_only.created_folders (λ root key name. refl),
+              (
+                no_value_in files_and_folders _ phases_change_only.installed_files (λ root key name. refl),
+                (
+                  no_value_in files_and_folders _ phases_change_only.copied_files (λ root key name. refl),
+                  (
+                    no_value_in shortcuts_and_folders _ phases_change_only.created_shortcuts (λ root key name. refl),
+                    (
+                      no_value_in (codes "n/" ∷ []) _ phases_change_only.written_variables (λ root key name. refl),
+                      (
+                        no_value_in (codes "p/" ∷ []) _ phases_change_only.product (λ root key name. refl),
+                        tt,
+                      ),
+                    ),
+                  ),
+                ),
+              ),
+            ),
+          ),
+        ),
+      ),
+    ),
+  ),
 )
 
 pub values_go_by_rows : ValuesGoByRows
