@@ -44,8 +44,8 @@ pub star_end : (ps ts : List ℕ) → matches (42 ∷ ps) ts ≡ true → (n : �
 star_end ps [] h = elim (either _ _ h) [ inl e ↦ (0, e) | inr e ↦ absurd (cc) ]
 star_end ps (t ∷ ts) h =
     elim (either _ _ h) [
-      inl e ↦ (0, e)
-    | inr e ↦ let w = star_end ps ts e in (suc w.0, w.1)
+      | inl e ↦ (0, e)
+      | inr e ↦ let w = star_end ps ts e in (suc w.0, w.1)
     ]
 
 -- a `*` that stands for no character may stand for one more, where what is behind it doesn't pass
@@ -56,11 +56,11 @@ star_goes_on ps ts t h = first_false _ _ h
 pub all_stars : (ps : List ℕ) → matches ps [] ≡ list_all (λ p. p == 42) ps
 all_stars [] = refl
 all_stars (p ∷ ps) = by_test (p == 42) (matches ps []) _ (all_stars ps)
-    where
-      by_test : (b x y : Bool) → x ≡ y → (if b then (x || false) else false) ≡ (b && y)
-      by_test true true y e = e
-      by_test true false y e = e
-      by_test false x y e = refl
+  where
+    by_test : (b x y : Bool) → x ≡ y → (if b then (x || false) else false) ≡ (b && y)
+    by_test true true y e = e
+    by_test true false y e = e
+    by_test false x y e = refl
 
 -- ---- another character
 

@@ -16,9 +16,9 @@ at_star_back : (P T behind more ps ts : List ℕ) → GoesBack P T behind more (
 at_star_back P T behind more ps ts g =
     same_from_trues (matches P T) (matches (42 ∷ ps) ts)
     (λ h.
-      let w = star_end behind more (sym g.whole ∙ h) in
-      let v = star_end ps (drop w.0 ts) (g.later w.0 w.1) in
-      star_from ps ts (w.0 + v.0) (sym (ap (matches ps) (drop-drop v.0 w.0 ts)) ∙ v.1))
+    let w = star_end behind more (sym g.whole ∙ h) in
+    let v = star_end ps (drop w.0 ts) (g.later w.0 w.1) in
+    star_from ps ts (w.0 + v.0) (sym (ap (matches ps) (drop-drop v.0 w.0 ts)) ∙ v.1))
     (λ h. g.whole ∙ star_from behind more 0 (g.here ∙ h))
 
 at_star : (P T : List ℕ) (way : Option Way) (ps ts : List ℕ) → StandsBy P T way (42 ∷ ps) ts → matches P T ≡ matches (42 ∷ ps) ts
@@ -43,7 +43,7 @@ past_back P T behind more p c ps ts h t g =
       here = g.here ∙ one_here ps ts p c h t;
       later = λ n m. one_later ps ts p c n h (g.later n m);
       wide = let w : length (c ∷ ts) ≤ length more = g.wide in grind (arith, common_steps);
-      short = g.short
+      short = g.short;
     }
 
 pub past_one : (P T : List ℕ) (way : Option Way) (p c : ℕ) (ps ts : List ℕ) → (p == 42) ≡ false → ((p == 63) || (c == p)) ≡ true → StandsBy P T way (p ∷ ps) (c ∷ ts) → StandsBy P T way ps ts
@@ -68,7 +68,10 @@ from_back P T behind more rest left ts c g off e =
     let fails : matches behind (c ∷ ts) ≡ false = sym (ap (matches behind) e) ∙ g.here ∙ off in
     record {
       whole = g.whole ∙ ap (matches (42 ∷ behind)) e ∙ star_goes_on behind ts c fails;
-      here = refl; later = λ n h. h; wide = omega arith; short = g.short
+      here = refl;
+      later = λ n h. h;
+      wide = omega arith;
+      short = g.short;
     }
 
 -- ---- what is left to do

@@ -22,8 +22,8 @@ returns-then-passes c = λ P T s.
 fails : (c : goal.After-later) → matches c.args.walk.pattern.now c.args.walk.text.now ≡ false
 fails c =
     elim c.match-split_first.branch [
-      in-Some+else-wanted-eq42+else-passes w ↦ none_here c.args.walk.pattern.now w.in-Some.pattern.now c.args.walk.text.now c.args.rest.now w.in-Some.wanted.now c.args.c w.in-Some.ensures.cases.0 c.requires (other _ w.if-wanted-eq42.false) (sym w.passes.ensures ∙ w.if-passes.false)
-    | in_default w ↦ none_left c.args.walk.pattern.now c.args.walk.text.now c.args.rest.now c.args.c w.in_default.ensures.cases c.requires
+      | in-Some+else-wanted-eq42+else-passes w ↦ none_here c.args.walk.pattern.now w.in-Some.pattern.now c.args.walk.text.now c.args.rest.now w.in-Some.wanted.now c.args.c w.in-Some.ensures.cases.0 c.requires (other _ w.if-wanted-eq42.false) (sym w.passes.ensures ∙ w.if-passes.false)
+      | in_default w ↦ none_left c.args.walk.pattern.now c.args.walk.text.now c.args.rest.now c.args.c w.in_default.ensures.cases c.requires
     ]
 
 pub returns : goal.returns
