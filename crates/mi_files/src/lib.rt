@@ -1,0 +1,7 @@
+//! The phases of files, folders and copies of files as plan calls (File, RemoveFile, DuplicateFile and CreateFolder tables;
+//! RemoveFiles, RemoveDuplicateFiles, CreateFolders, RemoveFolders and DuplicateFiles actions).
+#![tactic(auto)]
+
+mod paths;
+
+pub use paths::row_path;
