@@ -106,11 +106,7 @@ fn names_taken(alloc: Global, image: &Image, taking: Taking<'_>) -> Result<Vec<N
 
 /// Takes those files away. It costs a search, a comparison for each file in the folder or below it, and a search for each that
 /// goes.
-pub fn take_matching(
-    alloc: Global,
-    plan: &mut Plan,
-    taking: Taking<'_>,
-) -> Result<(), NoMemory>
+pub fn take_matching(alloc: Global, plan: &mut Plan, taking: Taking<'_>) -> Result<(), NoMemory>
     requires { IsFolder taking.folder.now }
     ensures makes { (guarded : List ℕ → Bool) (held files : Map (List ℕ)) → Guards taking.guards.now guarded → OnOk result (Makes held files plan.old plan.new (Clear (takes guarded taking.local taking.folder.now taking.pattern.now) ∷ [])) }
     ensures keeps { Keeps plan.old plan.new }

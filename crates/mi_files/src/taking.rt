@@ -69,13 +69,15 @@ pub fn take_row(
     ensures touched { OnOk result (touched.new.items ≡ touched.old.items ++ map folded (option_to_list (option_map up_to_last path))) }
     ensures keeps { Keeps plan.old plan.new }
 {
-    let Some(path) = path else {
-        return Err(bad_path(alloc, table, number));
-    };
-    let done = take_and_touch(alloc, plan, guards, touched, &path);
-    drop(path);
-    match done {
-        Ok(()) => Ok(()),
-        Err(_) => Err(PlanError::NoMemory),
+    match path {
+        Some(path) => {
+            let done = take_and_touch(alloc, plan, guards, touched, &path);
+            drop(path);
+            match done {
+                Ok(()) => Ok(()),
+                Err(_) => Err(PlanError::NoMemory),
+            }
+        }
+        None => Err(bad_path(alloc, table, number)),
     }
 }
