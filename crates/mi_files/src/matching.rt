@@ -61,7 +61,7 @@ fn taken(
     path: &PathText,
 ) -> Result<Option<Name>, NoMemory>
     requires { folder.now ≡ folded taking.folder.now }
-    ensures { (guarded : List ℕ → Bool) → Guards taking.guards.now guarded → IfOk result (λ name. name ≡ (if takes guarded taking.local taking.folder.now taking.pattern.now (file_name path.now) then Some (file_name path.now) else None)) }
+    ensures { (guarded : List ℕ → Bool) → Guards taking.entry.guards.now guarded → IfOk result (λ name. name ≡ (if takes guarded taking.entry.local taking.entry.folder.now taking.entry.pattern.now (file_name path.now) then Some (file_name path.now) else None)) }
 {
     if !lies_in(alloc, folder, taking.pattern, path)? {
         return Ok(None);
@@ -82,7 +82,7 @@ fn all_taken(
     paths: &[PathText],
 ) -> Result<Vec<Name>, NoMemory>
     requires { folder.now ≡ folded taking.folder.now }
-    ensures { (guarded : List ℕ → Bool) → Guards taking.guards.now guarded → IfOk result (λ names. names.items ≡ filter (takes guarded taking.local taking.folder.now taking.pattern.now) (map file_name paths.now)) }
+    ensures { (guarded : List ℕ → Bool) → Guards taking.entry.guards.now guarded → IfOk result (λ names. names.items ≡ filter (takes guarded taking.entry.local taking.entry.folder.now taking.entry.pattern.now) (map file_name paths.now)) }
 {
     let mut names = Vec::new(alloc);
     for path in paths {
@@ -96,7 +96,7 @@ fn all_taken(
 // The names of the files that go, in byte order.
 fn names_taken(alloc: Global, image: &Image, taking: Taking<'_>) -> Result<Vec<Name>, NoMemory>
     requires { IsFolder taking.folder.now }
-    ensures { (guarded : List ℕ → Bool) (held files : Map (List ℕ)) → Guards taking.guards.now guarded → IfOk result (λ names. names.items ≡ filter (takes guarded taking.local taking.folder.now taking.pattern.now) (keys (machine_over held files image.now))) }
+    ensures { (guarded : List ℕ → Bool) (held files : Map (List ℕ)) → Guards taking.entry.guards.now guarded → IfOk result (λ names. names.items ≡ filter (takes guarded taking.entry.local taking.entry.folder.now taking.entry.pattern.now) (keys (machine_over held files image.now))) }
 {
     stands_right(image);
     let folder = fold(alloc, taking.folder.as_str())?;
@@ -108,7 +108,7 @@ fn names_taken(alloc: Global, image: &Image, taking: Taking<'_>) -> Result<Vec<N
 /// goes.
 pub fn take_matching(alloc: Global, plan: &mut Plan, taking: Taking<'_>) -> Result<(), NoMemory>
     requires { IsFolder taking.folder.now }
-    ensures makes { (guarded : List ℕ → Bool) (held files : Map (List ℕ)) → Guards taking.guards.now guarded → OnOk result (Makes held files plan.old plan.new (Clear (takes guarded taking.local taking.folder.now taking.pattern.now) ∷ [])) }
+    ensures makes { (guarded : List ℕ → Bool) (held files : Map (List ℕ)) → Guards taking.entry.guards.now guarded → OnOk result (Makes held files plan.old plan.new (Clear (takes guarded taking.entry.local taking.entry.folder.now taking.entry.pattern.now) ∷ [])) }
     ensures keeps { Keeps plan.old plan.new }
 {
     let names = names_taken(alloc, plan.overlay.image(), taking)?;
