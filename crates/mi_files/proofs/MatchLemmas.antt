@@ -10,7 +10,7 @@ use Rattle.std.proofs.lemmas.Bool.{cases_Bool}
 use Rattle.std.proofs.lemmas.Slice.Eq.{bytes_eq-Decides}
 use Rattle.mi_text.specs.Fold.{folded}
 use Rattle.mi_text.specs.Maps.{Name, Map}
-use Rattle.mi_text.specs.Path.{up_to_last, is_backslash, is_folder_path}
+use Rattle.mi_text.specs.Path.{up_to_last, last_part, is_backslash, is_folder_path}
 use Rattle.mi_text.proofs.ByteLemmas.{both, and_true}
 use Rattle.mi_base.specs.declared.entry.Entry.{Entry}
 use Rattle.mi_base.specs.declared.entry.Entry.TheVariants as entry
@@ -19,6 +19,7 @@ use Rattle.mi_dirs.specs.Places.{Folder}
 use Rattle.mi_image.specs.Items.{Items, machine_over, AreRight}
 use Rattle.mi_image.specs.Lists.{path_below, shown_file, files_under}
 use Rattle.mi_model.specs.Texts.{Text}
+use Rattle.mi_model.specs.Patterns.{has_pattern}
 use Rattle.mi_model.specs.RemoveFiles.{lies_in}
 use Rattle.mi_records.proofs.SeatLemmas.{Stands, each_stands, names_told}
 use Rattle.mi_files.specs.Taking.{takes}
@@ -117,3 +118,16 @@ passed_one {X} p tell xs k x o old new within is found so_far grown =
     ∙ ap (λ (l : List Name). filter p (map tell (take k xs)) ++ l) (ap option_to_list found ∙ one_passed (p (tell x)) (tell x))
     ∙ sym (filter-append p (map tell (take k xs)) (tell x ∷ []))
     ∙ ap (filter p) (sym (map-append tell (take k xs) (x ∷ [])) ∙ ap (map tell) (sym (take_more xs k x within ∙ ap (λ (y : X). take k xs ++ y ∷ []) (sym is))))
+
+-- ---- one file
+
+-- it lies in the folder
+pub lies_told : (folder : Folder) (pattern : Text) (path front : List ℕ) (b : Bool) → front ≡ folded folder → b ≡ (bytes_eq (up_to_last (folded path)) front && has_pattern pattern (last_part (folded path))) → b ≡ lies_in folder pattern (file_name path)
+unfolding file_name
+lies_told folder pattern path front b at is = is ∙ ap (λ (f : List ℕ). bytes_eq (up_to_last (folded path)) f && has_pattern pattern (last_part (folded path))) at
+
+pub lying : (lies may : Bool) (q : Name) → lies ≡ true → cond may (Some q) None ≡ cond (lies && may) (Some q) None
+lying lies may q is = sym (ap (λ b. cond (b && may) (Some q) None) is)
+
+pub not_lying : (lies may : Bool) (q : Name) → lies ≡ false → None ≡ cond (lies && may) (Some q) None
+not_lying lies may q is = sym (ap (λ b. cond (b && may) (Some q) None) is)

@@ -1,5 +1,5 @@
 -- The phases RemoveFiles and RemoveDuplicateFiles.
-use Rattle.std.proofs.Common.{◌≡◌, ℕ, Bool, true, false, cond, ◌&&◌, ◌||◌, List, [], ◌∷◌, ◌++◌, map, Bor, Option, Some, None, refl, sym, ap, ◌∙◌}
+use Rattle.std.proofs.Common.{◌≡◌, ℕ, Bool, true, false, cond, ◌&&◌, ◌||◌, List, [], ◌∷◌, ◌++◌, map, Bor, Option, refl, sym, ap, ◌∙◌}
 use Rattle.std.specs.Prelude.{filter, Ok}
 use Rattle.std.specs.List.{filter_map, cons_option}
 use Rattle.std.proofs.lemmas.List.{map-append}
@@ -63,17 +63,18 @@ told_seen : {R : Type 0} (tell : R → Option Text) (rows : List (ℕ × Bor R))
 told_seen tell [] = refl
 told_seen tell (r ∷ rows) = ap (cons_option (tell r.1.now)) (told_seen tell rows)
 
-pub touched_are : (w : World) (leaving : List (ℕ × Bor FileRow)) (force : List (ℕ × Bor RemoveFileRow)) (touched : List (List ℕ)) → map as_numbered leaving ≡ leaving_files w → map as_numbered force ≡ rows_in_force w
-    → touched ≡ touched_more (λ r. folder_touched w r.1.now) force (touched_more (λ r. folder_above w r.1.now) leaving []) → touched ≡ map folded (model.touched_folders w)
-touched_are w leaving force touched one two is =
+pub touched_are : (w : World) (leaving : List (ℕ × Bor FileRow)) (force : List (ℕ × Bor RemoveFileRow)) (none touched : List (List ℕ)) → map as_numbered leaving ≡ leaving_files w → map as_numbered force ≡ rows_in_force w → none ≡ []
+    → touched ≡ touched_more (λ r. folder_touched w r.1.now) force (touched_more (λ r. folder_above w r.1.now) leaving none) → touched ≡ map folded (model.touched_folders w)
+touched_are w leaving force none touched one two empty is =
     is
+    ∙ ap (λ (l : List (List ℕ)). touched_more (λ (r : ℕ × Bor RemoveFileRow). folder_touched w r.1.now) force (touched_more (λ (r : ℕ × Bor FileRow). folder_above w r.1.now) leaving l)) empty
     ∙ sym (map-append folded (filter_map (λ r. folder_above w r.1.now) leaving) (filter_map (λ r. folder_touched w r.1.now) force))
     ∙ ap (λ (fs : List Text). map folded (fs ++ filter_map (λ r. folder_touched w r.1.now) force)) (told_seen (folder_above w) leaving ∙ ap (filter_map (λ (r : Numbered FileRow). folder_above w r.row)) one)
     ∙ ap (λ (fs : List Text). map folded (filter_map (λ (r : Numbered FileRow). folder_above w r.row) (leaving_files w) ++ fs)) (told_seen (folder_touched w) force ∙ ap (filter_map (λ (r : Numbered RemoveFileRow). folder_touched w r.row)) two)
 
-pub copies_touched : (w : World) (leaving : List (ℕ × Bor DuplicateFileRow)) (touched : List (List ℕ)) → map as_numbered leaving ≡ copy_rows (leaves w) w → touched ≡ touched_more (λ r. folder_of_copy w r.1.now) leaving [] → touched ≡ map folded (copies.touched_folders w)
-copies_touched w leaving touched one is =
-    is ∙ ap (map folded) (told_seen (folder_of_copy w) leaving ∙ ap (filter_map (λ (r : Numbered DuplicateFileRow). folder_of_copy w r.row)) one)
+pub copies_touched : (w : World) (leaving : List (ℕ × Bor DuplicateFileRow)) (none touched : List (List ℕ)) → map as_numbered leaving ≡ copy_rows (leaves w) w → none ≡ [] → touched ≡ touched_more (λ r. folder_of_copy w r.1.now) leaving none → touched ≡ map folded (copies.touched_folders w)
+copies_touched w leaving none touched one empty is =
+    is ∙ ap (touched_more (λ (r : ℕ × Bor DuplicateFileRow). folder_of_copy w r.1.now) leaving) empty ∙ ap (map folded) (told_seen (folder_of_copy w) leaving ∙ ap (filter_map (λ (r : Numbered DuplicateFileRow). folder_of_copy w r.row)) one)
 
 -- ---- the rows of the phases
 

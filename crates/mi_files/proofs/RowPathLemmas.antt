@@ -1,11 +1,11 @@
 -- The paths of rows, by what phases ask.
-use Rattle.std.proofs.Common.{◌≡◌, ℕ, Bool, true, false, cond, List, [], length, eqb, Option, Some, None, refl, sym, ap, ◌∙◌}
-use Rattle.std.specs.Prelude.{option_map, option_and_then, Result}
+use Rattle.std.proofs.Common.{◌≡◌, true, false, cond, List, length, eqb, Option, Some, None, refl, sym, ap, ◌∙◌}
+use Rattle.std.specs.Prelude.{option_map, option_and_then}
 use Rattle.std.specs.Result.{result_ok}
 use Rattle.mi_text.specs.Lookups.{Lookups}
 use Rattle.mi_text.specs.Maps.{Name}
 use Rattle.mi_text.specs.FileNames.{long_name}
-use Rattle.mi_text.specs.Path.{file_of, folder_of}
+use Rattle.mi_text.specs.Path.{folder_of}
 use Rattle.mi_dirs.specs.Places.{Folder, Place}
 use Rattle.mi_dirs.specs.Rows.{from_property}
 use Rattle.mi_props.specs.Props.{value_in}
@@ -16,10 +16,10 @@ use Rattle.mi_schema.specs.RowsOf.{rows_in}
 use Rattle.mi_schema.specs.TableRows.{Rows, file_row_of}
 use Rattle.mi_model.specs.Texts.{Text}
 use Rattle.mi_model.specs.World.{World}
-use Rattle.mi_model.specs.Asked.{component_folder, dirs_of, lookups, lookups_over, path_of_file}
+use Rattle.mi_model.specs.Asked.{component_folder, dirs_of, lookups, lookups_over}
 use Rattle.mi_model.specs.FilePaths.{path_of_row, copy_name, copy_of, copy_folder, copy_path, original_path}
 use Rattle.mi_records.specs.Choices.{Choices, IsAsked}
-use Rattle.mi_files.specs.Paths.{file_in, copy_in, copy_named_so, copy_seen}
+use Rattle.mi_files.specs.Paths.{file_in, copy_named_so, copy_seen}
 
 -- ---- a property that names a folder
 

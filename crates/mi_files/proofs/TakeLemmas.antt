@@ -44,9 +44,9 @@ module _ (held : Map (List ℕ)) (files : Files) (w : World) (path : Text) where
 
 module _ (held : Map (List ℕ)) (files : Files) (a b : Plan) where
   -- the row is refused so
-  pub row_refused_so : {A : Type 0} (effect : RowEffect) (f : Fault) (e : PlanError) → effect (plan_machine held files a) ≡ Err f → IsFault f e → Row held files a b {A = A} effect (Err e)
-  row_refused_so effect f error.NoMemory at is = tt
-  row_refused_so effect f (error.Fault g) at is = at ∙ ap Err (sym is)
+  pub row_refused_so : (A : Type 0) (effect : RowEffect) (f : Fault) (e : PlanError) → effect (plan_machine held files a) ≡ Err f → IsFault f e → Row held files a b {A = A} effect (Err e)
+  row_refused_so A effect f error.NoMemory at is = tt
+  row_refused_so A effect f (error.Fault g) at is = at ∙ ap Err (sym is)
 
 -- ---- the folders that rows touch
 
@@ -89,14 +89,14 @@ unnamed_touched o folder place old new is at grown =
     ∙ ap (λ (p : List ℕ). old ++ p ∷ []) at
     ∙ sym (ap (λ (n : Option Text). old ++ map folded (option_to_list (cond (is_none n) (Some folder) None))) is)
 
+none_either : (b : Bool) → cond {A = Option Folder} b None None ≡ None
+none_either true = refl
+none_either false = refl
+
 -- a row whose property is empty touches nothing
 pub empty_untouched : (b : Bool) (o : Option (Option Folder)) (places : List (List ℕ)) → None ≡ o → places ≡ places ++ map folded (option_to_list (cond b (option_flatten o) None))
 empty_untouched b o places is =
-    sym (ap (λ (x : Option (Option Folder)). places ++ map folded (option_to_list (cond b (option_flatten x) None))) (sym is) ∙ ap (λ (x : Option Folder). places ++ map folded (option_to_list x)) (either b) ∙ append-nil places)
-  where
-    either : (b : Bool) → cond b None None ≡ None
-    either true = refl
-    either false = refl
+    sym (ap (λ (x : Option (Option Folder)). places ++ map folded (option_to_list (cond b (option_flatten x) None))) (sym is) ∙ ap (λ (x : Option Folder). places ++ map folded (option_to_list x)) (none_either b) ∙ append-nil places)
 
 -- what holds holds of any answer
 pub on_ok : {A E : Type 0} {P : Type 0} (r : Result A E) → P → OnOk r P

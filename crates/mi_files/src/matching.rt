@@ -1,6 +1,6 @@
 //! The files of a folder whose names are of a pattern (RemoveFile table; WildCardFilename).
 
-ghost use Rattle.std.specs.Prelude.{◌≡◌, ◌∷◌, ◌&&◌, [], List, ℕ, Bool, if◌then◌else◌, Some, None, IfOk, OnOk, filter, map};
+ghost use Rattle.std.specs.Prelude.{◌≡◌, ◌∷◌, ◌&&◌, ◌||◌, not, [], List, ℕ, Bool, if◌then◌else◌, Some, None, IfOk, OnOk, filter, map};
 ghost use Rattle.std.specs.FinMap.{keys};
 ghost use Rattle.std.specs.Str.{bytes_eq};
 ghost use Rattle.mi_text.specs.Fold.{folded};
@@ -53,7 +53,26 @@ fn lies_in(alloc: Global, folder: &str, pattern: &str, path: &PathText) -> Resul
     has_pattern(alloc, pattern, name)
 }
 
-// The name of the file of a path, where that goes.
+// Whether what lies in the folder goes.
+fn may_go(taking: Taking<'_>, name: &Name) -> bool
+    ensures { (guarded : List ℕ → Bool) → Guards taking.entry.guards.now guarded → result ≡ (taking.entry.local || not (guarded name.now)) }
+{
+    taking.local || !taking.guards.contains(name)
+}
+
+// The name of the file of a path that lies in the folder, where it goes.
+fn unguarded(alloc: Global, taking: Taking<'_>, path: &PathText) -> Result<Option<Name>, NoMemory>
+    ensures { (guarded : List ℕ → Bool) → Guards taking.entry.guards.now guarded → IfOk result (λ name. name ≡ (if taking.entry.local || not (guarded (file_name path.now)) then Some (file_name path.now) else None)) }
+{
+    let name = name_of_file(alloc, path)?;
+    if may_go(taking, &name) {
+        Ok(Some(name))
+    } else {
+        Ok(None)
+    }
+}
+
+// The name of the file of a path, where it goes.
 fn taken(
     alloc: Global,
     taking: Taking<'_>,
@@ -63,12 +82,8 @@ fn taken(
     requires { folder.now ≡ folded taking.folder.now }
     ensures { (guarded : List ℕ → Bool) → Guards taking.entry.guards.now guarded → IfOk result (λ name. name ≡ (if takes guarded taking.entry.local taking.entry.folder.now taking.entry.pattern.now (file_name path.now) then Some (file_name path.now) else None)) }
 {
-    if !lies_in(alloc, folder, taking.pattern, path)? {
-        return Ok(None);
-    }
-    let name = name_of_file(alloc, path)?;
-    if taking.local || !taking.guards.contains(&name) {
-        Ok(Some(name))
+    if lies_in(alloc, folder, taking.pattern, path)? {
+        unguarded(alloc, taking, path)
     } else {
         Ok(None)
     }

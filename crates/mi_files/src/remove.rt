@@ -110,7 +110,8 @@ fn remove_in<E: Sees>(
             take_matching(alloc, plan, taking)
         }
         None => {
-            touched.push(place_of(alloc, folder.as_str())?)?;
+            let place = place_of(alloc, folder.as_str())?;
+            touched.push(place)?;
             Ok(())
         }
     }

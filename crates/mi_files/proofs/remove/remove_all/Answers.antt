@@ -1,5 +1,5 @@
 -- The rows of the one table, and those of the other behind them.
-use Rattle.std.proofs.Common.{ℕ, Bor, List, Option, map, ap, ◌∙◌}
+use Rattle.std.proofs.Common.{ℕ, Bor, map, ap, ◌∙◌}
 use Rattle.std.proofs.lemmas.Result.{IfOk-weaker}
 use Rattle.mi_schema.specs.declared.typed_rows.RemoveFileRow.{RemoveFileRow}
 use Rattle.mi_model.specs.RemoveFiles.{removed_file, removed_by_pattern}

@@ -1,5 +1,5 @@
 -- By the folder that its property names.
-use Rattle.std.proofs.Common.{◌≡◌, List, ℕ, cond, Option, None, [], map, ◌++◌, sym, ap, ◌∙◌}
+use Rattle.std.proofs.Common.{◌≡◌, cond, Option, None, [], map, ◌++◌, sym, ap, ◌∙◌}
 use Rattle.std.specs.Prelude.{Some, is_none}
 use Rattle.std.specs.Option.{option_to_list, option_flatten}
 use Rattle.std.proofs.lemmas.Result.{IfOk-weaker}

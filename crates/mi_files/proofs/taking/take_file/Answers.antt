@@ -1,9 +1,8 @@
 -- A guarded file stays.
-use Rattle.std.proofs.Common.{◌≡◌, true, false, [], ◌∷◌, List, ℕ, sym, ap, subst, ◌∙◌}
+use Rattle.std.proofs.Common.{[], ◌∷◌, List, ℕ, sym, ap, subst, ◌∙◌}
 use Rattle.std.specs.BTreeSet.{contains}
 use Rattle.mi_text.specs.Maps.{name_cmp}
 use Rattle.mi_base.specs.Names.{file_name}
-use Rattle.mi_model.specs.FilePaths.{is_guarded_file}
 use Rattle.mi_steps.specs.Follows.{drop_touch}
 use Rattle.mi_steps.specs.Makes.{Makes}
 use Rattle.mi_files.proofs.TakeLemmas.{guarded_stays, free_goes}

@@ -14,7 +14,7 @@ pub returns-in_ok-prune_folders-in-Ok-clause-phase : goal.returns-in_ok-prune_fo
 returns-in_ok-prune_folders-in-Ok-clause-phase g c = λ held files w asked one at.
     let rows = map (λ r. removed_copy w (as_numbered r)) c.args.leaving.now in
     let last = prune_folders w (touched_folders w) in
-    let touched = copies_touched w c.args.leaving.now c.remove_all.new.touched.items one (c.in-Ok.ensures.touched w asked) in
+    let touched = copies_touched w c.args.leaving.now c.new-touched.result.items c.remove_all.new.touched.items one c.new-touched.ensures.items (c.in-Ok.ensures.touched w asked) in
     let made = c.in_ok-prune_folders-in-Ok.ensures.made held files w (touched_folders w) asked touched in
     phase_of held files c.args.plan.now c.prune_folders.new.plan remove_duplicate_files w (rows ++ last ∷ []) {A = Unit {0}} (Ok tt) (copies_effect w c.args.leaving.now one) at
     (pruned_behind held files c.args.plan.now c.remove_all.new.plan c.prune_folders.new.plan rows last made.touches (c.in-Ok.ensures.rows held files w asked) made.gives made.makes)
