@@ -1,5 +1,5 @@
 -- The bytes of a file, by where an image says that they are.
-use Rattle.std.proofs.Common.{◌≡◌, ℕ, ◌-◌, ◌<◌, ◌≤◌, true, List, [], ◌++◌, length, drop, Some, None, refl, sym, ap, subst, ◌∙◌, arith, ⊎_elim, length-append}
+use Rattle.std.proofs.Common.{◌≡◌, ℕ, ◌-◌, ◌<◌, ◌≤◌, true, List, [], ◌++◌, length, drop, Option, Some, None, refl, sym, ap, subst, ◌∙◌, arith, ⊎_elim, length-append}
 use Rattle.std.proofs.lemmas.Bool.{cases_lt}
 use Rattle.std.proofs.lemmas.List.{append-nil}
 use Rattle.std.specs.Prelude.{codes, option_map}
@@ -17,6 +17,7 @@ use Rattle.mi_base.specs.Names.{file_name}
 use Rattle.mi_base.specs.SpelledMaps.{spelled_at}
 use Rattle.mi_image.specs.declared.item.Content.{Content}
 use Rattle.mi_image.specs.declared.item.Content.TheVariants.{Own, Held}
+use Rattle.mi_image.specs.declared.item.Item.{Item}
 use Rattle.mi_image.specs.declared.item.Item.TheVariants.{Head, Whole}
 use Rattle.mi_image.specs.Items.{Items, bytes_of_file, content_bytes, entry_over, machine_over, AreThere, AreRight, is_split}
 use Rattle.mi_image.proofs.LookupLemmas.{get_over}
@@ -66,6 +67,13 @@ module _ (held files : Map (List ℕ)) where
 
   pub bytes_of_none : (items : Items) (q : Name) → get items q ≡ None → bytes_of_file (get (machine_over held files items) q) ≡ []
   bytes_of_none items q at = ap bytes_of_file (get_over held files items q ∙ ap (option_map (entry_over held files)) at)
+
+-- what a look-up by the bytes of a name found
+pub found_at : (items : Items) (a q : Name) (i j : Item) → Some i ≡ get items a → a ≡ q → i ≡ j → get items q ≡ Some j
+found_at items a q i j found same is = ap (get items) (sym same) ∙ sym found ∙ ap Some is
+
+pub missing_at : (items : Items) (a q : Name) → ◌≡◌ {A = Option Item} None (get items a) → a ≡ q → get items q ≡ None
+missing_at items a q found same = ap (get items) (sym same) ∙ sym found
 
 -- ---- messages
 

@@ -7,14 +7,14 @@ ghost use Rattle.mi_patterns.specs.Walks.{Stands, Stepped, LaterOf};
 
 // Where the last `*` stands that was met: the pattern behind it, and the text behind what it stands for so far.
 #[derive(Clone, Copy)]
-pub struct Way<'a> {
+struct Way<'a> {
     pattern: &'a [char],
     text: &'a [char],
 }
 
 // What is still to be compared, and the way back, where a `*` was met.
 #[derive(Clone, Copy)]
-pub struct Walk<'a> {
+struct Walk<'a> {
     pattern: &'a [char],
     text: &'a [char],
     way: Option<Way<'a>>,
