@@ -1,6 +1,6 @@
 -- Devices that are asked, call after call.
 use Rattle.std.proofs.Common.{◌≡◌, ℕ, ◌≤◌, arith, Ok, Err, refl, ◌∙◌}
-use Rattle.std.specs.Prelude.{Result, IsErrOf}
+use Rattle.std.specs.Prelude.{Result, OnOk}
 use Rattle.mi_volume.specs.State.{State, Rose, Passes}
 use Rattle.mi_volume.proofs.Moments.{then_passes, rose_before}
 use Rattle.mi_source.specs.Paths.{Files}
@@ -29,10 +29,10 @@ source_then : (n k m : ℕ) → n ≤ k → source.Rose k m → source.Rose n m
 source_then n k m le rose = record { rose = λ under. let more = rose.rose under in omega (arith, le, more) }
 
 -- an error of a device in a later call
-pub fails_then : {A : Type 0} (s t u : State) (n k m : ℕ) (e : WalkError) → Passes s t → n ≤ k → FailsOnly {A = A} (Rose t u) (source.Rose k m) (Err e) → FailsOnly {A = A} (Rose s u) (source.Rose n m) (Err e)
-fails_then s t u n k m walk.NoMemory passes le fails = tt
-fails_then s t u n k m walk.Source passes le fails = source_then n k m le fails
-fails_then s t u n k m walk.Volume passes le fails = rose_before s t u passes fails
+pub fails_then : (A B : Type 0) (s t u : State) (n k m : ℕ) (e : WalkError) → Passes s t → n ≤ k → FailsOnly {A = A} (Rose t u) (source.Rose k m) (Err e) → FailsOnly {A = B} (Rose s u) (source.Rose n m) (Err e)
+fails_then A B s t u n k m walk.NoMemory passes le fails = tt
+fails_then A B s t u n k m walk.Source passes le fails = source_then n k m le fails
+fails_then A B s t u n k m walk.Volume passes le fails = rose_before s t u passes fails
 
 -- where no device is asked none fails
 pub fails_not : {A : Type 0} (v s : Type 0) (r : Result A WalkError) → FailsOnly ⊥ ⊥ r → FailsOnly v s r
@@ -48,15 +48,7 @@ phase_fails_not v s (Err (phase.Fault fault)) fails = tt
 phase_fails_not v s (Err phase.Source) fails = absurd fails
 phase_fails_not v s (Err phase.Volume) fails = absurd fails
 
--- by the error
-pub source_failed : {A : Type 0} (v s : Type 0) (r : Result A WalkError) → FailsOnly v s r → IsErrOf r walk.Source → s
-source_failed v s (Ok x) fails is = absurd is
-source_failed v s (Err walk.NoMemory) fails is = cc
-source_failed v s (Err walk.Source) fails is = fails
-source_failed v s (Err walk.Volume) fails is = cc
-
-pub volume_failed : {A : Type 0} (v s : Type 0) (r : Result A WalkError) → FailsOnly v s r → IsErrOf r walk.Volume → v
-volume_failed v s (Ok x) fails is = absurd is
-volume_failed v s (Err walk.NoMemory) fails is = cc
-volume_failed v s (Err walk.Source) fails is = cc
-volume_failed v s (Err walk.Volume) fails is = fails
+-- where it holds whatever was answered
+pub on_ok : {T E P : Type 0} (r : Result T E) → P → OnOk r P
+on_ok (Ok x) p = p
+on_ok (Err e) p = tt

@@ -1,7 +1,7 @@
 -- Records that copy nothing of the source, behind others.
 use Rattle.std.proofs.Common.{◌≡◌, ◌≤◌, ℕ, true, false, List, [], ◌∷◌, ◌++◌, length, drop, drop_at, refl, sym, ap, subst, ◌∙◌, arith}
 use Rattle.std.specs.List.{All}
-use Rattle.std.proofs.lemmas.List.{append-nil}
+use Rattle.std.proofs.lemmas.List.{append-nil, length-append}
 use Rattle.std.proofs.lemmas.List.Elements.{All-append, All-weaker}
 use Rattle.mi_source.specs.Paths.{Files}
 use Rattle.mi_script.specs.declared.rec.Rec.{Rec}
@@ -21,7 +21,7 @@ pub grows_none : (recs : List Rec) → Grows recs recs
 grows_none recs = ([], sym (append-nil recs))
 
 pub grows_long : (had has : List Rec) → Grows had has → length had ≤ length has
-grows_long had has grows = let e = ap length grows.1 in grind (arith, e)
+grows_long had has grows = let e = ap length grows.1 ∙ length-append had grows.0 in omega (arith, e)
 
 pub grown_lengths : (files : Files) (had has : List Rec) → Grows had has → All (λ r. is_copy r ≡ false) (drop (length had) has) → HaveLength files had → HaveLength files has
 grown_lengths files had has grows none have =

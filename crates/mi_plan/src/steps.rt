@@ -7,7 +7,7 @@ ghost use Rattle.mi_source.specs.Counts.{Rose};
 ghost use Rattle.mi_image.specs.Overlays.{former_items};
 ghost use Rattle.mi_seq.specs.Meaning.{action_of};
 ghost use Rattle.mi_seq.specs.Stops.{is_end};
-ghost use Rattle.mi_seq.specs.declared.step.Step.TheVariants as step;
+ghost use Rattle.mi_seq.specs.declared.step.Step.TheVariants as variant;
 ghost use Rattle.mi_plan.specs.Devices.{Asks, FailsOnly};
 ghost use Rattle.mi_plan.specs.Lengths.{HaveLengths};
 ghost use Rattle.mi_plan.specs.Refusals.{EndsRight};
@@ -59,7 +59,7 @@ fn take_seen(alloc: Global, work: &mut Work, folder: &str, step: Step) -> Result
 
 /// The phase of a step.
 fn phase_of(step: &Step) -> Option<Phase>
-    ensures some { IfSome result (λ phase. step.now ≡ step.Phase phase) }
+    ensures some { IfSome result (λ phase. step.now ≡ variant.Phase phase) }
     ensures none { result ≡ None → is_phase step.now ≡ false }
 {
     match step {

@@ -1,6 +1,5 @@
 -- The rows of the phase, or its refusal.
 use Rattle.std.proofs.Common.{refl}
-use Rattle.std.specs.Prelude.{Result, Err, Unit}
 use Rattle.mi_plan.proofs.ArmLemmas.{phase_went, phase_ended, leaves_seen}
 use Rattle.mi_plan.proofs.arms.run.Goals as goal
 use Rattle.mi_seq.specs.declared.step.Step.TheVariants as step

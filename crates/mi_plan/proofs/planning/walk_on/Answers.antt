@@ -1,5 +1,6 @@
 -- Turn by turn.
-use Rattle.std.proofs.Common.{refl, sym, ◌∙◌, subst}
+use Rattle.std.proofs.Common.{Option, refl, ◌∙◌, subst}
+use Rattle.mi_base.specs.declared.answers.Cause.{Cause}
 use Rattle.std.proofs.lemmas.Result.{err_from_is_err_and}
 use Rattle.mi_source.specs.Paths.{Files}
 use Rattle.mi_plan.specs.declared.turn.Turn.{Turn}
@@ -30,12 +31,12 @@ rows-preserved g c =
     record {
       ready = now.ready c.in-Went.is;
       so_far = λ x v s there so.
-          over_same _ _ _ _ x c.rows.work c.turn.new.work c.rows.path c.turn.new.path Went (so_far.asks.looks v).stays.held so_far.asks.files
-          (λ at. subst (λ (t : Turn). IsTurned _ _ x c.turn.new.work c.turn.new.path t) c.in-Went.is (now.turned x v s there at))
+          over_same (g.V.Volume.state c.args.vol.now).held (g.V.Volume.state c.rows.vol).held (g.S.Source.files c.args.src.now) (g.S.Source.files c.rows.src) x c.rows.work c.turn.new.work c.rows.path c.turn.new.path Went (so_far.asks.looks v).stays.held so_far.asks.files
+          (λ at. subst (λ (t : Turn). IsTurned (g.V.Volume.state c.rows.vol).held (g.S.Source.files c.rows.src) x c.turn.new.work c.turn.new.path t) c.in-Went.is (now.turned x v s there at))
           (so_far.so_far x v s there so);
       lengths = λ s have.
-          lengths_same _ _ c.rows.work c.turn.new.work Went so_far.asks.files
-          (λ at. subst (λ (t : Turn). HaveLengths _ c.turn.new.work t) c.in-Went.is (now.lengths s at))
+          lengths_same (g.S.Source.files c.args.src.now) (g.S.Source.files c.rows.src) c.rows.work c.turn.new.work Went so_far.asks.files
+          (λ at. subst (λ (t : Turn). HaveLengths (g.S.Source.files c.rows.src) c.turn.new.work t) c.in-Went.is (now.lengths s at))
           (so_far.lengths s have);
       former = now.former ∙ so_far.former;
       asks = asks_then _ _ _ _ _ _ _ _ _ _ so_far.asks now.asks;
@@ -47,15 +48,15 @@ rows-smaller g c = c.in_ok-turn.ensures.shorter c.in-Went.is
 pub returns-in-Ended-clause-planned : goal.returns-in-Ended-clause-planned
 returns-in-Ended-clause-planned g c = λ x v s there so.
     let so_far = c.rows.invariant in
-    over_same _ _ _ _ x c.rows.work c.turn.new.work c.rows.path c.turn.new.path (Ended c.in-Ended.why) (so_far.asks.looks v).stays.held so_far.asks.files
-    (λ at. subst (λ (t : Turn). IsTurned _ _ x c.turn.new.work c.turn.new.path t) c.in-Ended.is (c.in_ok-turn.ensures.turned x v s there at))
+    over_same (g.V.Volume.state c.args.vol.now).held (g.V.Volume.state c.rows.vol).held (g.S.Source.files c.args.src.now) (g.S.Source.files c.rows.src) x c.rows.work c.turn.new.work c.rows.path c.turn.new.path (Ended c.in-Ended.why) (so_far.asks.looks v).stays.held so_far.asks.files
+    (λ at. subst (λ (t : Turn). IsTurned (g.V.Volume.state c.rows.vol).held (g.S.Source.files c.rows.src) x c.turn.new.work c.turn.new.path t) c.in-Ended.is (c.in_ok-turn.ensures.turned x v s there at))
     (so_far.so_far x v s there so)
 
 pub returns-in-Ended-clause-lengths : goal.returns-in-Ended-clause-lengths
 returns-in-Ended-clause-lengths g c = λ s have.
     let so_far = c.rows.invariant in
-    lengths_same _ _ c.rows.work c.turn.new.work (Ended c.in-Ended.why) so_far.asks.files
-    (λ at. subst (λ (t : Turn). HaveLengths _ c.turn.new.work t) c.in-Ended.is (c.in_ok-turn.ensures.lengths s at))
+    lengths_same (g.S.Source.files c.args.src.now) (g.S.Source.files c.rows.src) c.rows.work c.turn.new.work (Ended c.in-Ended.why) so_far.asks.files
+    (λ at. subst (λ (t : Turn). HaveLengths (g.S.Source.files c.rows.src) c.turn.new.work t) c.in-Ended.is (c.in_ok-turn.ensures.lengths s at))
     (so_far.lengths s have)
 
 pub returns-in-Ended-clause-former : goal.returns-in-Ended-clause-former
@@ -73,4 +74,4 @@ returns-in_err-turn-clause-asks g c = asks_then _ _ _ _ _ _ _ _ _ _ c.rows.invar
 pub returns-in_err-turn-clause-fails : goal.returns-in_err-turn-clause-fails
 returns-in_err-turn-clause-fails g c =
     let p = err_from_is_err_and c.from_residual.result c.from_residual.ensures.1 in
-    rw (p.1, p.2) (fails_then _ _ _ _ _ _ c.in_err-turn.field-0.0 c.rows.invariant.asks.passes c.rows.invariant.asks.counts c.in_err-turn.ensures.fails)
+    rw (p.1, p.2) (fails_then Turn (Option Cause) (g.V.Volume.state c.args.vol.now) (g.V.Volume.state c.rows.vol) (g.V.Volume.state c.turn.new.vol) (g.S.Source.faults c.args.src.now) (g.S.Source.faults c.rows.src) (g.S.Source.faults c.turn.new.src) c.in_err-turn.field-0.0 c.rows.invariant.asks.passes c.rows.invariant.asks.counts c.in_err-turn.ensures.fails)

@@ -3,8 +3,7 @@ use Rattle.std.proofs.Common.{refl, sym, subst}
 use Rattle.mi_seq.specs.declared.step.Step.{Step}
 use Rattle.mi_seq.specs.declared.step.Step.TheVariants as step
 use Rattle.mi_plan.specs.Stages.{MayTake}
-use Rattle.mi_plan.proofs.ArmLemmas.{takes_result, leaves_result, seen_stays, phase_lengths}
-use Rattle.mi_plan.proofs.DeviceLemmas.{asks_none}
+use Rattle.mi_plan.proofs.ArmLemmas.{takes_result, leaves_result, phase_lengths}
 use Rattle.mi_plan.proofs.steps.take.Goals as goal
 
 pub run-requires-clause-may : goal.run-requires-clause-may
@@ -20,17 +19,8 @@ returns-in-Some-clause-lengths g c = λ s have. phase_lengths (g.S.Source.files 
 pub returns-in-Some-clause-leaves : goal.returns-in-Some-clause-leaves
 returns-in-Some-clause-leaves g c = leaves_result c.args.step (step.Phase c.in-Some.phase) c.args.work.now.world c.run.new.world c.run.result c.in-Some.ensures.some c.run.ensures.leaves
 
-pub returns-in-None-in-Ok-clause-takes : goal.returns-in-None-in-Ok-clause-takes
-returns-in-None-in-Ok-clause-takes g c = λ v s. c.in-None-in-Ok.ensures.takes (g.V.Volume.state c.args.vol.now).held (g.S.Source.files c.args.src.now)
+pub returns-in-Ok-clause-takes : goal.returns-in-Ok-clause-takes
+returns-in-Ok-clause-takes g c = λ v s. c.in-Ok.ensures.takes (g.V.Volume.state c.args.vol.now).held (g.S.Source.files c.args.src.now)
 
-pub returns-in-None-in-Ok-clause-there : goal.returns-in-None-in-Ok-clause-there
-returns-in-None-in-Ok-clause-there g c = λ v s. seen_stays (g.V.Volume.state c.args.vol.now).held (g.S.Source.files c.args.src.now) c.args.step c.args.work.now.world c.take_seen.new.work.world c.take_seen.result (c.phase_of.ensures.none refl) c.take_seen.ensures.leaves
-
-pub returns-in-None-in-Ok-clause-lengths : goal.returns-in-None-in-Ok-clause-lengths
-returns-in-None-in-Ok-clause-lengths g c = λ s have. c.in-None-in-Ok.ensures.lengths (g.S.Source.files c.args.src.now) have
-
-pub returns-in-None-in-Ok-clause-asks : goal.returns-in-None-in-Ok-clause-asks
-returns-in-None-in-Ok-clause-asks g c = asks_none g.V.Volume.told (g.V.Volume.state c.args.vol.now) (g.S.Source.files c.args.src.now) (g.S.Source.faults c.args.src.now)
-
-pub returns-in-None-in-Err-clause-asks : goal.returns-in-None-in-Err-clause-asks
-returns-in-None-in-Err-clause-asks g c = asks_none g.V.Volume.told (g.V.Volume.state c.args.vol.now) (g.S.Source.files c.args.src.now) (g.S.Source.faults c.args.src.now)
+pub returns-in-Ok-clause-lengths : goal.returns-in-Ok-clause-lengths
+returns-in-Ok-clause-lengths g c = λ s have. c.in-Ok.ensures.lengths (g.S.Source.files c.args.src.now) have

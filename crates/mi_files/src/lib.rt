@@ -1,0 +1,17 @@
+//! The phases of files, folders and copies of files as plan calls (File, RemoveFile, DuplicateFile and CreateFolder tables;
+//! RemoveFiles, RemoveDuplicateFiles, CreateFolders, RemoveFolders and DuplicateFiles actions).
+#![tactic(auto)]
+
+mod guards;
+mod matching;
+mod names;
+mod paths;
+mod prune;
+mod remove;
+mod rows;
+mod taking;
+mod uncopy;
+
+pub use paths::row_path;
+pub use remove::plan_remove_files;
+pub use uncopy::plan_remove_duplicate;
