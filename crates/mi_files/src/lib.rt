@@ -2,6 +2,8 @@
 //! RemoveFiles, RemoveDuplicateFiles, CreateFolders, RemoveFolders and DuplicateFiles actions).
 #![tactic(auto)]
 
+mod parents;
 mod paths;
 
+pub use parents::make_folders;
 pub use paths::row_path;
