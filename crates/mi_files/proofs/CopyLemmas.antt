@@ -116,12 +116,12 @@ copy_none path moment (Some f) e = absurd cc
 -- ---- the folders of a copy
 
 pub file_parent : (path : List ℕ) → is_file_path path ≡ true → parent_of path ≡ up_to_last path
-file_parent path is = sym (parent_open path path_is open)
+file_parent path is = sym (parent_open path path_is no_end)
   where
     path_is = file_is_path path (file_is path is)
 
-    open : (front : List ℕ) → path ≢ front ++ 92 ∷ []
-    open front at = let no : is_file_path path ≡ false = (only_folder path front path_is at).1 in let clash : true ≡ false = sym is ∙ no in cc
+    no_end : (front : List ℕ) → path ≢ front ++ 92 ∷ []
+    no_end front at = let no : is_file_path path ≡ false = (only_folder path front path_is at).1 in let clash : true ≡ false = sym is ∙ no in cc
 
 no_folder : (q : Name) → is_file_name q ≡ true → IsNoFolder q
 unfolding folder_name
