@@ -1,6 +1,6 @@
 //! DuplicateFiles as a plan call (DuplicateFile table).
 
-ghost use Rattle.std.specs.Prelude.{◌≡◌, ◌++◌, ◌&&◌, not, [], List, ℕ, Ok, Some, IfOk, IfSome, OnOk, IsTrue, true, is_some, codes, map, filter, option_map};
+ghost use Rattle.std.specs.Prelude.{◌≡◌, ◌++◌, ◌&&◌, not, [], List, ℕ, Some, IfOk, IfSome, OnOk, IsTrue, true, is_some, map, filter, option_map};
 ghost use Rattle.std.specs.FinMap.{get};
 ghost use Rattle.std.specs.Option.{option_copied};
 ghost use Rattle.mi_text.specs.Maps.{Map, same_name};
@@ -18,9 +18,7 @@ ghost use Rattle.mi_model.specs.World.{World};
 ghost use Rattle.mi_model.specs.Asked.{comes};
 ghost use Rattle.mi_model.specs.DuplicateFiles as model;
 ghost use Rattle.mi_model.specs.DuplicateFiles.{copies, copied_row, duplicate_files};
-ghost use Rattle.mi_model.specs.FilePaths.{original_path, right_path};
 ghost use Rattle.mi_model.specs.Parents.{parents_of_path};
-ghost use Rattle.mi_model.specs.Refusals.{◌>>=◌};
 ghost use Rattle.mi_schema.specs.Lawful.{IsLawful};
 ghost use Rattle.mi_schema.specs.RowsOf.{rows_in};
 ghost use Rattle.mi_schema.specs.TableRows.{in_key_order};
@@ -33,7 +31,7 @@ ghost use Rattle.mi_records.specs.Keeps.{Keeps};
 ghost use Rattle.mi_records.specs.Order.{as_numbered};
 ghost use Rattle.mi_records.specs.Rows as made;
 ghost use Rattle.mi_records.specs.Rows.{Phase};
-ghost use Rattle.mi_files.specs.Copies.{copied_head, copy_of_file};
+ghost use Rattle.mi_files.specs.Copies.{copied_head, copy_of_file, copied_to};
 
 use crate::names::{bad_path, name_of_file};
 use crate::parents::make_folders;
@@ -229,7 +227,7 @@ fn copy_to<E: Sees>(
 ) -> Result<(), PlanError>
     requires lawful { IsLawful (E.rows seen.now) }
     requires path { IsTrue (is_file_path path.now) }
-    ensures row { (held files : Map (List ℕ)) (w : World) → IsAsked (E.lookups seen.now) (E.choices seen.now) (E.rows seen.now) w → AreThere held files (present_items plan.old.overlay) → made.Row held files plan.old plan.new (λ m. right_path (codes "DuplicateFile") row.entry.0 (original_path w row.entry.1.now) >>= λ original. Ok (copies w path.now original (file_at m original))) result }
+    ensures row { (held files : Map (List ℕ)) (w : World) → IsAsked (E.lookups seen.now) (E.choices seen.now) (E.rows seen.now) w → AreThere held files (present_items plan.old.overlay) → made.Row held files plan.old plan.new (copied_to w row.entry.0 row.entry.1.now path.now) result }
     ensures keeps { Keeps plan.old plan.new }
 {
     let (number, row) = row;
