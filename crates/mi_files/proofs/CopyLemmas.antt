@@ -1,12 +1,12 @@
 -- Copies of files.
-use Rattle.std.proofs.Common.{◌≡◌, ◌≢◌, ℕ, Bool, true, false, cond, not, ◌&&◌, List, [], ◌∷◌, ◌++◌, map, Bor, Option, Some, None, refl, sym, ap, ◌∙◌, subst}
+use Rattle.std.proofs.Common.{◌≡◌, ◌≢◌, ℕ, Bool, true, false, cond, not, ◌&&◌, List, [], ◌∷◌, ◌++◌, map, Bor, Option, Some, None, refl, sym, ap, ◌∙◌, subst, inl, inr, ◌↔◌}
 use Rattle.std.specs.Prelude.{filter, Ok, Err, codes, option_map, is_some, OnOk, Result}
 use Rattle.std.specs.FinMap.{get}
 use Rattle.std.proofs.lemmas.Bool.{cases_Bool}
 use Rattle.mi_text.specs.Fold.{folded}
 use Rattle.mi_text.specs.Lookups.{Lookups}
 use Rattle.mi_text.specs.Maps.{Map, Name, same_name}
-use Rattle.mi_text.specs.Path.{is_file_path, up_to_last, parent_of}
+use Rattle.mi_text.specs.Path.{is_path, is_file_path, up_to_last, parent_of}
 use Rattle.mi_text.proofs.MapLemmas.{from_same, same_itself}
 use Rattle.mi_text.proofs.PathLemmas.{file_is, file_is_path, parent_open, only_folder}
 use Rattle.mi_base.specs.declared.entry.FileHead.{FileHead}
@@ -118,6 +118,7 @@ copy_none path moment (Some f) e = absurd cc
 pub file_parent : (path : List ℕ) → is_file_path path ≡ true → parent_of path ≡ up_to_last path
 file_parent path is = sym (parent_open path path_is no_end)
   where
+    path_is : is_path path ≡ true
     path_is = file_is_path path (file_is path is)
 
     no_end : (front : List ℕ) → path ≢ front ++ 92 ∷ []
@@ -182,9 +183,9 @@ told_apart a b false tells = elim (cases_Bool (same_name a b)) [
 
 module _ (held : Map (List ℕ)) (files : Files) (a b : Plan) where
   -- a row whose path is refused
-  pub row_refused : {A : Type 0} (effect : RowEffect) (f : Fault) (e : PlanError) → effect (plan_machine held files a) ≡ Err f → IsFault f e → Row held files a b {A = A} effect (Err e)
-  row_refused effect f error.NoMemory refused is = tt
-  row_refused effect f (error.Fault g) refused is = refused ∙ ap Err (sym is)
+  pub row_refused : (A : Type 0) (effect : RowEffect) (f : Fault) (e : PlanError) → effect (plan_machine held files a) ≡ Err f → IsFault f e → Row held files a b {A = A} effect (Err e)
+  row_refused A effect f error.NoMemory refused is = tt
+  row_refused A effect f (error.Fault g) refused is = refused ∙ ap Err (sym is)
 
 pub row_of_path : (w : World) (r : Numbered DuplicateFileRow) (o : Option (Option Text)) (m : Machine) → o ≡ copy_path w r.row
     → copied_row w r m ≡ with_path r o (λ path. right_path (codes "DuplicateFile") r.number (original_path w r.row) >>= λ original. Ok (copies w path original (file_at m original)))
