@@ -1,1 +1,4 @@
+pub mod Deciding
+pub mod Leads
 pub mod Placings
+pub mod Reading

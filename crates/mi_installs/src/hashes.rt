@@ -1,0 +1,129 @@
+//! The hash that a package states of a row's file, and when the rules on versions look at it (MsiFileHash table; File Versioning
+//! Rules).
+
+ghost use Rattle.std.specs.Prelude.{◌≡◌, ◌++◌, Some, List, ℕ, IfOk, IsErrOf};
+ghost use Rattle.std.specs.Option.{option_map};
+ghost use Rattle.mi_base.specs.declared.entry.FileEntry.{FileEntry};
+ghost use Rattle.mi_base.specs.Machine.{file_at};
+ghost use Rattle.mi_fver.specs.Rules.{replaces_of};
+ghost use Rattle.mi_image.specs.Items.{AreThere, machine_over};
+ghost use Rattle.mi_schema.specs.Lawful.{IsLawful};
+ghost use Rattle.mi_schema.specs.RowsOf.{rows_in};
+ghost use Rattle.mi_schema.specs.TableRows.{row_of};
+ghost use Rattle.mi_schema.specs.declared.typed_rows.MsiFileHashRow as hash_row;
+ghost use Rattle.mi_model.specs.World.{World};
+ghost use Rattle.mi_model.specs.FileVersions.{hash_bytes, has_same_hash};
+ghost use Rattle.mi_installs.specs.Deciding.{looks_at_hash};
+ghost use Rattle.mi_installs.specs.Reading.{Reads, Causes};
+ghost use Rattle.mi_source.specs.Counts as source;
+ghost use Rattle.mi_volume.specs.State as volume;
+
+use crate::error::InstallError;
+use crate::placed::Placed;
+use mi_base::{FileHead, PathText, Text};
+use mi_fver::{Mode, NewFile};
+use mi_hashes::{HashError, hash_of};
+use mi_image::Image;
+use mi_schema::{MsiFileHashRow, Package, keys_stand};
+use mi_source::Source;
+use mi_volume::Volume;
+use std::alloc::Global;
+
+fn joined(first: [u8; 4], second: [u8; 4], third: [u8; 4], fourth: [u8; 4]) -> [u8; 16]
+    ensures { result ≡ first ++ (second ++ (third ++ fourth)) }
+{
+    [
+        first[0], first[1], first[2], first[3], second[0], second[1], second[2], second[3],
+        third[0], third[1], third[2], third[3], fourth[0], fourth[1], fourth[2], fourth[3],
+    ]
+}
+
+// The four parts of a row's hash, each with its low byte first.
+fn hash_in(row: &MsiFileHashRow) -> [u8; 16]
+    ensures { result ≡ hash_bytes row.now }
+{
+    joined(
+        row.hash_part1.to_le_bytes(),
+        row.hash_part2.to_le_bytes(),
+        row.hash_part3.to_le_bytes(),
+        row.hash_part4.to_le_bytes(),
+    )
+}
+
+// The hash that the package states of the file of this key.
+fn stated_hash(loaded: &Package, file: &Text) -> Option<[u8; 16]>
+    requires { IsLawful loaded.now }
+    ensures { result ≡ option_map hash_bytes (row_of (λ (h : hash_row.MsiFileHashRow). h.file) (rows_in loaded.now).msi_file_hash file.now) }
+{
+    keys_stand(loaded);
+    match loaded.msi_file_hash.get(file) {
+        Some(row) => Some(hash_in(row)),
+        None => None,
+    }
+}
+
+// Whether the bytes that an image names at a path have the hash that the package states of a row's file; not where it states
+// none.
+fn has_same_hash<S: Source, V: Volume>(
+    alloc: Global,
+    loaded: &Package,
+    file: &Text,
+    path: &PathText,
+    image: &Image,
+    src: &mut S,
+    vol: &mut V,
+) -> Result<bool, InstallError>
+    requires { IsLawful loaded.now }
+    ensures same { (w : World) (r : _) (f : FileEntry) → w.given.rows ≡ rows_in loaded.now → r.file ≡ file.now → V.told → S.told → AreThere (V.state vol.old).held (S.files src.old) image.now → file_at (machine_over (V.state vol.old).held (S.files src.old) image.now) path.now ≡ Some f → IfOk result (λ same. same ≡ has_same_hash w r f) }
+    ensures reads { Reads V.told (V.state vol.old) (V.state vol.new) (S.files src.old) (S.files src.new) (S.faults src.old) (S.faults src.new) }
+    ensures causes { Causes (source.Rose (S.faults src.old) (S.faults src.new)) (volume.Rose (V.state vol.old) (V.state vol.new)) result }
+{
+    let Some(stated) = stated_hash(loaded, file) else {
+        return Ok(false);
+    };
+    match hash_of(alloc, src, vol, image, path) {
+        Ok(hash) => Ok(hash == stated),
+        Err(HashError::NoMemory) => Err(InstallError::NoMemory),
+        Err(HashError::Source) => Err(InstallError::Source),
+        Err(HashError::Volume) => Err(InstallError::Volume),
+    }
+}
+
+// Whether the rules on versions look at the hash: neither file has a version, the one that is there wasn't changed, and the letters
+// leave it to the hash.
+fn looks_at_hash(mode: Mode, old: &FileHead, new: &NewFile) -> bool
+    ensures { result ≡ looks_at_hash mode old.now new.now }
+{
+    !mode.a
+        && !mode.e
+        && (mode.o || mode.d)
+        && old.version.is_none()
+        && new.version.is_none()
+        && old.modified <= old.created
+}
+
+/// What the rules on versions are told of the hash of a file that is there. Its bytes are read only where the rules look at the
+/// hash and the package states one.
+pub(crate) fn same_hash<S: Source, V: Volume>(
+    alloc: Global,
+    loaded: &Package,
+    placed: &Placed<'_>,
+    mode: Mode,
+    old: &FileHead,
+    new: &NewFile,
+    image: &Image,
+    src: &mut S,
+    vol: &mut V,
+) -> Result<bool, InstallError>
+    requires { IsLawful loaded.now }
+    ensures same { (w : World) (f : FileEntry) (product : ℕ) → w.given.rows ≡ rows_in loaded.now → V.told → S.told → AreThere (V.state vol.old).held (S.files src.old) image.now → file_at (machine_over (V.state vol.old).held (S.files src.old) image.now) placed.now.path ≡ Some f
+        → IfOk result (λ same. replaces_of mode (Some old.now) new.now product same ≡ replaces_of mode (Some old.now) new.now product (has_same_hash w placed.now.row.now f)) }
+    ensures reads { Reads V.told (V.state vol.old) (V.state vol.new) (S.files src.old) (S.files src.new) (S.faults src.old) (S.faults src.new) }
+    ensures causes { Causes (source.Rose (S.faults src.old) (S.faults src.new)) (volume.Rose (V.state vol.old) (V.state vol.new)) result }
+{
+    if looks_at_hash(mode, old, new) {
+        has_same_hash(alloc, loaded, &placed.row.file, &placed.path, image, src, vol)
+    } else {
+        Ok(false)
+    }
+}
