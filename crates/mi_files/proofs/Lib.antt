@@ -1,0 +1,5 @@
+pub mod CopyLemmas
+pub mod EndLemmas
+pub mod FolderLemmas
+pub mod KeyedLemmas
+pub mod ParentLemmas
