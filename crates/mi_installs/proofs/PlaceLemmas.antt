@@ -1,5 +1,5 @@
 -- Coming rows of File with their paths.
-use Rattle.std.proofs.Common.{◌≡◌, ℕ, suc, ◌+◌, ◌<◌, ◌≤◌, List, [], ◌∷◌, ◌++◌, map, take, drop, length, get_or, Bor, Option, Some, None, refl, sym, ap, ◌∙◌, subst, arith, drop-cons}
+use Rattle.std.proofs.Common.{◌≡◌, ℕ, suc, ◌+◌, ◌<◌, ◌≤◌, Bool, true, false, cond, List, [], ◌∷◌, ◌++◌, map, take, drop, length, get_or, Bor, Option, Some, None, refl, sym, ap, ◌∙◌, subst, arith, drop-cons}
 use Rattle.std.specs.Prelude.{Result, Ok, Err, codes, filter}
 use Rattle.std.proofs.lemmas.List.{map-append, take_more, take-append-drop, take_all}
 use Rattle.mi_text.specs.Lookups.{Lookups}
@@ -22,15 +22,25 @@ use Rattle.mi_records.specs.Choices.{Choices, IsAsked}
 use Rattle.mi_records.specs.Clients.{IsFault}
 use Rattle.mi_records.specs.Order.{as_numbered}
 use Rattle.mi_records.specs.Stops.{TellsBy}
-use Rattle.mi_files.proofs.FolderLemmas.{taken_seen}
 
 -- ---- the rows
 
-pub coming_are : (L : Lookups) (c : Choices) (p : Package) (w : World) → IsAsked L c p w → (rows : List (ℕ × Bor FileRow)) → map as_numbered rows ≡ in_key_order (λ (r : FileRow). r.file) (rows_in p).file
-    → map as_numbered (filter (λ r. c.coming r.1.now.component) rows) ≡ coming_files w
-coming_are L c p w asked rows is =
-    sym (taken_seen (λ (r : FileRow). comes w r.component) (λ (r : FileRow). c.coming r.component) (λ r. asked.coming r.component) rows)
-    ∙ ap (λ (ns : List (Numbered FileRow)). filter (λ (r : Numbered FileRow). comes w r.row.component) ns) (is ∙ ap (λ (rs : TableRows). in_key_order (λ (r : FileRow). r.file) rs.file) (sym asked.rows))
+module _ (L : Lookups) (c : Choices) (p : Package) (w : World) (asked : IsAsked L c p w) where
+  taken_seen : (rows : List (ℕ × Bor FileRow)) → filter (λ (r : Numbered FileRow). comes w r.row.component) (map as_numbered rows) ≡ map as_numbered (filter (λ r. c.coming r.1.now.component) rows)
+  taken_seen [] = refl
+  taken_seen (r ∷ rows) =
+      let rest = filter (λ (r : Numbered FileRow). comes w r.row.component) (map as_numbered rows) in
+      let n : Numbered FileRow = as_numbered r in
+      ap (λ b. cond b (n ∷ rest) rest) (asked.coming r.1.now.component)
+      ∙ elim (c.coming r.1.now.component) as (λ b. cond b (n ∷ rest) rest ≡ map as_numbered (cond b (r ∷ filter (λ r. c.coming r.1.now.component) rows) (filter (λ r. c.coming r.1.now.component) rows))) [
+        | true ↦ ap (λ (ns : List (Numbered FileRow)). n ∷ ns) (taken_seen rows)
+        | false ↦ taken_seen rows
+      ]
+
+  pub coming_are : (rows : List (ℕ × Bor FileRow)) → map as_numbered rows ≡ in_key_order (λ (r : FileRow). r.file) (rows_in p).file → map as_numbered (filter (λ r. c.coming r.1.now.component) rows) ≡ coming_files w
+  coming_are rows is =
+      sym (taken_seen rows)
+      ∙ ap (λ (ns : List (Numbered FileRow)). filter (λ (r : Numbered FileRow). comes w r.row.component) ns) (is ∙ ap (λ (rs : TableRows). in_key_order (λ (r : FileRow). r.file) rs.file) (sym asked.rows))
 
 -- ---- a row with its path
 
