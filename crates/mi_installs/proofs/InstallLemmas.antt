@@ -15,6 +15,7 @@ use Rattle.mi_base.specs.declared.entry.FileHead.{FileHead}
 use Rattle.mi_base.specs.Names.{file_name}
 use Rattle.mi_base.specs.Records.{with_bytes}
 use Rattle.mi_source.specs.Paths.{Files}
+use Rattle.mi_source.specs.Paths as source
 use Rattle.mi_changes.specs.Touches.{Touch}
 use Rattle.mi_image.specs.Items.{bytes_or_none}
 use Rattle.mi_schema.specs.declared.typed_rows.FileRow.{FileRow}
@@ -36,7 +37,8 @@ use Rattle.mi_records.proofs.WriteLemmas.{rows_refused}
 use Rattle.mi_installs.specs.declared.error.InstallError.{InstallError}
 use Rattle.mi_installs.specs.declared.error.InstallError.TheVariants as error
 use Rattle.mi_installs.specs.declared.placed.Placed.{Placed}
-use Rattle.mi_installs.specs.Installs.{Refuses, Finds, InstallRow, InstallRows, GrowsOn}
+use Rattle.mi_installs.specs.Copying.{GrowsOn}
+use Rattle.mi_installs.specs.Installs.{Refuses, Finds, InstallRow, InstallRows}
 use Rattle.mi_installs.specs.Placings.{as_placed, HasFilePath}
 
 -- ---- what calls leave
@@ -97,12 +99,12 @@ bytes_of_source w r files path over at = ap (λ (d : Files). right_file r (get d
 -- ---- the file that is written
 
 pub file_parent : (path : List ℕ) → is_file_path path ≡ true → parent_of path ≡ up_to_last path
-file_parent path is = sym (parent_open path path_is open)
+file_parent path is = sym (parent_open path path_is no_end)
   where
     path_is = file_is_path path (file_is path is)
 
-    open : (front : List ℕ) → path ≢ front ++ 92 ∷ []
-    open front at = let no : is_file_path path ≡ false = (only_folder path front path_is at).1 in let clash : true ≡ false = sym is ∙ no in cc
+    no_end : (front : List ℕ) → path ≢ front ++ 92 ∷ []
+    no_end front at = let no : is_file_path path ≡ false = (only_folder path front path_is at).1 in let clash : true ≡ false = sym is ∙ no in cc
 
 pub file_made : (files : Files) (w : World) (p : Placed) (h : FileHead) (folder path bytes : List ℕ) → HasFilePath p → folder ≡ parent_of p.path → get files path ≡ Some bytes → with_bytes h bytes ≡ installed_file w (as_placed p) bytes
     → folder_with_parents folder ++ copy_touch files h path ∷ [] ≡ file_with_parents (installed_file w (as_placed p) bytes)
@@ -114,6 +116,9 @@ file_made files w p h folder path bytes file at got same =
 
 pub copied_long : (files : Files) (h : FileHead) (r : FileRow) (path bytes : List ℕ) → get files path ≡ Some bytes → length bytes ≡ stated_size r → h.length ≡ stated_size r → length (bytes_or_none (get files path)) ≡ h.length
 copied_long files h r path bytes got long stated = ap (λ (o : Option (List ℕ)). length (bytes_or_none o)) got ∙ long ∙ sym stated
+
+pub copied_whole : (files : Files) (h : FileHead) (r : FileRow) (path bytes : List ℕ) → get files path ≡ Some bytes → length bytes ≡ stated_size r → h.length ≡ stated_size r → length (source.bytes_or_none (get files path)) ≡ h.length
+copied_whole files h r path bytes got long stated = ap (λ (o : Option (List ℕ)). length (source.bytes_or_none o)) got ∙ long ∙ sym stated
 
 -- ---- rows
 

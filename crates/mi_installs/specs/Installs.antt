@@ -2,11 +2,8 @@
 use Rattle.std.specs.Prelude.{◌≡◌, ℕ, List, Result, Ok, Err}
 use Rattle.mi_text.specs.Maps.{Map}
 use Rattle.mi_base.specs.declared.answers.Fault.{Fault}
-use Rattle.mi_image.specs.Items.{AreThere}
-use Rattle.mi_image.specs.Overlays.{former_items, present_items}
 use Rattle.mi_model.specs.World.{World, RowEffect, Effect}
 use Rattle.mi_steps.specs.declared.plan.Plan.{Plan}
-use Rattle.mi_steps.specs.Follows.{Grows}
 use Rattle.mi_records.specs.declared.error.PlanError.{PlanError}
 use Rattle.mi_records.specs.declared.error.PlanError.TheVariants as planned
 use Rattle.mi_records.specs.Rows.{Row, Rows, Phase}
@@ -61,12 +58,3 @@ module _ (held files : Map (List ℕ)) (before after : Plan) where
   -- a whole phase over a world
   abbrev pub InstallPhase : {A : Type 0} → Effect → World → Result A InstallError → Type 0
   InstallPhase effect w r = Phase held files before after effect w (as_planned r)
-
--- what stood before the plan stays, and the script only grows
-pub record GrowsOn (before after : Plan) : Type 0 where
-  pub former : former_items after.overlay ≡ former_items before.overlay
-  pub grows : Grows before.script after.script
-
--- over these files the bytes of files stay there
-abbrev pub StaysThere : Map (List ℕ) → Map (List ℕ) → Plan → Plan → Type 0
-StaysThere held files before after = AreThere held files (present_items before.overlay) → AreThere held files (present_items after.overlay)

@@ -1,18 +1,21 @@
 //! InstallFiles as a plan call.
 
-ghost use Rattle.std.specs.Prelude.{◌≡◌, List, ℕ, All, Ok, OnOk, IsErrOf, map};
+ghost use Rattle.std.specs.Prelude.{◌≡◌, ◌++◌, List, ℕ, All, Ok, OnOk, IsErrOf, map};
 ghost use Rattle.mi_text.specs.Maps.{Map};
 ghost use Rattle.mi_image.specs.Items.{AreThere};
 ghost use Rattle.mi_image.specs.Overlays.{former_items, present_items};
 ghost use Rattle.mi_model.specs.World.{World};
 ghost use Rattle.mi_model.specs.InstallFiles.{all_placed, installed_row, install_files};
+ghost use Rattle.mi_runner.specs.Records.{HasLength};
 ghost use Rattle.mi_schema.specs.Lawful.{IsLawful};
+ghost use Rattle.mi_script.specs.declared.rec.Rec.{Rec};
 ghost use Rattle.mi_source.specs.Counts as source;
 ghost use Rattle.mi_volume.specs.State as volume;
 ghost use Rattle.mi_steps.specs.Follows.{Grows};
 ghost use Rattle.mi_steps.specs.Makes.{plan_machine};
 ghost use Rattle.mi_records.specs.Choices.{IsAsked};
-ghost use Rattle.mi_installs.specs.Installs.{as_install, InstallRows, InstallPhase, GrowsOn, StaysThere};
+ghost use Rattle.mi_installs.specs.Copying.{GrowsOn, StaysThere, AddsWhole};
+ghost use Rattle.mi_installs.specs.Installs.{as_install, InstallRows, InstallPhase};
 ghost use Rattle.mi_installs.specs.Placings.{as_placed, HasFilePath, HasLanguages};
 ghost use Rattle.mi_installs.specs.Reading.{Reads};
 
@@ -43,6 +46,7 @@ fn install_apart<E: Sees, S: Source, V: Volume>(
     ensures rows { (w : World) → IsAsked (E.lookups seen.now) (E.choices seen.now) (E.rows seen.now) w → V.told → S.told → w.given.files ≡ S.files src.old → w.machine ≡ plan_machine (V.state vol.old).held (S.files src.old) plan.old → AreThere (V.state vol.old).held (S.files src.old) (present_items plan.old.overlay)
         → InstallRows (V.state vol.old).held (S.files src.old) plan.old plan.new (map (installed_row w) (map as_placed rows.now)) result }
     ensures there { S.told → OnOk result (StaysThere (V.state vol.old).held (S.files src.old) plan.old plan.new) }
+    ensures lengths { S.told → OnOk result (AddsWhole (S.files src.old) plan.old.script plan.new.script) }
     ensures reads { Reads V.told (V.state vol.old) (V.state vol.new) (S.files src.old) (S.files src.new) (S.faults src.old) (S.faults src.new) }
     ensures source { IsErrOf result InstallError.Source → source.Rose (S.faults src.old) (S.faults src.new) }
     ensures volume { IsErrOf result InstallError.Volume → volume.Rose (V.state vol.old) (V.state vol.new) }
@@ -70,6 +74,7 @@ fn install_placed<E: Sees, S: Source, V: Volume>(
     ensures phase { (w : World) → IsAsked (E.lookups seen.now) (E.choices seen.now) (E.rows seen.now) w → V.told → S.told → w.given.files ≡ S.files src.old → w.machine ≡ plan_machine (V.state vol.old).held (S.files src.old) plan.old → AreThere (V.state vol.old).held (S.files src.old) (present_items plan.old.overlay)
         → InstallPhase (V.state vol.old).held (S.files src.old) plan.old plan.new install_files w result }
     ensures there { S.told → OnOk result (StaysThere (V.state vol.old).held (S.files src.old) plan.old plan.new) }
+    ensures lengths { S.told → OnOk result (AddsWhole (S.files src.old) plan.old.script plan.new.script) }
     ensures reads { Reads V.told (V.state vol.old) (V.state vol.new) (S.files src.old) (S.files src.new) (S.faults src.old) (S.faults src.new) }
     ensures source { IsErrOf result InstallError.Source → source.Rose (S.faults src.old) (S.faults src.new) }
     ensures volume { IsErrOf result InstallError.Volume → volume.Rose (V.state vol.old) (V.state vol.new) }
@@ -110,6 +115,7 @@ pub fn plan_install_files<E: Sees, S: Source, V: Volume>(
     ensures phase { (w : World) → IsAsked (E.lookups seen.now) (E.choices seen.now) (E.rows seen.now) w → V.told → S.told → w.given.files ≡ S.files src.old → w.machine ≡ plan_machine (V.state vol.old).held (S.files src.old) plan.old → AreThere (V.state vol.old).held (S.files src.old) (present_items plan.old.overlay)
         → InstallPhase (V.state vol.old).held (S.files src.old) plan.old plan.new install_files w result }
     ensures there { V.told → S.told → AreThere (V.state vol.old).held (S.files src.old) (present_items plan.old.overlay) → OnOk result (AreThere (V.state vol.old).held (S.files src.old) (present_items plan.new.overlay)) }
+    ensures lengths { S.told → OnOk result ((more : List Rec) → plan.new.script ≡ plan.old.script ++ more → All (HasLength (S.files src.old)) more) }
     ensures reads { Reads V.told (V.state vol.old) (V.state vol.new) (S.files src.old) (S.files src.new) (S.faults src.old) (S.faults src.new) }
     ensures source { IsErrOf result InstallError.Source → source.Rose (S.faults src.old) (S.faults src.new) }
     ensures volume { IsErrOf result InstallError.Volume → volume.Rose (V.state vol.old) (V.state vol.new) }
