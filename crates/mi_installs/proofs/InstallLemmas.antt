@@ -1,5 +1,5 @@
 -- What rows of InstallFiles make of a plan.
-use Rattle.std.proofs.Common.{◌≡◌, ◌≢◌, ℕ, ◌+◌, ◌<◌, ◌≤◌, Bool, true, false, cond, List, [], ◌∷◌, ◌++◌, map, take, length, get_or, Option, Some, None, refl, sym, ap, ◌∙◌, subst, arith}
+use Rattle.std.proofs.Common.{◌≡◌, ◌≢◌, ℕ, zero, suc, ◌+◌, ◌<◌, ◌≤◌, Bool, true, false, cond, List, [], ◌∷◌, ◌++◌, map, take, length, get_or, Option, Some, None, refl, sym, ap, ◌∙◌, subst, arith}
 use Rattle.std.specs.Prelude.{Result, Ok, Err, ◌==◌}
 use Rattle.std.specs.FinMap.{get}
 use Rattle.std.proofs.lemmas.Bool.Decides.{nat_tests}
@@ -169,3 +169,12 @@ pub row_written : {A : Type 0} (held : Map (List ℕ)) (files : Files) (a b : Pl
     → InstallRow held files a b (λ m. source_bytes w p.row.now >>= λ bytes. Ok (file_with_parents (installed_file w (as_placed p) bytes))) r → InstallRow held files a b (installed_row w (as_placed p)) r
 row_written held files a b w p r is = row_as held files a b (λ m. source_bytes w p.row.now >>= λ bytes. Ok (file_with_parents (installed_file w (as_placed p) bytes))) (installed_row w (as_placed p)) r
     (ap (λ b. cond b (source_bytes w p.row.now >>= λ bytes. Ok (file_with_parents (installed_file w (as_placed p) bytes))) (Ok [])) (sym is))
+
+-- what is decided of a row at its place
+pub decided_at : {X : Type 0} (test : X → Bool) (decided : List Bool) (xs : List X) (k : ℕ) (x : X) → decided ≡ map test xs → k < length xs → x ≡ get_or xs k x → get_or decided k false ≡ test x
+decided_at {X} test decided xs k x are within is = ap (λ (bs : List Bool). get_or bs k false) are ∙ there xs k within is
+  where
+    there : (xs : List X) (k : ℕ) → k < length xs → x ≡ get_or xs k x → get_or (map test xs) k false ≡ test x
+    there [] k within is = absurd (omega arith)
+    there (y ∷ ys) zero within is = ap test (sym is)
+    there (y ∷ ys) (suc k) within is = there ys k (omega arith) is

@@ -106,3 +106,12 @@ module _ {X Y Z : Type 0} (f : Y → Result Z Fault) (g : X → Y) where
 
   pub each_all : (xs : List X) (k : ℕ) (r : Result (List Z) Fault) → length xs ≤ k → each f (map g (take k xs)) ≡ r → each f (map g xs) ≡ r
   each_all xs k r at so_far = ap (λ (ys : List X). each f (map g ys)) (sym (take_all k xs (omega (arith, at)))) ∙ so_far
+
+-- no rows
+pub each_none : {X Y Z : Type 0} (f : Y → Result Z Fault) (g : X → Y) (xs : List X) → each f (map g (take 0 xs)) ≡ Ok []
+each_none f g xs = refl
+
+-- what is told of a row that is refused
+pub told_refused : {A B C D : Type 0} (seen : A → B) (other : C → D) (x : Result B Fault) (y : Result D Fault) (e : PlanError) → ((f : Fault) → x ≡ Err f → y ≡ Err f) → TellsBy seen x (Err e) → TellsBy other y (Err e)
+told_refused seen other x y error.NoMemory then told = tt
+told_refused seen other x y (error.Fault f) then told = then f told

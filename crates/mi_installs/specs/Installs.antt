@@ -12,12 +12,7 @@ use Rattle.mi_installs.specs.declared.error.InstallError.TheVariants as error
 
 -- ---- answers
 
--- the error is this fault, or want of memory
-abbrev pub IsFault : Fault → PlanError → Type 0
-IsFault f planned.NoMemory = Unit {0}
-IsFault f (planned.Fault g) = g ≡ f
-
--- the same of a call that asks devices
+-- the error of a call that asks devices is this fault, or want of memory
 abbrev pub Refuses : Fault → InstallError → Type 0
 Refuses f error.NoMemory = Unit {0}
 Refuses f (error.Fault g) = g ≡ f

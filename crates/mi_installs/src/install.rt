@@ -31,6 +31,7 @@ use mi_volume::Volume;
 use std::alloc::Global;
 
 // Decides over the machine as it stands, then carries out the rows, of which no two have one path.
+#[tactic(auto, using(crate::proofs::InstallLemmas::grown_not))]
 fn install_apart<E: Sees, S: Source, V: Volume>(
     alloc: Global,
     seen: &E,
@@ -59,6 +60,7 @@ fn install_apart<E: Sees, S: Source, V: Volume>(
 }
 
 // Carries out the coming rows, unless two of them have one path.
+#[tactic(auto, using(crate::proofs::InstallLemmas::grown_not, crate::proofs::PhaseLemmas::reads_not))]
 fn install_placed<E: Sees, S: Source, V: Volume>(
     alloc: Global,
     seen: &E,

@@ -11,9 +11,9 @@ ghost use Rattle.mi_schema.specs.RowsOf.{rows_in};
 ghost use Rattle.mi_schema.specs.TableRows.{in_key_order};
 ghost use Rattle.mi_schema.specs.declared.typed_rows.FileRow as file;
 ghost use Rattle.mi_records.specs.Choices.{IsAsked};
+ghost use Rattle.mi_records.specs.Clients.{IsFault};
 ghost use Rattle.mi_records.specs.Order.{as_numbered};
 ghost use Rattle.mi_records.specs.Stops.{TellsBy};
-ghost use Rattle.mi_installs.specs.Installs.{IsFault};
 ghost use Rattle.mi_installs.specs.Placings.{as_placed, HasFilePath, HasLanguages, HaveLanguages};
 
 use mi_base::{Fault, NoMemory, PathText, Text};
@@ -92,10 +92,11 @@ fn place<'a, E: Sees>(
     seen: &E,
     row: Row<'a, FileRow>,
 ) -> Result<Placed<'a>, PlanError>
-    requires { IsLawful (E.rows seen.now) }
+    requires lawful { IsLawful (E.rows seen.now) }
+    requires languages { HaveLanguages row.1.now }
     ensures placed { (w : World) → IsAsked (E.lookups seen.now) (E.choices seen.now) (E.rows seen.now) w → TellsBy as_placed (model.placed w (as_numbered row.entry)) result }
     ensures file { IfOk result HasFilePath }
-    ensures row { IfOk result (λ p. p.row.now ≡ row.entry.1.now) }
+    ensures languages { IfOk result HasLanguages }
 {
     let (number, row) = row;
     match row_path(alloc, seen, row) {

@@ -23,6 +23,7 @@ use mi_steps::Plan;
 use std::alloc::Global;
 
 // Carries out a row that is written: its file of the source is judged, then copied.
+#[tactic(auto, using(crate::proofs::InstallLemmas::grown_not))]
 fn write_row<E: Sees, S: Source>(
     alloc: Global,
     seen: &E,
@@ -43,9 +44,10 @@ fn write_row<E: Sees, S: Source>(
     ensures grows { GrowsOn plan.old plan.new }
 {
     let path = source_path(alloc, seen, placed.row)?;
-    match judge_source(alloc, src, placed.row, path.as_str()) {
+    let at = path.as_str();
+    match judge_source(alloc, src, placed.row, at) {
         Ok(()) => {
-            copy_row(alloc, placed, seen.moment(), path.as_str(), plan)?;
+            copy_row(alloc, placed, seen.moment(), at, plan)?;
             Ok(())
         }
         Err(error) => Err(error),
@@ -53,6 +55,7 @@ fn write_row<E: Sees, S: Source>(
 }
 
 // Carries out a row, if it is written.
+#[tactic(auto, using(crate::proofs::InstallLemmas::grown_not))]
 fn write_decided<E: Sees, S: Source>(
     alloc: Global,
     seen: &E,
