@@ -1,10 +1,10 @@
 -- What rows of InstallFiles make of a plan.
 use Rattle.std.proofs.Common.{◌≡◌, ◌≢◌, ℕ, zero, suc, ◌+◌, ◌<◌, ◌≤◌, Bool, true, false, cond, List, [], ◌∷◌, ◌++◌, map, take, length, get_or, Option, Some, None, refl, sym, ap, ◌∙◌, subst, arith}
-use Rattle.std.specs.Prelude.{Result, Ok, Err, ◌==◌}
+use Rattle.std.specs.Prelude.{Result, Ok, Err, IsErrOf, ◌==◌}
 use Rattle.std.specs.FinMap.{get}
 use Rattle.std.proofs.lemmas.Bool.Decides.{nat_tests}
 use Rattle.mi_text.specs.Maps.{Map}
-use Rattle.mi_text.specs.Path.{is_file_path, parent_of, up_to_last}
+use Rattle.mi_text.specs.Path.{is_file_path, is_path, parent_of, up_to_last}
 use Rattle.mi_text.proofs.PathLemmas.{file_is, file_is_path, parent_open, only_folder}
 use Rattle.mi_base.specs.declared.answers.Fault.{Fault}
 use Rattle.mi_base.specs.declared.answers.Fault.TheVariants.{SizeDiffers}
@@ -38,7 +38,7 @@ use Rattle.mi_installs.specs.declared.error.InstallError.{InstallError}
 use Rattle.mi_installs.specs.declared.error.InstallError.TheVariants as error
 use Rattle.mi_installs.specs.declared.placed.Placed.{Placed}
 use Rattle.mi_installs.specs.Copying.{GrowsOn}
-use Rattle.mi_installs.specs.Installs.{Refuses, Finds, InstallRow, InstallRows}
+use Rattle.mi_installs.specs.Installs.{Refuses, Finds, written_row, InstallRow, InstallRows}
 use Rattle.mi_installs.specs.Placings.{as_placed, HasFilePath}
 
 -- ---- what calls leave
@@ -82,14 +82,24 @@ size_wrong r bytes found is other =
     differ : (a b : ℕ) → a ≢ b → (a == b) ≡ false
     differ a b e = grind (arith, nat_tests)
 
-pub finds_not : {A B : Type 0} (does : Result B Fault) (f : Fault) (e : InstallError) → does ≡ Err f → Refuses f e → Finds {A} does (Err e)
+pub finds_not : {A B : Type 0} (does : Result B Fault) (f : Fault) (e : InstallError) → does ≡ Err f → Refuses f e → Finds {A = A} does (Err e)
 finds_not does f error.NoMemory is refused = tt
 finds_not does f (error.Fault g) is refused = is ∙ ap Err (sym refused)
 finds_not does f error.Source is refused = tt
 finds_not does f error.Volume is refused = refused
 
-pub finds_as : {A B : Type 0} (x y : Result B Fault) (r : Result A InstallError) → x ≡ y → Finds x r → Finds y r
-finds_as x y r same = subst (λ d. Finds d r) same
+-- it is no device's error
+pub no_source : {A : Type 0} (f : Fault) (e : InstallError) → Refuses f e → ¬ IsErrOf {T = A} (Err e) error.Source
+no_source f error.NoMemory refused is = cc
+no_source f (error.Fault g) refused is = cc
+no_source f error.Source refused is = refused
+no_source f error.Volume refused is = cc
+
+pub no_volume : {A : Type 0} (f : Fault) (e : InstallError) → Refuses f e → ¬ IsErrOf {T = A} (Err e) error.Volume
+no_volume f error.NoMemory refused is = cc
+no_volume f (error.Fault g) refused is = cc
+no_volume f error.Source refused is = cc
+no_volume f error.Volume refused is = refused
 
 -- the same by what the source has
 pub bytes_of_source : (w : World) (r : FileRow) (files : Files) (path : List ℕ) → w.given.files ≡ files → path ≡ source_path w r → source_bytes w r ≡ right_file r (get files path)
@@ -101,6 +111,7 @@ bytes_of_source w r files path over at = ap (λ (d : Files). right_file r (get d
 pub file_parent : (path : List ℕ) → is_file_path path ≡ true → parent_of path ≡ up_to_last path
 file_parent path is = sym (parent_open path path_is no_end)
   where
+    path_is : is_path path ≡ true
     path_is = file_is_path path (file_is path is)
 
     no_end : (front : List ℕ) → path ≢ front ++ 92 ∷ []
@@ -125,7 +136,7 @@ copied_whole files h r path bytes got long stated = ap (λ (o : Option (List ℕ
 module _ (held : Map (List ℕ)) (files : Files) (a b : Plan) where
   -- a row whose bytes are found
   pub row_made : {A : Type 0} (effect : RowEffect) (does : Result (List ℕ) Fault) (found : List ℕ) (touches : List ℕ → List (Touch Entry)) (done : A) → effect (plan_machine held files a) ≡ (does >>= λ bytes. Ok (touches bytes)) → does ≡ Ok found
-      → Makes held files a b (touches found) → InstallRow held files a b effect (Ok {E = InstallError} done)
+      → Makes held files a b (touches found) → InstallRow held files a b effect (Ok done)
   row_made effect does found touches done is gives made = record {
     touches = touches found;
     gives = is ∙ ap (λ (r : Result (List ℕ) Fault). r >>= λ bytes. Ok (touches bytes)) gives;
@@ -134,7 +145,7 @@ module _ (held : Map (List ℕ)) (files : Files) (a b : Plan) where
 
   -- a row whose bytes are refused
   pub row_refused : {A B : Type 0} (effect : RowEffect) (does : Result (List ℕ) Fault) (next : List ℕ → Result (List (Touch Entry)) Fault) (e : InstallError) → effect (plan_machine held files a) ≡ (does >>= next)
-      → Finds {A} does (Err e) → InstallRow held files a b {A = B} effect (Err e)
+      → Finds {A = A} does (Err e) → InstallRow held files a b {A = B} effect (Err e)
   row_refused effect does next error.NoMemory is finds = tt
   row_refused effect does next (error.Fault f) is finds = is ∙ ap (λ (r : Result (List ℕ) Fault). r >>= next) finds
   row_refused effect does next error.Source is finds = tt
@@ -157,7 +168,7 @@ module _ (held : Map (List ℕ)) (files : Files) (a b : Plan) where
   rows_not A B f xs k x c error.Volume within is so_far refused = tt
 
 -- a row that isn't written
-pub row_skipped : {A : Type 0} (held : Map (List ℕ)) (files : Files) (a : Plan) (w : World) (p : Placed) (done : A) → false ≡ is_written w p.row.now → InstallRow held files a a (installed_row w (as_placed p)) (Ok {E = InstallError} done)
+pub row_skipped : {A : Type 0} (held : Map (List ℕ)) (files : Files) (a : Plan) (w : World) (p : Placed) (done : A) → false ≡ is_written w p.row.now → InstallRow held files a a (installed_row w (as_placed p)) (Ok done)
 row_skipped held files a w p done is = record {
   touches = [];
   gives = ap (λ b. cond b (source_bytes w p.row.now >>= λ bytes. Ok (file_with_parents (installed_file w (as_placed p) bytes))) (Ok [])) (sym is);
@@ -166,8 +177,8 @@ row_skipped held files a w p done is = record {
 
 -- a row that is
 pub row_written : {A : Type 0} (held : Map (List ℕ)) (files : Files) (a b : Plan) (w : World) (p : Placed) (r : Result A InstallError) → true ≡ is_written w p.row.now
-    → InstallRow held files a b (λ m. source_bytes w p.row.now >>= λ bytes. Ok (file_with_parents (installed_file w (as_placed p) bytes))) r → InstallRow held files a b (installed_row w (as_placed p)) r
-row_written held files a b w p r is = row_as held files a b (λ m. source_bytes w p.row.now >>= λ bytes. Ok (file_with_parents (installed_file w (as_placed p) bytes))) (installed_row w (as_placed p)) r
+    → InstallRow held files a b (written_row w (as_placed p)) r → InstallRow held files a b (installed_row w (as_placed p)) r
+row_written held files a b w p r is = row_as held files a b (written_row w (as_placed p)) (installed_row w (as_placed p)) r
     (ap (λ b. cond b (source_bytes w p.row.now >>= λ bytes. Ok (file_with_parents (installed_file w (as_placed p) bytes))) (Ok [])) (sym is))
 
 -- what is decided of a row at its place

@@ -47,20 +47,20 @@ module _ (held : Map (List ℕ)) (files : Files) (a b : Plan) (w : World) where
   phase_done rows r is none at done = phase_of held files a b install_files w (map (installed_row w) rows) (as_planned r) (effect_is w rows is none) at done
 
   -- two of them have one path
-  pub phase_same : {A : Type 0} (rows : List model.Placed) (f : Fault) → all_placed w ≡ Ok rows → Some f ≡ same_target [] rows → InstallPhase held files a b {A = A} install_files w (Err (error.Fault f))
-  phase_same rows f is same = refused_by w f (effect_same w rows f is same)
+  pub phase_same : (A : Type 0) (rows : List model.Placed) (f : Fault) → all_placed w ≡ Ok rows → Some f ≡ same_target [] rows → InstallPhase held files a b {A = A} install_files w (Err (error.Fault f))
+  phase_same A rows f is same = refused_by w f (effect_same w rows f is same)
 
   -- a path is refused
-  pub phase_path : {A C : Type 0} (seen : A → List model.Placed) (e : PlanError) → TellsBy {A = A} seen (all_placed w) (Err e) → InstallPhase held files a b {A = C} install_files w (Err (as_install e))
-  phase_path seen planned.NoMemory told = tt
-  phase_path seen (planned.Fault f) told = refused_by w f (effect_path w f told)
+  pub phase_path : {A : Type 0} (C : Type 0) (seen : A → List model.Placed) (e : PlanError) → TellsBy {A = A} seen (all_placed w) (Err e) → InstallPhase held files a b {A = C} install_files w (Err (as_install e))
+  phase_path C seen planned.NoMemory told = tt
+  phase_path C seen (planned.Fault f) told = refused_by w f (effect_path w f told)
 
   -- deciding is refused by no row
-  pub rows_fault_not : {A B : Type 0} (effects : List RowEffect) (e : InstallError) → ((f : Fault) → ¬ (Err {T = A} e ≡ Err (error.Fault f))) → InstallRows held files a b {A = B} effects (Err e)
-  rows_fault_not effects error.NoMemory none = tt
-  rows_fault_not effects (error.Fault f) none = absurd (none f refl)
-  rows_fault_not effects error.Source none = tt
-  rows_fault_not effects error.Volume none = tt
+  pub rows_fault_not : (A B : Type 0) (effects : List RowEffect) (e : InstallError) → ((f : Fault) → ¬ (Err {T = A} e ≡ Err (error.Fault f))) → InstallRows held files a b {A = B} effects (Err e)
+  rows_fault_not A B effects error.NoMemory none = tt
+  rows_fault_not A B effects (error.Fault f) none = absurd (none f refl)
+  rows_fault_not A B effects error.Source none = tt
+  rows_fault_not A B effects error.Volume none = tt
 
 -- ---- reads
 

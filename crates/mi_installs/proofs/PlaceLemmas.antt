@@ -57,34 +57,37 @@ refused_told seen does f (error.Fault g) is fault = is ∙ ap Err (sym fault)
 -- ---- what each of some rows gives
 
 module _ {X Y Z : Type 0} (f : Y → Result Z Fault) (g : X → Y) where
-  each-append : (front : List X) (x : X) (more : List X) (zs : List Z) → each f (map g front) ≡ Ok zs → each f (map g (front ++ x ∷ more)) ≡ (f (g x) >>= λ z. each f (map g more) >>= λ rest. Ok (zs ++ z ∷ rest))
-  each-append [] x more zs is = let none : [] ≡ zs = ok_is [] zs is in ap (λ (ys : List Z). f (g x) >>= λ z. each f (map g more) >>= λ rest. Ok (ys ++ z ∷ rest)) none
-    where
-      ok_is : (a b : List Z) → Ok {E = Fault} a ≡ Ok b → a ≡ b
-      ok_is a b e = cc
-  each-append (y ∷ front) x more zs is = first (f (g y)) refl is
-    where
-      Whole : Result Z Fault → Type 0
-      Whole r = (r >>= λ z. each f (map g (front ++ x ∷ more)) >>= λ rest. Ok (z ∷ rest)) ≡ (f (g x) >>= λ z. each f (map g more) >>= λ rest. Ok (zs ++ z ∷ rest))
+  abbrev Joined : List X → X → List X → List Z → Type 0
+  Joined front x more zs = each f (map g (front ++ x ∷ more)) ≡ (f (g x) >>= λ z. each f (map g more) >>= λ rest. Ok (zs ++ z ∷ rest))
 
-      ok_is : (a b : List Z) → Ok {E = Fault} a ≡ Ok b → a ≡ b
-      ok_is a b e = cc
+  moved : (z : Z) (ys : List Z) (r : Result Z Fault) (s : Result (List Z) Fault) → ((r >>= λ a. s >>= λ rest. Ok (ys ++ a ∷ rest)) >>= λ rest. Ok (z ∷ rest)) ≡ (r >>= λ a. s >>= λ rest. Ok (z ∷ (ys ++ a ∷ rest)))
+  moved z ys (Ok a) (Ok rest) = refl
+  moved z ys (Ok a) (Err e) = refl
+  moved z ys (Err e) s = refl
 
-      moved : (z : Z) (ys : List Z) (r : Result Z Fault) (s : Result (List Z) Fault) → ((r >>= λ a. s >>= λ rest. Ok (ys ++ a ∷ rest)) >>= λ rest. Ok (z ∷ rest)) ≡ (r >>= λ a. s >>= λ rest. Ok (z ∷ (ys ++ a ∷ rest)))
-      moved z ys (Ok a) (Ok rest) = refl
-      moved z ys (Ok a) (Err e) = refl
-      moved z ys (Err e) s = refl
+  abbrev IsOk : Result (List Z) Fault → List Z → Type 0
+  IsOk r b = r ≡ Ok b
 
-      second : (z : Z) (s : Result (List Z) Fault) → each f (map g front) ≡ s → (s >>= λ rest. Ok (z ∷ rest)) ≡ Ok zs → Whole (Ok z)
-      second z (Err e) at is = cc
-      second z (Ok ys) at is =
-          ap (λ (r : Result (List Z) Fault). r >>= λ rest. Ok (z ∷ rest)) (each-append front x more ys at)
-          ∙ moved z ys (f (g x)) (each f (map g more))
-          ∙ ap (λ (all : List Z). f (g x) >>= λ a. each f (map g more) >>= λ rest. Ok (all ++ a ∷ rest)) (ok_is (z ∷ ys) zs is)
+  ok_is : (a b : List Z) → IsOk (Ok a) b → a ≡ b
+  ok_is a b e = cc
 
-      first : (r : Result Z Fault) → f (g y) ≡ r → (r >>= λ z. each f (map g front) >>= λ rest. Ok (z ∷ rest)) ≡ Ok zs → Whole (f (g y))
-      first (Err e) at is = cc
-      first (Ok z) at is = subst Whole (sym at) (second z (each f (map g front)) refl is)
+  module _ (y : X) (front : List X) (x : X) (more : List X) (zs : List Z) (rest_of : (ys : List Z) → each f (map g front) ≡ Ok ys → Joined front x more ys) where
+    second : (z : Z) (s : Result (List Z) Fault) → each f (map g front) ≡ s → (s >>= λ rest. Ok (z ∷ rest)) ≡ Ok zs
+        → (each f (map g (front ++ x ∷ more)) >>= λ rest. Ok (z ∷ rest)) ≡ (f (g x) >>= λ z. each f (map g more) >>= λ rest. Ok (zs ++ z ∷ rest))
+    second z (Err e) at is = cc
+    second z (Ok ys) at is =
+        ap (λ (r : Result (List Z) Fault). r >>= λ rest. Ok (z ∷ rest)) (rest_of ys at)
+        ∙ moved z ys (f (g x)) (each f (map g more))
+        ∙ ap (λ (all : List Z). f (g x) >>= λ a. each f (map g more) >>= λ rest. Ok (all ++ a ∷ rest)) (ok_is (z ∷ ys) zs is)
+
+    first : (r : Result Z Fault) → (r >>= λ z. each f (map g front) >>= λ rest. Ok (z ∷ rest)) ≡ Ok zs
+        → (r >>= λ z. each f (map g (front ++ x ∷ more)) >>= λ rest. Ok (z ∷ rest)) ≡ (f (g x) >>= λ z. each f (map g more) >>= λ rest. Ok (zs ++ z ∷ rest))
+    first (Err e) is = cc
+    first (Ok z) is = second z (each f (map g front)) refl is
+
+  each-append : (front : List X) (x : X) (more : List X) (zs : List Z) → each f (map g front) ≡ Ok zs → Joined front x more zs
+  each-append [] x more zs is = ap (λ (ys : List Z). f (g x) >>= λ z. each f (map g more) >>= λ rest. Ok (ys ++ z ∷ rest)) (ok_is [] zs is)
+  each-append (y ∷ front) x more zs is = first y front x more zs (each-append front x more) (f (g y)) is
 
   module _ (xs : List X) (k : ℕ) (x : X) (within : k < length xs) (is : x ≡ get_or xs k x) (zs : List Z) (so_far : each f (map g (take k xs)) ≡ Ok zs) where
     -- one row more
@@ -106,10 +109,6 @@ module _ {X Y Z : Type 0} (f : Y → Result Z Fault) (g : X → Y) where
 
   pub each_all : (xs : List X) (k : ℕ) (r : Result (List Z) Fault) → length xs ≤ k → each f (map g (take k xs)) ≡ r → each f (map g xs) ≡ r
   each_all xs k r at so_far = ap (λ (ys : List X). each f (map g ys)) (sym (take_all k xs (omega (arith, at)))) ∙ so_far
-
--- no rows
-pub each_none : {X Y Z : Type 0} (f : Y → Result Z Fault) (g : X → Y) (xs : List X) → each f (map g (take 0 xs)) ≡ Ok []
-each_none f g xs = refl
 
 -- what is told of a row that is refused
 pub told_refused : {A B C D : Type 0} (seen : A → B) (other : C → D) (x : Result B Fault) (y : Result D Fault) (e : PlanError) → ((f : Fault) → x ≡ Err f → y ≡ Err f) → TellsBy seen x (Err e) → TellsBy other y (Err e)

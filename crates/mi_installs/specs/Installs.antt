@@ -3,6 +3,8 @@ use Rattle.std.specs.Prelude.{◌≡◌, ℕ, List, Result, Ok, Err}
 use Rattle.mi_text.specs.Maps.{Map}
 use Rattle.mi_base.specs.declared.answers.Fault.{Fault}
 use Rattle.mi_model.specs.World.{World, RowEffect, Effect}
+use Rattle.mi_model.specs.InstallFiles.{Placed, source_bytes, installed_file, file_with_parents}
+use Rattle.mi_model.specs.Refusals.{◌>>=◌}
 use Rattle.mi_steps.specs.declared.plan.Plan.{Plan}
 use Rattle.mi_records.specs.declared.error.PlanError.{PlanError}
 use Rattle.mi_records.specs.declared.error.PlanError.TheVariants as planned
@@ -41,6 +43,10 @@ as_install planned.NoMemory = error.NoMemory
 as_install (planned.Fault f) = error.Fault f
 
 -- ---- what is made
+
+-- what a row touches that is written
+abbrev pub written_row : World → Placed → RowEffect
+written_row w p m = source_bytes w p.row >>= λ bytes. Ok (file_with_parents (installed_file w p bytes))
 
 module _ (held files : Map (List ℕ)) (before after : Plan) where
   abbrev pub InstallRow : {A : Type 0} → RowEffect → Result A InstallError → Type 0

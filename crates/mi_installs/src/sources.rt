@@ -120,7 +120,9 @@ fn differs(alloc: Global, row: &FileRow, found: u64) -> InstallError
 
 // Whether so many bytes are those that a row states.
 fn judge_size(alloc: Global, row: &FileRow, found: u64) -> Result<(), InstallError>
-    ensures { (bytes : List ℕ) → found ≡ length bytes → Finds (right_size row.now bytes) result }
+    ensures finds { (bytes : List ℕ) → found ≡ length bytes → Finds (right_size row.now bytes) result }
+    ensures source { ¬ IsErrOf result InstallError.Source }
+    ensures volume { ¬ IsErrOf result InstallError.Volume }
 {
     if found == stated_size(row) {
         Ok(())

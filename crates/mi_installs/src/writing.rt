@@ -1,16 +1,15 @@
 //! InstallFiles: what its rows write.
 
-ghost use Rattle.std.specs.Prelude.{◌≡◌, ◌≤◌, List, ℕ, All, Ok, OnOk, IsErrOf, map, length};
+ghost use Rattle.std.specs.Prelude.{◌≡◌, ◌≤◌, List, ℕ, All, OnOk, IsErrOf, map, length};
 ghost use Rattle.mi_text.specs.Maps.{Map};
 ghost use Rattle.mi_model.specs.World.{World};
 ghost use Rattle.mi_model.specs.FileVersions.{is_written};
-ghost use Rattle.mi_model.specs.Refusals.{◌>>=◌};
-ghost use Rattle.mi_model.specs.InstallFiles.{source_bytes, installed_file, file_with_parents, installed_row};
+ghost use Rattle.mi_model.specs.InstallFiles.{installed_row};
 ghost use Rattle.mi_schema.specs.Lawful.{IsLawful};
 ghost use Rattle.mi_source.specs.Counts.{Rose};
 ghost use Rattle.mi_records.specs.Choices.{IsAsked};
 ghost use Rattle.mi_installs.specs.Copying.{GrowsOn, StaysThere, AddsWhole};
-ghost use Rattle.mi_installs.specs.Installs.{InstallRow, InstallRows};
+ghost use Rattle.mi_installs.specs.Installs.{written_row, InstallRow, InstallRows};
 ghost use Rattle.mi_installs.specs.Placings.{as_placed, HasFilePath, HasLanguages};
 
 use crate::copying::copy_row;
@@ -34,7 +33,7 @@ fn write_row<E: Sees, S: Source>(
     requires lawful { IsLawful (E.rows seen.now) }
     requires path { HasFilePath placed.now }
     requires languages { HasLanguages placed.now }
-    ensures row { (held : Map (List ℕ)) (w : World) → IsAsked (E.lookups seen.now) (E.choices seen.now) (E.rows seen.now) w → S.told → w.given.files ≡ S.files src.old → InstallRow held (S.files src.old) plan.old plan.new (λ m. source_bytes w placed.now.row.now >>= λ bytes. Ok (file_with_parents (installed_file w (as_placed placed.now) bytes))) result }
+    ensures row { (held : Map (List ℕ)) (w : World) → IsAsked (E.lookups seen.now) (E.choices seen.now) (E.rows seen.now) w → S.told → w.given.files ≡ S.files src.old → InstallRow held (S.files src.old) plan.old plan.new (written_row w (as_placed placed.now)) result }
     ensures there { (held : Map (List ℕ)) → S.told → OnOk result (StaysThere held (S.files src.old) plan.old plan.new) }
     ensures lengths { S.told → OnOk result (AddsWhole (S.files src.old) plan.old.script plan.new.script) }
     ensures source { IsErrOf result InstallError.Source → Rose (S.faults src.old) (S.faults src.new) }

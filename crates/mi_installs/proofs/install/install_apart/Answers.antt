@@ -1,8 +1,9 @@
 -- What is decided, then written.
 use Rattle.std.proofs.Common.{◌≡◌, List, ℕ, map, refl, sym, ap, subst, ◌∙◌}
-use Rattle.std.specs.Prelude.{Err, OnOk}
+use Rattle.std.specs.Prelude.{Bool, Err, OnOk, Vec}
+use Rattle.std.specs.declared.alloc.Global.{Global}
 use Rattle.mi_source.specs.Paths.{Files}
-use Rattle.mi_image.specs.Items.{Items, machine_over}
+use Rattle.mi_image.specs.Items.{Items, AreThere, machine_over}
 use Rattle.mi_model.specs.World.{RowEffect}
 use Rattle.mi_model.specs.FileVersions.{is_written}
 use Rattle.mi_model.specs.InstallFiles as model
@@ -20,7 +21,7 @@ returns-in-Ok-clause-rows g c = λ w asked vt st over at there.
     let stays = c.decide.ensures.reads.stays in
     let rows = c.args.rows.now in
     let machine = at ∙ ap (λ (i : Items). machine_over held (g.S.Source.files c.args.src.now) i) (sym c.image.ensures) in
-    let decided = c.as_slice.ensures.value ∙ c.in-Ok.ensures.decided w asked vt st machine ? ∙ map-over (λ (p : model.Placed). is_written w p.row) as_placed rows in
+    let decided = c.as_slice.ensures.value ∙ c.in-Ok.ensures.decided w asked vt st machine (subst (λ (i : Items). AreThere held (g.S.Source.files c.args.src.now) i) (sym c.image.ensures) there) ∙ map-over (λ (p : model.Placed). is_written w p.row) as_placed rows in
     let made = c.write_rows.ensures.rows held w asked st (over ∙ sym stays) decided in
     subst (λ (effects : List RowEffect). InstallRows held (g.S.Source.files c.args.src.now) c.args.plan.now c.write_rows.new.plan effects c.write_rows.result) (sym (map-over (installed_row w) as_placed rows))
     (subst (λ (f : Files). InstallRows held f c.args.plan.now c.write_rows.new.plan (map (λ p. installed_row w (as_placed p)) rows) c.write_rows.result) stays made)
@@ -48,4 +49,4 @@ returns-in-Ok-clause-volume g c = λ is. absurd (c.write_rows.ensures.volume is)
 
 pub returns-in-Err-clause-rows : goal.returns-in-Err-clause-rows
 returns-in-Err-clause-rows g c = λ w asked vt st over at there.
-    rows_fault_not (g.V.Volume.state c.args.vol.now).held (g.S.Source.files c.args.src.now) c.args.plan.now c.args.plan.now w (map (installed_row w) (map as_placed c.args.rows.now)) c.in-Err.error c.in-Err.ensures.fault
+    rows_fault_not (g.V.Volume.state c.args.vol.now).held (g.S.Source.files c.args.src.now) c.args.plan.now c.args.plan.now w (Vec Bool Global) (Unit {0}) (map (installed_row w) (map as_placed c.args.rows.now)) c.in-Err.error c.in-Err.ensures.fault

@@ -11,4 +11,4 @@ returns-in-Ok-None-clause-phase g c = λ w asked vt st over at there.
 
 pub returns-in-Ok-Some-clause-phase : goal.returns-in-Ok-Some-clause-phase
 returns-in-Ok-Some-clause-phase g c = λ w asked vt st over at there.
-    phase_same (g.V.Volume.state c.args.vol.now).held (g.S.Source.files c.args.src.now) c.args.plan.now c.args.plan.now w (map as_placed c.args.rows.now) c.in-Ok-Some.fault (c.requires.placed w asked) (rw c.in-Ok-Some.field-0-is at c.in-Ok-Some.ensures)
+    phase_same (g.V.Volume.state c.args.vol.now).held (g.S.Source.files c.args.src.now) c.args.plan.now c.args.plan.now w (Unit {0}) (map as_placed c.args.rows.now) c.in-Ok-Some.fault (c.requires.placed w asked) (rw c.in-Ok-Some.field-0-is at c.in-Ok-Some.ensures)

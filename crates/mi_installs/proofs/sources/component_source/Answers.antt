@@ -16,8 +16,8 @@ unfolding rows_in
 returns-in-Some g c = λ w asked.
     let q = c.args.component.now in
     let dirs = (g.E.Sees.choices c.args.seen.now).dirs in
-    let p = c.package.result.now in
-    let row = c.in-Some.ensures.value ∙ row_at_key (λ (r : ComponentRow). r.component) p.component.entries q c.keys_stand.ensures.component ∙ ap (λ (p : Package). row_of (λ (r : ComponentRow). r.component) (rows_in p).component q) c.package.ensures in
+    let p = c.package-loaded.result.now in
+    let row = c.in-Some.ensures.value ∙ row_at_key (λ (r : ComponentRow). r.component) p.component.entries q c.keys_stand.ensures.component ∙ ap (λ (p : Package). row_of (λ (r : ComponentRow). r.component) (rows_in p).component q) c.package-loaded.ensures in
     let is = ap (λ (d : List ℕ). unwrap_or (source_of dirs d) []) c.as_str.ensures ∙ source_of_component (g.E.Env.lookups c.args.seen.now) (g.E.Sees.choices c.args.seen.now) (g.E.Sees.rows c.args.seen.now) w asked q _ row in
     subst (λ (x : List ℕ). IfOk c.directory_source.result (λ folder. folder ≡ x)) is c.directory_source.ensures
 
@@ -25,6 +25,6 @@ pub returns-in-None : goal.returns-in-None
 unfolding rows_in
 returns-in-None g c = λ w asked.
     let q = c.args.component.now in
-    let p = c.package.result.now in
-    let row = c.in-None.ensures.value ∙ row_at_key (λ (r : ComponentRow). r.component) p.component.entries q c.keys_stand.ensures.component ∙ ap (λ (p : Package). row_of (λ (r : ComponentRow). r.component) (rows_in p).component q) c.package.ensures in
+    let p = c.package-loaded.result.now in
+    let row = c.in-None.ensures.value ∙ row_at_key (λ (r : ComponentRow). r.component) p.component.entries q c.keys_stand.ensures.component ∙ ap (λ (p : Package). row_of (λ (r : ComponentRow). r.component) (rows_in p).component q) c.package-loaded.ensures in
     c.new.ensures ∙ source_of_component (g.E.Env.lookups c.args.seen.now) (g.E.Sees.choices c.args.seen.now) (g.E.Sees.rows c.args.seen.now) w asked q _ row

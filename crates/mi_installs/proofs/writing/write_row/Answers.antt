@@ -4,6 +4,7 @@ use Rattle.std.specs.Prelude.{Ok, Err}
 use Rattle.std.specs.FinMap.{get}
 use Rattle.mi_model.specs.InstallFiles.{source_bytes, right_file, installed_file, file_with_parents}
 use Rattle.mi_model.specs.Refusals.{◌>>=◌}
+use Rattle.mi_installs.specs.Installs.{written_row}
 use Rattle.mi_installs.specs.Placings.{as_placed}
 use Rattle.mi_installs.proofs.InstallLemmas.{right_found, bytes_of_source, row_made, row_refused}
 use Rattle.mi_installs.proofs.writing.write_row.Goals as goal
@@ -16,7 +17,7 @@ returns-in_ok-copy_row-in-Ok-clause-row g c = λ held w asked told over.
     let path = c.as_str-at.ensures ∙ c.in_ok-path.ensures w asked in
     let finds = c.in-Ok.ensures.finds told in
     let found = right_found p.row.now (get files at) finds.0 finds.1 in
-    row_made held files c.args.plan.now c.copy_row.new.plan (λ m. source_bytes w p.row.now >>= λ bytes. Ok (file_with_parents (installed_file w (as_placed p) bytes))) (source_bytes w p.row.now) finds.0 (λ bytes. file_with_parents (installed_file w (as_placed p) bytes)) tt refl
+    row_made held files c.args.plan.now c.copy_row.new.plan (written_row w (as_placed p)) (source_bytes w p.row.now) finds.0 (λ bytes. file_with_parents (installed_file w (as_placed p) bytes)) tt refl
     (bytes_of_source w p.row.now files at over path ∙ finds.1) (c.in_ok-copy_row-in-Ok.ensures.makes held files w finds.0 (asked.moment ∙ sym c.moment.ensures) found.there)
 
 pub returns-in_ok-copy_row-in-Ok-clause-there : goal.returns-in_ok-copy_row-in-Ok-clause-there
@@ -39,5 +40,5 @@ returns-in-Err-clause-row g c = λ held w asked told over.
     let files = g.S.Source.files c.args.src.now in
     let at = c.as_str-at.result.now in
     let path = c.as_str-at.ensures ∙ c.in_ok-path.ensures w asked in
-    row_refused held files c.args.plan.now c.args.plan.now {A = Unit {0}} (λ m. source_bytes w p.row.now >>= λ bytes. Ok (file_with_parents (installed_file w (as_placed p) bytes))) (right_file p.row.now (get files at)) (λ bytes. Ok (file_with_parents (installed_file w (as_placed p) bytes))) c.in-Err.error
+    row_refused held files c.args.plan.now c.args.plan.now {A = Unit {0}} (written_row w (as_placed p)) (right_file p.row.now (get files at)) (λ bytes. Ok (file_with_parents (installed_file w (as_placed p) bytes))) c.in-Err.error
     (ap (λ r. r >>= λ bytes. Ok (file_with_parents (installed_file w (as_placed p) bytes))) (bytes_of_source w p.row.now files at over path)) (c.in-Err.ensures.finds told)
