@@ -82,11 +82,11 @@ size_wrong r bytes found is other =
     differ : (a b : ℕ) → a ≢ b → (a == b) ≡ false
     differ a b e = grind (arith, nat_tests)
 
-pub finds_not : {A B : Type 0} (does : Result B Fault) (f : Fault) (e : InstallError) → does ≡ Err f → Refuses f e → Finds {A = A} does (Err e)
-finds_not does f error.NoMemory is refused = tt
-finds_not does f (error.Fault g) is refused = is ∙ ap Err (sym refused)
-finds_not does f error.Source is refused = tt
-finds_not does f error.Volume is refused = refused
+pub finds_not : (A : Type 0) {B : Type 0} (does : Result B Fault) (f : Fault) (e : InstallError) → does ≡ Err f → Refuses f e → Finds {A = A} does (Err e)
+finds_not A does f error.NoMemory is refused = tt
+finds_not A does f (error.Fault g) is refused = is ∙ ap Err (sym refused)
+finds_not A does f error.Source is refused = tt
+finds_not A does f error.Volume is refused = refused
 
 -- it is no device's error
 pub no_source : {A : Type 0} (f : Fault) (e : InstallError) → Refuses f e → ¬ IsErrOf {T = A} (Err e) error.Source
@@ -144,12 +144,12 @@ module _ (held : Map (List ℕ)) (files : Files) (a b : Plan) where
   }
 
   -- a row whose bytes are refused
-  pub row_refused : {A B : Type 0} (effect : RowEffect) (does : Result (List ℕ) Fault) (next : List ℕ → Result (List (Touch Entry)) Fault) (e : InstallError) → effect (plan_machine held files a) ≡ (does >>= next)
+  pub row_refused : (A B : Type 0) (effect : RowEffect) (does : Result (List ℕ) Fault) (next : List ℕ → Result (List (Touch Entry)) Fault) (e : InstallError) → effect (plan_machine held files a) ≡ (does >>= next)
       → Finds {A = A} does (Err e) → InstallRow held files a b {A = B} effect (Err e)
-  row_refused effect does next error.NoMemory is finds = tt
-  row_refused effect does next (error.Fault f) is finds = is ∙ ap (λ (r : Result (List ℕ) Fault). r >>= next) finds
-  row_refused effect does next error.Source is finds = tt
-  row_refused effect does next error.Volume is finds = absurd finds
+  row_refused A B effect does next error.NoMemory is finds = tt
+  row_refused A B effect does next (error.Fault f) is finds = is ∙ ap (λ (r : Result (List ℕ) Fault). r >>= next) finds
+  row_refused A B effect does next error.Source is finds = tt
+  row_refused A B effect does next error.Volume is finds = absurd finds
 
   -- a row that does as another one
   pub row_as : {A : Type 0} (x y : RowEffect) (r : Result A InstallError) → y (plan_machine held files a) ≡ x (plan_machine held files a) → InstallRow held files a b x r → InstallRow held files a b y r

@@ -1,6 +1,6 @@
 -- InstallFiles as a phase.
 use Rattle.std.proofs.Common.{◌≡◌, ℕ, ◌<◌, ◌≤◌, ◌-◌, ◌^◌, List, [], ◌∷◌, map, Option, Some, None, refl, sym, ap, ◌∙◌, subst, arith}
-use Rattle.std.specs.Prelude.{Result, Ok, Err, OnOk}
+use Rattle.std.specs.Prelude.{Result, Ok, Err, OnOk, IsErrOf}
 use Rattle.mi_text.specs.Maps.{Map}
 use Rattle.mi_base.specs.declared.answers.Fault.{Fault}
 use Rattle.mi_source.specs.Counts as source
@@ -56,7 +56,7 @@ module _ (held : Map (List ℕ)) (files : Files) (a b : Plan) (w : World) where
   phase_path C seen (planned.Fault f) told = refused_by w f (effect_path w f told)
 
   -- deciding is refused by no row
-  pub rows_fault_not : (A B : Type 0) (effects : List RowEffect) (e : InstallError) → ((f : Fault) → ¬ (Err {T = A} e ≡ Err (error.Fault f))) → InstallRows held files a b {A = B} effects (Err e)
+  pub rows_fault_not : (A B : Type 0) (effects : List RowEffect) (e : InstallError) → ((f : Fault) → ¬ IsErrOf {T = A} (Err e) (error.Fault f)) → InstallRows held files a b {A = B} effects (Err e)
   rows_fault_not A B effects error.NoMemory none = tt
   rows_fault_not A B effects (error.Fault f) none = absurd (none f refl)
   rows_fault_not A B effects error.Source none = tt
@@ -77,6 +77,6 @@ reads_on told s t files mid new n m k first stays counts = record { looks = firs
 pub rose_since : (before middle after : ℕ) → before ≤ middle → source.Rose middle after → source.Rose before after
 rose_since before middle after le rose = record { rose = λ small. let above = rose.rose small in omega arith }
 
-pub on_then : {A E : Type 0} {X Y : Type 0} (r : Result A E) → X → OnOk r (X → Y) → OnOk r Y
-on_then (Ok done) x then = then x
-on_then (Err e) x then = tt
+pub on_then : {A E : Type 0} (X Y : Type 0) (r : Result A E) → X → OnOk r (X → Y) → OnOk r Y
+on_then X Y (Ok done) x then = then x
+on_then X Y (Err e) x then = tt

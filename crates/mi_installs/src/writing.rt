@@ -3,6 +3,7 @@
 ghost use Rattle.std.specs.Prelude.{◌≡◌, ◌≤◌, List, ℕ, All, OnOk, IsErrOf, map, length};
 ghost use Rattle.mi_text.specs.Maps.{Map};
 ghost use Rattle.mi_model.specs.World.{World};
+ghost use Rattle.mi_model.specs.FilePaths.{source_path};
 ghost use Rattle.mi_model.specs.FileVersions.{is_written};
 ghost use Rattle.mi_model.specs.InstallFiles.{installed_row};
 ghost use Rattle.mi_schema.specs.Lawful.{IsLawful};
@@ -21,7 +22,37 @@ use mi_source::Source;
 use mi_steps::Plan;
 use std::alloc::Global;
 
-// Carries out a row that is written: its file of the source is judged, then copied.
+// Carries out a row that is written, from this path of the source: its file there is judged, then copied.
+#[tactic(auto, using(crate::proofs::InstallLemmas::grown_not))]
+fn write_from<S: Source>(
+    alloc: Global,
+    placed: &Placed<'_>,
+    moment: u64,
+    path: &str,
+    plan: &mut Plan,
+    src: &mut S,
+) -> Result<(), InstallError>
+    requires path { HasFilePath placed.now }
+    requires languages { HasLanguages placed.now }
+    ensures row { (held : Map (List ℕ)) (w : World) → w.given.now ≡ moment → path.now ≡ source_path w placed.now.row.now → S.told → w.given.files ≡ S.files src.old → InstallRow held (S.files src.old) plan.old plan.new (written_row w (as_placed placed.now)) result }
+    ensures there { (held : Map (List ℕ)) → S.told → OnOk result (StaysThere held (S.files src.old) plan.old plan.new) }
+    ensures lengths { S.told → OnOk result (AddsWhole (S.files src.old) plan.old.script plan.new.script) }
+    ensures source { IsErrOf result InstallError.Source → Rose (S.faults src.old) (S.faults src.new) }
+    ensures volume { ¬ IsErrOf result InstallError.Volume }
+    ensures stays { S.files src.new ≡ S.files src.old }
+    ensures counts { S.faults src.old ≤ S.faults src.new }
+    ensures grows { GrowsOn plan.old plan.new }
+{
+    match judge_source(alloc, src, placed.row, path) {
+        Ok(()) => {
+            copy_row(alloc, placed, moment, path, plan)?;
+            Ok(())
+        }
+        Err(error) => Err(error),
+    }
+}
+
+// Carries out a row that is written.
 #[tactic(auto, using(crate::proofs::InstallLemmas::grown_not))]
 fn write_row<E: Sees, S: Source>(
     alloc: Global,
@@ -43,14 +74,7 @@ fn write_row<E: Sees, S: Source>(
     ensures grows { GrowsOn plan.old plan.new }
 {
     let path = source_path(alloc, seen, placed.row)?;
-    let at = path.as_str();
-    match judge_source(alloc, src, placed.row, at) {
-        Ok(()) => {
-            copy_row(alloc, placed, seen.moment(), at, plan)?;
-            Ok(())
-        }
-        Err(error) => Err(error),
-    }
+    write_from(alloc, placed, seen.moment(), path.as_str(), plan, src)
 }
 
 // Carries out a row, if it is written.

@@ -14,7 +14,7 @@ pub install_placed-requires-clause-placed : goal.install_placed-requires-clause-
 install_placed-requires-clause-placed g c = λ w asked. c.in-Ok.ensures.placed w asked ∙ ap (λ (ps : List Placed). Ok (map as_placed ps)) (sym c.as_slice.ensures.value)
 
 pub returns-in-Ok-clause-there : goal.returns-in-Ok-clause-there
-returns-in-Ok-clause-there g c = λ vt st there. on_then c.install_placed.result there (c.install_placed.ensures.there st)
+returns-in-Ok-clause-there g c = λ vt st there. on_then _ _ c.install_placed.result there (c.install_placed.ensures.there st)
 
 pub returns-in-Err-clause-phase : goal.returns-in-Err-clause-phase
 returns-in-Err-clause-phase g c = λ w asked vt st over at there.

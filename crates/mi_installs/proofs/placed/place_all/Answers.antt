@@ -1,6 +1,7 @@
 -- Row by row.
 use Rattle.std.proofs.Common.{◌≡◌, List, ℕ, [], ◌∷◌, ◌++◌, map, take, refl, sym, ap, subst, ◌∙◌, arith}
-use Rattle.std.specs.Prelude.{Ok, Err, All}
+use Rattle.std.specs.Prelude.{Ok, Err, All, Vec}
+use Rattle.std.specs.declared.alloc.Global.{Global}
 use Rattle.std.proofs.lemmas.List.{map-append}
 use Rattle.std.proofs.lemmas.List.Elements.{All-from_recursion, All-push}
 use Rattle.mi_model.specs.InstallFiles as model
@@ -26,9 +27,9 @@ loop-row-preserved g c =
     record {
       each = λ w asked.
           each_more (placed w) as_numbered c.args.rows.now c.loop-row.row-index c.row-item.result c.loop-row-test.true c.row-item.is (map as_placed before) (c.loop-row.invariant.each w asked) (as_placed one) (c.in-Ok.ensures.placed w asked)
-          ∙ ap Ok (sym (map-append as_placed before (one ∷ [])) ∙ ap (map as_placed) (sym c.in_ok-push.ensures));
-      files = subst (λ (ps : List Placed). All HasFilePath ps) (sym c.in_ok-push.ensures) (All-push HasFilePath before one c.loop-row.invariant.files c.in-Ok.ensures.file);
-      languages = subst (λ (ps : List Placed). All HasLanguages ps) (sym c.in_ok-push.ensures) (All-push HasLanguages before one c.loop-row.invariant.languages c.in-Ok.ensures.languages);
+          ∙ ap Ok (sym (map-append as_placed before (one ∷ [])) ∙ ap (map as_placed) (sym c.in_ok-push-in-Ok.ensures));
+      files = subst (λ (ps : List Placed). All HasFilePath ps) (sym c.in_ok-push-in-Ok.ensures) (All-push HasFilePath before one c.loop-row.invariant.files c.in-Ok.ensures.file);
+      languages = subst (λ (ps : List Placed). All HasLanguages ps) (sym c.in_ok-push-in-Ok.ensures) (All-push HasLanguages before one c.loop-row.invariant.languages c.in-Ok.ensures.languages);
     }
 
 pub returns-clause-placed : goal.returns-clause-placed
@@ -37,6 +38,6 @@ returns-clause-placed g c = λ w asked.
 
 pub returns-in-Err-clause-placed : goal.returns-in-Err-clause-placed
 returns-in-Err-clause-placed g c = λ w asked.
-    told_refused as_placed _ (placed w (as_numbered c.row-item.result)) (each (placed w) (map as_numbered c.args.rows.now)) c.in-Err.error
+    told_refused {A = Placed} {C = Vec Placed Global} as_placed (λ (ps : Vec Placed Global). map as_placed ps.items) (placed w (as_numbered c.row-item.result)) (each (placed w) (map as_numbered c.args.rows.now)) c.in-Err.error
     (λ f. each_refused (placed w) as_numbered c.args.rows.now c.loop-row.row-index c.row-item.result c.loop-row-test.true c.row-item.is (map as_placed c.loop-row.placed.items) (c.loop-row.invariant.each w asked) f)
     (c.in-Err.ensures.placed w asked)

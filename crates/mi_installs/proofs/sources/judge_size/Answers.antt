@@ -10,7 +10,7 @@ returns-then-found-stated_size-clause-finds c = λ bytes is. (bytes, size_right 
 
 pub returns-else-found-stated_size-clause-finds : goal.returns-else-found-stated_size-clause-finds
 returns-else-found-stated_size-clause-finds c = λ bytes is.
-    finds_not (right_size c.args.row.now bytes) (SizeDiffers c.args.row.now.file (stated_size c.args.row.now) c.args.found) c.differs.result
+    finds_not (Unit {0}) (right_size c.args.row.now bytes) (SizeDiffers c.args.row.now.file (stated_size c.args.row.now) c.args.found) c.differs.result
     (size_wrong c.args.row.now bytes c.args.found is (λ e. c.if-found-stated_size.false (e ∙ sym c.stated_size.ensures))) c.differs.ensures
 
 pub returns-else-found-stated_size-clause-source : goal.returns-else-found-stated_size-clause-source

@@ -7,7 +7,6 @@ use Rattle.mi_model.specs.InstallFiles.{installed_row}
 use Rattle.mi_steps.specs.Makes.{plan_machine}
 use Rattle.mi_steps.proofs.RowLemmas.{rows_started}
 use Rattle.mi_records.proofs.RowLemmas.{one_row, all_rows}
-use Rattle.mi_installs.specs.declared.error.InstallError.{InstallError}
 use Rattle.mi_installs.specs.declared.placed.Placed.{Placed}
 use Rattle.mi_installs.specs.Copying.{StaysThere, AddsWhole}
 use Rattle.mi_installs.specs.Installs.{InstallRow}
@@ -35,7 +34,7 @@ loop-place-preserved g c =
     record {
       rows = λ held w asked told over is.
           let decided = decided_at (λ (p : Placed). is_written w p.row.now) c.args.decided.now c.args.rows.now c.loop-place.place p is c.loop-place-test.true c.index-rows-place.is in
-          let row = subst (λ (f : Files). InstallRow held f c.loop-place.plan c.write_decided.new.plan {A = Unit {0}} (installed_row w (as_placed p)) (Ok {E = InstallError} tt)) stays (c.in-Ok.ensures.row held w asked told (over ∙ sym stays) decided) in
+          let row = subst (λ (f : Files). InstallRow held f c.loop-place.plan c.write_decided.new.plan {A = Unit {0}} (installed_row w (as_placed p)) (Ok tt)) stays (c.in-Ok.ensures.row held w asked told (over ∙ sym stays) decided) in
           one_row (λ p. installed_row w (as_placed p)) c.args.rows.now c.loop-place.place p c.loop-place-test.true c.index-rows-place.is files (plan_machine held files c.args.plan.now) (plan_machine held files c.loop-place.plan) c.args.plan.now.script c.loop-place.plan.script (c.loop-place.invariant.rows held w asked told over is)
           (plan_machine held files c.write_decided.new.plan) c.write_decided.new.plan.script row.touches row.gives row.makes;
       there = λ held told there. subst (λ (f : Files). StaysThere held f c.loop-place.plan c.write_decided.new.plan) stays (c.in-Ok.ensures.there held told) (c.loop-place.invariant.there held told there);
