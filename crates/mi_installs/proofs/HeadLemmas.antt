@@ -18,7 +18,7 @@ use Rattle.mi_model.specs.FileVersions.{rising, version_of_row, languages_of_row
 use Rattle.mi_model.specs.InstallFiles.{attributes_of_row, installed_file}
 use Rattle.mi_installs.specs.declared.placed.Placed.{Placed}
 use Rattle.mi_installs.specs.Placings.{as_placed, HasFilePath, HaveLanguages, HasLanguages}
-use Rattle.mi_installs.proofs.RisingLemmas.{rising-rises, rising-few}
+use Rattle.mi_installs.proofs.LanguageLemmas.{rising-rises, rising-few}
 use Rattle.mi_text.specs.Path.{is_file_path}
 
 -- ---- languages

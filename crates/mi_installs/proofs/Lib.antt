@@ -1,8 +1,8 @@
 pub mod HeadLemmas
 pub mod InstallLemmas
+pub mod LanguageLemmas
 pub mod LengthLemmas
 pub mod PhaseLemmas
-pub mod PlaceLemmas
-pub mod RisingLemmas
+pub mod PlacedLemmas
 pub mod SourceLemmas
 pub mod TargetLemmas

@@ -8,7 +8,7 @@ use Rattle.mi_schema.specs.TableRows.{in_key_order}
 use Rattle.mi_records.specs.Order.{as_numbered}
 use Rattle.mi_records.proofs.PhaseLemmas.{all_picked}
 use Rattle.mi_installs.specs.Placings.{HaveLanguages}
-use Rattle.mi_installs.proofs.PlaceLemmas.{coming_are}
+use Rattle.mi_installs.proofs.PlacedLemmas.{coming_are}
 use Rattle.mi_installs.proofs.placed.coming_rows.Goals as goal
 
 pub returns-clause-rows : goal.returns-clause-rows

@@ -6,7 +6,7 @@ use Rattle.mi_model.specs.InstallFiles.{placed}
 use Rattle.mi_records.specs.Order.{as_numbered}
 use Rattle.mi_installs.specs.declared.placed.Placed.{Placed}
 use Rattle.mi_installs.specs.Placings.{as_placed}
-use Rattle.mi_installs.proofs.PlaceLemmas.{placed_some, placed_none, refused_told}
+use Rattle.mi_installs.proofs.PlacedLemmas.{placed_some, placed_none, refused_told}
 use Rattle.mi_installs.proofs.placed.place.Goals as goal
 
 pub returns-in-Ok-Some-clause-placed : goal.returns-in-Ok-Some-clause-placed

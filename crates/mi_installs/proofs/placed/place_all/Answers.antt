@@ -10,7 +10,7 @@ use Rattle.mi_model.specs.Refusals.{each}
 use Rattle.mi_records.specs.Order.{as_numbered}
 use Rattle.mi_installs.specs.declared.placed.Placed.{Placed}
 use Rattle.mi_installs.specs.Placings.{as_placed, HasFilePath, HasLanguages}
-use Rattle.mi_installs.proofs.PlaceLemmas.{each_more, each_refused, each_all, told_refused}
+use Rattle.mi_installs.proofs.PlacedLemmas.{each_more, each_refused, each_all, told_refused}
 use Rattle.mi_installs.proofs.placed.place_all.Goals as goal
 
 pub loop-row-init : goal.loop-row-init

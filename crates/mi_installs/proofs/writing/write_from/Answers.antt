@@ -16,7 +16,7 @@ returns-in_ok-copy_row-in-Ok-clause-row g c = λ held w now path told over.
     let at = c.args.path.now in
     let finds = c.in-Ok.ensures.finds told in
     let found = right_found p.row.now (get files at) finds.0 finds.1 in
-    row_made {A = Unit {0}} held files c.args.plan.now c.copy_row.new.plan (written_row w (as_placed p)) (source_bytes w p.row.now) finds.0 (λ bytes. file_with_parents (installed_file w (as_placed p) bytes)) tt refl
+    row_made held files c.args.plan.now c.copy_row.new.plan {A = Unit {0}} (written_row w (as_placed p)) (source_bytes w p.row.now) finds.0 (λ bytes. file_with_parents (installed_file w (as_placed p) bytes)) tt refl
     (bytes_of_source w p.row.now files at over path ∙ finds.1) (c.in_ok-copy_row-in-Ok.ensures.makes held files w finds.0 now found.there)
 
 pub returns-in_ok-copy_row-in-Ok-clause-there : goal.returns-in_ok-copy_row-in-Ok-clause-there

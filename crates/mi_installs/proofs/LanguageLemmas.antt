@@ -1,4 +1,4 @@
--- Numbers in order, each once.
+-- Numbers in order, each once, rise, and are no more than there were.
 use Rattle.std.proofs.Common.{◌≡◌, ℕ, suc, ◌+◌, ◌<◌, ◌≤◌, Bool, true, false, cond, T, List, [], ◌∷◌, ◌++◌, map, length, Option, Some, None, refl, sym, ap, ◌∙◌, subst, arith}
 use Rattle.std.specs.Prelude.{nat_lt, ◌&&◌, is_some}
 use Rattle.std.specs.Ordering.{nat_cmp, is_lt, eq_by_cmp, match_ordering}
@@ -19,55 +19,6 @@ as_entry n = (n, tt {0})
 
 abbrev of_numbers : List ℕ → Set
 of_numbers ns = from_entries (map as_entry ns)
-
--- ---- one number more
-
-find-push : (es : List (ℕ × Unit {0})) (n q : ℕ) → find nat_cmp q (es ++ as_entry n ∷ []) ≡ cond (eq_by_cmp nat_cmp q n) (Some tt) (find nat_cmp q es)
-find-push [] n q = refl
-find-push (e ∷ es) n q =
-    ap (cond (eq_by_cmp nat_cmp q e.0) (Some e.1)) (find-push es n q)
-    ∙ swapped (eq_by_cmp nat_cmp q e.0) (eq_by_cmp nat_cmp q n) (find nat_cmp q es)
-  where
-    swapped : (a b : Bool) (o : Option (Unit {0})) → cond a (Some tt) (cond b (Some tt) o) ≡ cond b (Some tt) (cond a (Some tt) o)
-    swapped true true o = refl
-    swapped true false o = refl
-    swapped false b o = refl
-
-map-push : (ns : List ℕ) (n : ℕ) → map as_entry (ns ++ n ∷ []) ≡ map as_entry ns ++ as_entry n ∷ []
-map-push [] n = refl
-map-push (m ∷ ns) n = ap (λ (es : List (ℕ × Unit {0})). as_entry m ∷ es) (map-push ns n)
-
-pushed : (ns : List ℕ) (n : ℕ) → of_numbers (ns ++ n ∷ []) ≡ insert (of_numbers ns) n tt
-pushed ns n = same_map nat_cmp_total nat_cmp-IsAntisymmetric _ _ (λ q.
-    get-from_entries nat_cmp_total (map as_entry (ns ++ n ∷ [])) q
-    ∙ ap (find nat_cmp q) (map-push ns n)
-    ∙ find-push (map as_entry ns) n q
-    ∙ ap (cond (eq_by_cmp nat_cmp q n) (Some tt)) (sym (get-from_entries nat_cmp_total (map as_entry ns) q))
-    ∙ sym (get-insert nat_cmp_total (of_numbers ns) n tt q))
-
-first : List (ℕ × Unit {0}) → List ℕ
-first es = map (λ (e : ℕ × Unit {0}). e.0) es
-
-keys-put : (n : ℕ) (es : List (ℕ × Unit {0})) → map (λ (e : ℕ × Unit {0}). e.0) (put nat_cmp n tt es) ≡ insert_key nat_cmp (map (λ (e : ℕ × Unit {0}). e.0) es) n
-keys-put n [] = refl
-keys-put n (e ∷ es) = elim (nat_cmp n e.0) as (λ o. map (λ (e : ℕ × Unit {0}). e.0) (match_ordering o ((n, tt) ∷ e ∷ es) ((e.0, tt) ∷ es) (e ∷ put nat_cmp n tt es)) ≡ match_ordering o (n ∷ e.0 ∷ map (λ (e : ℕ × Unit {0}). e.0) es) (e.0 ∷ map (λ (e : ℕ × Unit {0}). e.0) es) (e.0 ∷ insert_key nat_cmp (map (λ (e : ℕ × Unit {0}). e.0) es) n)) [
-  | Less ↦ refl
-  | Equal ↦ refl
-  | Greater ↦ ap (λ (ks : List ℕ). e.0 ∷ ks) (keys-put n es)
-]
-
-no_entries : (es : List (ℕ × Unit {0})) → length es ≡ 0 → es ≡ []
-no_entries [] e = refl
-no_entries (x ∷ es) e = absurd (omega arith)
-
-pub rising-none : rising [] ≡ []
-rising-none = ap (λ (es : List (ℕ × Unit {0})). map (λ (e : ℕ × Unit {0}). e.0) es) (no_entries (entries (of_numbers [])) (sym (len-entries (of_numbers [])) ∙ len-empty nat_cmp (Unit {0})))
-
-pub rising-push : (ns : List ℕ) (n : ℕ) → rising (ns ++ n ∷ []) ≡ insert_key nat_cmp (rising ns) n
-rising-push ns n =
-    ap (λ (m : Set). map (λ (e : ℕ × Unit {0}). e.0) (entries m)) (pushed ns n)
-    ∙ ap (λ (es : List (ℕ × Unit {0})). map (λ (e : ℕ × Unit {0}). e.0) es) (entries-insert nat_cmp_total (of_numbers ns) n tt)
-    ∙ keys-put n (entries (of_numbers ns))
 
 -- ---- they rise
 
