@@ -1,11 +1,16 @@
 -- Numbers that are gathered in a set: each once and in order.
-use Rattle.std.proofs.Common.{◌≡◌, ℕ, Bool, true, false, cond, List, [], ◌∷◌, ◌++◌, map, Option, Some, None, refl, sym, ap, ◌∙◌}
+use Rattle.std.proofs.Common.{◌≡◌, ℕ, ◌+◌, ◌<◌, Bor, length, take, get_or, Bool, true, false, cond, List, [], ◌∷◌, ◌++◌, map, Option, Some, None, refl, sym, ap, ◌∙◌}
+use Rattle.std.specs.List.{filter_map, cons_option}
+use Rattle.std.proofs.lemmas.List.{append-nil}
+use Rattle.std.proofs.lemmas.List.Elements.{filter_map-append}
 use Rattle.std.specs.Ordering.{nat_cmp, eq_by_cmp, match_ordering}
 use Rattle.std.specs.declared.cmp.Ordering.TheVariants.{Less, Equal, Greater}
 use Rattle.std.specs.FinMap.{FinMap, get, insert, keys, entries, from_entries, same_map, nat_cmp-IsAntisymmetric, get-from_entries, get-insert, entries-insert}
 use Rattle.std.specs.FinMap.Entries.{find, put, by_order}
 use Rattle.std.specs.Cmp.{nat_cmp_total}
+use Rattle.mi_schema.proofs.ListLemmas.{map_done_item}
 use Rattle.mi_model.specs.FileVersions.{rising}
+use Rattle.mi_installs.specs.Languages.{with_number}
 use Rattle.std.specs.BTreeSet.{insert_key}
 
 abbrev marks : List ℕ → List (ℕ × Unit {0})
@@ -39,3 +44,16 @@ rising_more ns n =
     ap keys (one_more ns n)
     ∙ ap (map (λ (e : ℕ × Unit {0}). e.0)) (entries-insert nat_cmp_total (from_entries {R = nat_cmp} (marks ns)) n tt)
     ∙ keys_put n tt (entries (from_entries {R = nat_cmp} (marks ns)))
+
+-- the number of one text more, where it spells one
+module _ (f : List ℕ → Option ℕ) where
+  mapped_more : (xs : List (List ℕ)) (x : List ℕ) → rising (filter_map f (xs ++ x ∷ [])) ≡ with_number (rising (filter_map f xs)) (f x)
+  mapped_more xs x = ap rising (filter_map-append f xs (x ∷ [])) ∙ by (f x)
+    where
+      by : (o : Option ℕ) → rising (filter_map f xs ++ cons_option o []) ≡ with_number (rising (filter_map f xs)) o
+      by None = ap rising (append-nil (filter_map f xs))
+      by (Some n) = rising_more (filter_map f xs) n
+
+  pub rising_next : (parts : List (Bor (List ℕ))) (i : ℕ) (part : Bor (List ℕ)) → part ≡ get_or parts i part → i < length parts
+      → rising (filter_map f (take (i + 1) (map (λ b. b.now) parts))) ≡ with_number (rising (filter_map f (take i (map (λ b. b.now) parts)))) (f part.now)
+  rising_next parts i part is lt = ap (λ (ts : List (List ℕ)). rising (filter_map f ts)) (map_done_item (λ (b : Bor (List ℕ)). b.now) parts i part is lt) ∙ mapped_more (take i (map (λ b. b.now) parts)) part.now
