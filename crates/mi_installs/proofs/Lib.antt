@@ -1,3 +1,4 @@
+pub mod CallLemmas
 pub mod DecideLemmas
 pub mod EachLemmas
 pub mod FilledLemmas

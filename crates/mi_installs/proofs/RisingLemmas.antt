@@ -1,11 +1,11 @@
 -- Numbers that are gathered in a set: each once and in order.
-use Rattle.std.proofs.Common.{◌≡◌, ℕ, ◌+◌, ◌<◌, Bor, length, take, get_or, Bool, true, false, cond, List, [], ◌∷◌, ◌++◌, map, Option, Some, None, refl, sym, ap, ◌∙◌}
+use Rattle.std.proofs.Common.{◌≡◌, ℕ, ◌+◌, ◌<◌, Bor, length, take, get_or, arith, Bool, true, false, cond, List, [], ◌∷◌, ◌++◌, map, Option, Some, None, refl, sym, ap, ◌∙◌}
 use Rattle.std.specs.List.{filter_map, cons_option}
-use Rattle.std.proofs.lemmas.List.{append-nil}
+use Rattle.std.proofs.lemmas.List.{append-nil, get_or_default}
 use Rattle.std.proofs.lemmas.List.Elements.{filter_map-append}
 use Rattle.std.specs.Ordering.{nat_cmp, eq_by_cmp, match_ordering}
 use Rattle.std.specs.declared.cmp.Ordering.TheVariants.{Less, Equal, Greater}
-use Rattle.std.specs.FinMap.{FinMap, get, insert, keys, entries, from_entries, same_map, nat_cmp-IsAntisymmetric, get-from_entries, get-insert, entries-insert}
+use Rattle.std.specs.FinMap.{FinMap, get, insert, keys, entries, from_entries, same_map, nat_cmp-IsAntisymmetric, get-from_entries, get-insert, entries-insert, len-entries, len-empty}
 use Rattle.std.specs.FinMap.Entries.{find, put, by_order}
 use Rattle.std.specs.Cmp.{nat_cmp_total}
 use Rattle.mi_schema.proofs.ListLemmas.{map_done_item}
@@ -57,3 +57,16 @@ module _ (f : List ℕ → Option ℕ) where
   pub rising_next : (parts : List (Bor (List ℕ))) (i : ℕ) (part : Bor (List ℕ)) → part ≡ get_or parts i part → i < length parts
       → rising (filter_map f (take (i + 1) (map (λ b. b.now) parts))) ≡ with_number (rising (filter_map f (take i (map (λ b. b.now) parts)))) (f part.now)
   rising_next parts i part is lt = ap (λ (ts : List (List ℕ)). rising (filter_map f ts)) (map_done_item (λ (b : Bor (List ℕ)). b.now) parts i part is lt) ∙ mapped_more (take i (map (λ b. b.now) parts)) part.now
+
+  -- the same by what a call has made of the numbers
+  pub numbers_step : (parts : List (Bor (List ℕ))) (i : ℕ) (d : Bor (List ℕ)) (old new : List ℕ) → i < length parts → new ≡ with_number old (f (get_or parts i d).now) → old ≡ rising (filter_map f (take i (map (λ b. b.now) parts)))
+      → new ≡ rising (filter_map f (take (i + 1) (map (λ b. b.now) parts)))
+  numbers_step parts i d old new lt made so =
+      made ∙ ap (λ (ns : List ℕ). with_number ns (f (get_or parts i d).now)) so ∙ sym (rising_next parts i (get_or parts i d) (get_or_default parts i d (get_or parts i d) lt) lt)
+
+of_length : {X : Type 0} (xs : List X) → length xs ≡ 0 → xs ≡ []
+of_length [] e = refl
+of_length (x ∷ xs) e = absurd (omega arith)
+
+pub rising_none : rising [] ≡ []
+rising_none = ap (map (λ (e : ℕ × Unit {0}). e.0)) (of_length (entries (from_entries {R = nat_cmp} (marks []))) (sym (len-entries (from_entries {R = nat_cmp} (marks []))) ∙ len-empty nat_cmp (Unit {0})))

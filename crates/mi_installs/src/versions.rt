@@ -85,7 +85,7 @@ pub(crate) fn attributes_of_row(row: &FileRow) -> u32
     ensures { result ≡ attributes_of_row row.now }
 {
     match row.attributes {
-        Some(attributes) => attributes as u32 & 7,
+        Some(attributes) => attributes.cast_unsigned() & 7,
         None => 0,
     }
 }

@@ -14,7 +14,7 @@ invariant-loop-placed g l =
     let files = g.S.Source.files in
     record {
       called : (w : World) → IsSeenOver (g.E.Env.lookups l.seen) (g.E.Sees.choices l.seen) (g.E.Sees.rows l.seen) (state l.initial.vol).held (files l.initial.src) l.image w → g.V.Volume.told → g.S.Source.told
-          → All (λ (p : Placed). path_of_row w p.row.now ≡ Some p.path) l.rows → l.called.items ≡ map (λ (p : Placed). is_called_for w p.row.now) (take l.placed-index l.rows);
+          → All (λ (p : Placed). path_of_row w p.row.now ≡ Some p.path) l.rows → l.called.items ≡ take l.placed-index (map (λ (p : Placed). is_called_for w p.row.now) l.rows);
       size : length l.called.items ≡ l.placed-index;
       reads : Reads g.V.Volume.told (state l.initial.vol) (state l.vol) (files l.initial.src) (files l.src) (g.S.Source.faults l.initial.src) (g.S.Source.faults l.src);
     }
