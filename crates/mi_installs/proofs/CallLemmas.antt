@@ -1,5 +1,5 @@
 -- What a row by itself asks for, by what was looked up.
-use Rattle.std.proofs.Common.{◌≡◌, ◌≤◌, ℕ, Bool, Bor, true, false, cond, List, map, Option, Some, None, refl, sym, ap, subst, ◌∙◌, arith}
+use Rattle.std.proofs.Common.{◌≡◌, ◌≤◌, ℕ, Bool, Bor, true, false, not, cond, List, map, Option, Some, None, refl, sym, ap, subst, ◌∙◌, arith}
 use Rattle.std.specs.Prelude.{option_map, option_and_then, is_some, is_none, unwrap_or, codes, All, Result, Ok, Err, IfOk}
 use Rattle.std.specs.Option.{option_map_or, option_copied}
 use Rattle.std.specs.Str.{bytes_eq}
@@ -118,6 +118,12 @@ module _ (w : World) (r : FileRow) (path : Text) (machine : Machine) (at : path_
 pub copied_none : {A : Type 0} (o : Option (Bor A)) → is_none (option_copied o) ≡ is_none o
 copied_none None = refl
 copied_none (Some b) = refl
+
+pub none_of : {A : Type 0} (o : Option A) (b : Bool) → is_some o ≡ not b → b ≡ is_none o
+none_of None true e = refl
+none_of None false e = cc
+none_of (Some x) true e = cc
+none_of (Some x) false e = refl
 
 -- the language that the package states
 pub language_is : (w : World) (p q : Package) (language : ℕ) → w.given.rows ≡ rows_in p → q ≡ p → language ≡ unwrap_or (number_within 65535 (table_value (rows_in q) (codes "ProductLanguage"))) 0 → language ≡ product_language w

@@ -1,7 +1,9 @@
 //! The hash that a package states of a row's file, and when the rules on versions look at it (MsiFileHash table; File Versioning
 //! Rules).
 
-ghost use Rattle.std.specs.Prelude.{◌≡◌, Some, ℕ, IfOk};
+ghost use Rattle.std.specs.Prelude.{◌≡◌, ◌∷◌, [], Some, ℕ, IfOk};
+ghost use Rattle.std.specs.Int.{w32, to_le_bytes};
+ghost use Rattle.std.specs.List.{flat_map};
 ghost use Rattle.std.specs.Option.{option_map};
 ghost use Rattle.std.specs.FinMap.{get};
 ghost use Rattle.std.specs.Str.{bytes_eq};
@@ -14,6 +16,7 @@ ghost use Rattle.mi_image.specs.Items.{AreThere, machine_over, bytes_of_file};
 ghost use Rattle.mi_schema.specs.Lawful.{IsLawful};
 ghost use Rattle.mi_schema.specs.RowsOf.{rows_in};
 ghost use Rattle.mi_schema.specs.TableRows.{row_of};
+ghost use Rattle.mi_schema.specs.Values.{bits_of};
 ghost use Rattle.mi_schema.specs.declared.typed_rows.FileRow.{FileRow};
 ghost use Rattle.mi_schema.specs.declared.typed_rows.MsiFileHashRow as hash_row;
 ghost use Rattle.mi_model.specs.World.{World};
@@ -34,17 +37,24 @@ use mi_source::Source;
 use mi_volume::Volume;
 use std::alloc::Global;
 
+// Two parts of a hash, each with its low byte first.
+fn two_parts(first: i32, second: i32) -> [u8; 8]
+    ensures { result ≡ flat_map (λ part. to_le_bytes w32 (bits_of part)) (first ∷ second ∷ []) }
+{
+    let a = first.to_le_bytes();
+    let b = second.to_le_bytes();
+    [a[0], a[1], a[2], a[3], b[0], b[1], b[2], b[3]]
+}
+
 // The four parts of a row's hash, each with its low byte first.
 fn hash_in(row: &MsiFileHashRow) -> [u8; 16]
     ensures { result ≡ hash_bytes row.now }
 {
-    let a = row.hash_part1.to_le_bytes();
-    let b = row.hash_part2.to_le_bytes();
-    let c = row.hash_part3.to_le_bytes();
-    let d = row.hash_part4.to_le_bytes();
+    let a = two_parts(row.hash_part1, row.hash_part2);
+    let b = two_parts(row.hash_part3, row.hash_part4);
     [
-        a[0], a[1], a[2], a[3], b[0], b[1], b[2], b[3], c[0], c[1], c[2], c[3], d[0], d[1], d[2],
-        d[3],
+        a[0], a[1], a[2], a[3], a[4], a[5], a[6], a[7], b[0], b[1], b[2], b[3], b[4], b[5], b[6],
+        b[7],
     ]
 }
 

@@ -2,14 +2,14 @@ use Rattle.std.proofs.Common.{◌≡◌, ℕ, Bool, Some, option_map, refl, sym,
 use Rattle.mi_image.specs.Items.{machine_over}
 use Rattle.mi_model.specs.FileVersions.{is_called_for, new_file, product_language}
 use Rattle.mi_installs.specs.Deciding.{replaced_by}
-use Rattle.mi_installs.proofs.CallLemmas.{if_ok, companion_is, brought_is, copied_none}
+use Rattle.mi_installs.proofs.CallLemmas.{if_ok, companion_is, brought_is, copied_none, none_of}
 use Rattle.mi_installs.proofs.deciding.is_called_for.Goals as goal
 
 pub returns-in-Some-clause-called : goal.returns-in-Some-clause-called
 returns-in-Some-clause-called g c = λ w seen told src at language.
     let held = (g.V.Volume.state c.args.vol.now).held in
     let files = g.S.Source.files c.args.src.now in
-    c.is_none.ensures ∙ sym (copied_none c.file.result)
+    none_of c.file.result c.is_none.result c.is_none.ensures ∙ sym (copied_none c.file.result)
     ∙ companion_is w c.args.placed.now.row.now c.args.placed.now.path (machine_over held files c.args.image.now) at seen.machine _ refl c.in-Some.ensures _ (c.file.ensures.value held files seen.there)
 
 pub returns-in-None-clause-called : goal.returns-in-None-clause-called
