@@ -1,6 +1,7 @@
-use Rattle.std.proofs.Common.{ℕ, ℤ, List, [], ◌∷◌, get_or, ap, ◌∙◌}
+use Rattle.std.proofs.Common.{◌≡◌, ℕ, ℤ, List, [], ◌∷◌, get_or, ap, rules, arith, ◌∙◌}
 use Rattle.std.specs.Int.{w32, to_le_bytes}
 use Rattle.std.specs.List.{flat_map}
+use Rattle.std.proofs.lemmas.Int.{to_z-of_z}
 use Rattle.mi_schema.specs.Values.{bits_of}
 use Rattle.mi_installs.proofs.hashes.hash_in.Goals as goal
 
@@ -15,5 +16,6 @@ parts first second = flat_map (λ (part : ℤ). to_le_bytes w32 (bits_of part)) 
 
 pub returns : goal.returns
 returns c =
-    ap (λ (x : List ℕ). sixteen x c.two_parts-b.result) c.two_parts-a.ensures
-    ∙ ap (λ (x : List ℕ). sixteen (parts c.args.row.now.hash_part1 c.args.row.now.hash_part2) x) c.two_parts-b.ensures
+    let a : c.two_parts-a.result ≡ parts c.args.row.now.hash_part1 c.args.row.now.hash_part2 = first_of (search rules, grind (arith, to_z-of_z, c.two_parts-a.ensures)) in
+    let b : c.two_parts-b.result ≡ parts c.args.row.now.hash_part3 c.args.row.now.hash_part4 = first_of (search rules, grind (arith, to_z-of_z, c.two_parts-b.ensures)) in
+    ap (λ (x : List ℕ). sixteen x c.two_parts-b.result) a ∙ ap (λ (x : List ℕ). sixteen (parts c.args.row.now.hash_part1 c.args.row.now.hash_part2) x) b
