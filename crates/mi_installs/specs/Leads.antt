@@ -1,6 +1,5 @@
 -- Companions, by the places of their rows in File. (Companion Files; File Table, Version.)
-use Rattle.std.specs.Prelude.{ℕ, suc, ◌||◌, Bool, false, List, [], ◌∷◌, map, length, Option, Some, None, option_map, option_and_then, unwrap_or, slice_get, slice_index_or, slice_set}
-use Rattle.std.specs.List.{replicate}
+use Rattle.std.specs.Prelude.{ℕ, suc, ◌||◌, Bool, false, List, [], ◌∷◌, map, length, Option, Some, None, option_map, option_and_then, unwrap_or, slice_get, slice_index_or, slice_set, replicate}
 use Rattle.std.specs.Option.{option_flatten, option_map_or}
 use Rattle.mi_text.specs.Maps.{Name}
 use Rattle.mi_dirs.specs.Chains.{along}
@@ -26,14 +25,14 @@ abbrev pub noted : List (Option Bool) → Option ℕ → Bool → List (Option B
 noted asked None called = asked
 noted asked (Some place) called = slice_set asked place (Some called)
 
-abbrev pub all_noted : List FileRow → List (Option Bool) → List Placed → List Bool → List (Option Bool)
-all_noted files asked [] called = asked
-all_noted files asked (p ∷ rows) [] = asked
-all_noted files asked (p ∷ rows) (c ∷ called) = all_noted files (noted asked (place_of files p.row.now.file) c) rows called
+abbrev pub all_noted : {P : Type 0} → (P → Option ℕ) → List (Option Bool) → List P → List Bool → List (Option Bool)
+all_noted place asked [] called = asked
+all_noted place asked (p ∷ rows) [] = asked
+all_noted place asked (p ∷ rows) (c ∷ called) = all_noted place (noted asked (place p) c) rows called
 
 -- what each row of the table by itself asks for, where these come and ask for this
 abbrev pub asked_of : List FileRow → List Placed → List Bool → List (Option Bool)
-asked_of files rows called = all_noted files (replicate (length files) None) rows called
+asked_of files rows called = all_noted (λ (p : Placed). place_of files p.row.now.file) (replicate (length files) None) rows called
 
 -- a coming row is written where it asks for it, or the one that it follows is written
 abbrev pub led_step : Option Bool → Option Bool → Bool

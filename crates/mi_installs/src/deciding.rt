@@ -6,7 +6,7 @@ ghost use Rattle.mi_image.specs.Items.{AreThere, machine_over};
 ghost use Rattle.mi_schema.specs.Lawful.{IsLawful};
 ghost use Rattle.mi_model.specs.World.{World};
 ghost use Rattle.mi_model.specs.FilePaths.{path_of_row};
-ghost use Rattle.mi_model.specs.FileVersions.{product_language, is_called_for, is_written};
+ghost use Rattle.mi_model.specs.FileVersions.{new_file, product_language, is_called_for, is_written};
 ghost use Rattle.mi_model.specs.InstallFiles.{all_placed};
 ghost use Rattle.mi_model.specs.InstallFiles as model;
 ghost use Rattle.mi_records.specs.Choices.{IsAsked};
@@ -47,21 +47,45 @@ fn is_replaced<E: Sees, S: Source, V: Volume>(
     ensures causes { Causes (source.Rose (S.faults src.old) (S.faults src.new)) (volume.Rose (V.state vol.old) (V.state vol.new)) result }
 {
     let mode = mode_of_row(seen, placed.row);
-    let Some(old) = image.file(&placed.path) else {
-        return Ok(replaces(mode, None, new, language, false));
-    };
-    let same = same_hash(
-        alloc,
-        seen.package(),
-        placed,
-        mode,
-        old,
-        new,
-        image,
-        src,
-        vol,
-    )?;
-    Ok(replaces(mode, Some(old), new, language, same))
+    match image.file(&placed.path) {
+        Some(old) => {
+            let same = same_hash(
+                alloc,
+                seen.package(),
+                placed,
+                mode,
+                old,
+                new,
+                image,
+                src,
+                vol,
+            )?;
+            Ok(replaces(mode, Some(old), new, language, same))
+        }
+        None => Ok(replaces(mode, None, new, language, false)),
+    }
+}
+
+// Whether the rules on versions let a row's file be written.
+fn is_brought<E: Sees, S: Source, V: Volume>(
+    alloc: Global,
+    seen: &E,
+    placed: &Placed<'_>,
+    language: u16,
+    image: &Image,
+    src: &mut S,
+    vol: &mut V,
+) -> Result<bool, InstallError>
+    requires { IsLawful (E.rows seen.now) }
+    ensures brought { (w : World) → IsSeenOver (E.lookups seen.now) (E.choices seen.now) (E.rows seen.now) (V.state vol.old).held (S.files src.old) image.now w → V.told → S.told → path_of_row w placed.now.row.now ≡ Some placed.now.path → language ≡ product_language w
+        → IfOk result (λ brought. brought ≡ replaced_by w placed.now.row.now (new_file placed.now.row.now) (product_language w)) }
+    ensures reads { Reads V.told (V.state vol.old) (V.state vol.new) (S.files src.old) (S.files src.new) (S.faults src.old) (S.faults src.new) }
+    ensures causes { Causes (source.Rose (S.faults src.old) (S.faults src.new)) (volume.Rose (V.state vol.old) (V.state vol.new)) result }
+{
+    let new = new_file(alloc, placed.row)?;
+    let replaced = is_replaced(alloc, seen, placed, &new, language, image, src, vol);
+    drop(new);
+    replaced
 }
 
 // Whether a coming row by itself asks that its file be written: a companion where nothing is there, any other by the rules on
@@ -81,13 +105,10 @@ fn is_called_for<E: Sees, S: Source, V: Volume>(
     ensures reads { Reads V.told (V.state vol.old) (V.state vol.new) (S.files src.old) (S.files src.new) (S.faults src.old) (S.faults src.new) }
     ensures causes { Causes (source.Rose (S.faults src.old) (S.faults src.new)) (volume.Rose (V.state vol.old) (V.state vol.new)) result }
 {
-    if companion_of(placed.row).is_some() {
-        return Ok(image.file(&placed.path).is_none());
+    match companion_of(placed.row) {
+        Some(_) => Ok(image.file(&placed.path).is_none()),
+        None => is_brought(alloc, seen, placed, language, image, src, vol),
     }
-    let new = new_file(alloc, placed.row)?;
-    let replaced = is_replaced(alloc, seen, placed, &new, language, image, src, vol);
-    drop(new);
-    replaced
 }
 
 // Whether each row by itself asks that its file be written.
@@ -109,8 +130,10 @@ fn called_for<E: Sees, S: Source, V: Volume>(
     let language = product_language(alloc, seen.package())?;
     let mut called = Vec::new(alloc);
     for placed in rows {
-        let one = is_called_for(alloc, seen, placed, language, image, src, vol)?;
-        called.push(one)?;
+        match is_called_for(alloc, seen, placed, language, image, src, vol) {
+            Ok(one) => called.push(one)?,
+            Err(error) => return Err(error),
+        }
     }
     Ok(called)
 }

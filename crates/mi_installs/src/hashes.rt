@@ -1,15 +1,23 @@
 //! The hash that a package states of a row's file, and when the rules on versions look at it (MsiFileHash table; File Versioning
 //! Rules).
 
-ghost use Rattle.std.specs.Prelude.{◌≡◌, ◌++◌, Some, List, ℕ, IfOk, IsErrOf};
+ghost use Rattle.std.specs.Prelude.{◌≡◌, ◌∷◌, [], Some, ℕ, IfOk};
+ghost use Rattle.std.specs.Int.{w32, to_le_bytes};
+ghost use Rattle.std.specs.List.{flat_map};
 ghost use Rattle.std.specs.Option.{option_map};
+ghost use Rattle.std.specs.FinMap.{get};
+ghost use Rattle.std.specs.Str.{bytes_eq};
+ghost use Rattle.md5.specs.Md5.{md5};
 ghost use Rattle.mi_base.specs.declared.entry.FileEntry.{FileEntry};
 ghost use Rattle.mi_base.specs.Machine.{file_at};
+ghost use Rattle.mi_base.specs.Names.{file_name};
 ghost use Rattle.mi_fver.specs.Rules.{replaces_of};
-ghost use Rattle.mi_image.specs.Items.{AreThere, machine_over};
+ghost use Rattle.mi_image.specs.Items.{AreThere, machine_over, bytes_of_file};
 ghost use Rattle.mi_schema.specs.Lawful.{IsLawful};
 ghost use Rattle.mi_schema.specs.RowsOf.{rows_in};
 ghost use Rattle.mi_schema.specs.TableRows.{row_of};
+ghost use Rattle.mi_schema.specs.Values.{bits_of};
+ghost use Rattle.mi_schema.specs.declared.typed_rows.FileRow.{FileRow};
 ghost use Rattle.mi_schema.specs.declared.typed_rows.MsiFileHashRow as hash_row;
 ghost use Rattle.mi_model.specs.World.{World};
 ghost use Rattle.mi_model.specs.FileVersions.{hash_bytes, has_same_hash};
@@ -29,25 +37,25 @@ use mi_source::Source;
 use mi_volume::Volume;
 use std::alloc::Global;
 
-fn joined(first: [u8; 4], second: [u8; 4], third: [u8; 4], fourth: [u8; 4]) -> [u8; 16]
-    ensures { result ≡ first ++ (second ++ (third ++ fourth)) }
+// Two parts of a hash, each with its low byte first.
+fn two_parts(first: i32, second: i32) -> [u8; 8]
+    ensures { result ≡ flat_map (λ part. to_le_bytes w32 (bits_of part)) (first ∷ second ∷ []) }
 {
-    [
-        first[0], first[1], first[2], first[3], second[0], second[1], second[2], second[3],
-        third[0], third[1], third[2], third[3], fourth[0], fourth[1], fourth[2], fourth[3],
-    ]
+    let a = first.to_le_bytes();
+    let b = second.to_le_bytes();
+    [a[0], a[1], a[2], a[3], b[0], b[1], b[2], b[3]]
 }
 
 // The four parts of a row's hash, each with its low byte first.
 fn hash_in(row: &MsiFileHashRow) -> [u8; 16]
     ensures { result ≡ hash_bytes row.now }
 {
-    joined(
-        row.hash_part1.to_le_bytes(),
-        row.hash_part2.to_le_bytes(),
-        row.hash_part3.to_le_bytes(),
-        row.hash_part4.to_le_bytes(),
-    )
+    let a = two_parts(row.hash_part1, row.hash_part2);
+    let b = two_parts(row.hash_part3, row.hash_part4);
+    [
+        a[0], a[1], a[2], a[3], a[4], a[5], a[6], a[7], b[0], b[1], b[2], b[3], b[4], b[5], b[6],
+        b[7],
+    ]
 }
 
 // The hash that the package states of the file of this key.
@@ -62,8 +70,28 @@ fn stated_hash(loaded: &Package, file: &Text) -> Option<[u8; 16]>
     }
 }
 
-// Whether the bytes that an image names at a path have the hash that the package states of a row's file; not where it states
-// none.
+// Whether the bytes that an image names at a path have this hash.
+fn has_hash<S: Source, V: Volume>(
+    alloc: Global,
+    stated: &[u8; 16],
+    path: &PathText,
+    image: &Image,
+    src: &mut S,
+    vol: &mut V,
+) -> Result<bool, InstallError>
+    ensures same { V.told → S.told → AreThere (V.state vol.old).held (S.files src.old) image.now → IfOk result (λ same. same ≡ bytes_eq (md5 (bytes_of_file (get (machine_over (V.state vol.old).held (S.files src.old) image.now) (file_name path.now)))) stated.now) }
+    ensures reads { Reads V.told (V.state vol.old) (V.state vol.new) (S.files src.old) (S.files src.new) (S.faults src.old) (S.faults src.new) }
+    ensures causes { Causes (source.Rose (S.faults src.old) (S.faults src.new)) (volume.Rose (V.state vol.old) (V.state vol.new)) result }
+{
+    match hash_of(alloc, src, vol, image, path) {
+        Ok(hash) => Ok(hash.as_slice() == stated.as_slice()),
+        Err(HashError::NoMemory) => Err(InstallError::NoMemory),
+        Err(HashError::Source) => Err(InstallError::Source),
+        Err(HashError::Volume) => Err(InstallError::Volume),
+    }
+}
+
+// Whether those bytes have the hash that the package states of a row's file; not where it states none.
 fn has_same_hash<S: Source, V: Volume>(
     alloc: Global,
     loaded: &Package,
@@ -74,18 +102,13 @@ fn has_same_hash<S: Source, V: Volume>(
     vol: &mut V,
 ) -> Result<bool, InstallError>
     requires { IsLawful loaded.now }
-    ensures same { (w : World) (r : _) (f : FileEntry) → w.given.rows ≡ rows_in loaded.now → r.file ≡ file.now → V.told → S.told → AreThere (V.state vol.old).held (S.files src.old) image.now → file_at (machine_over (V.state vol.old).held (S.files src.old) image.now) path.now ≡ Some f → IfOk result (λ same. same ≡ has_same_hash w r f) }
+    ensures same { (w : World) (r : FileRow) (f : FileEntry) → w.given.rows ≡ rows_in loaded.now → r.file ≡ file.now → V.told → S.told → AreThere (V.state vol.old).held (S.files src.old) image.now → file_at (machine_over (V.state vol.old).held (S.files src.old) image.now) path.now ≡ Some f → IfOk result (λ same. same ≡ has_same_hash w r f) }
     ensures reads { Reads V.told (V.state vol.old) (V.state vol.new) (S.files src.old) (S.files src.new) (S.faults src.old) (S.faults src.new) }
     ensures causes { Causes (source.Rose (S.faults src.old) (S.faults src.new)) (volume.Rose (V.state vol.old) (V.state vol.new)) result }
 {
-    let Some(stated) = stated_hash(loaded, file) else {
-        return Ok(false);
-    };
-    match hash_of(alloc, src, vol, image, path) {
-        Ok(hash) => Ok(hash == stated),
-        Err(HashError::NoMemory) => Err(InstallError::NoMemory),
-        Err(HashError::Source) => Err(InstallError::Source),
-        Err(HashError::Volume) => Err(InstallError::Volume),
+    match stated_hash(loaded, file) {
+        Some(stated) => has_hash(alloc, &stated, path, image, src, vol),
+        None => Ok(false),
     }
 }
 

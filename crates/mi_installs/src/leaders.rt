@@ -1,7 +1,6 @@
 //! Companions: rows of File whose files are written wherever those are that they follow (Companion Files; File table, Version).
 
-ghost use Rattle.std.specs.Prelude.{◌≡◌, ◌<◌, ℕ, true, suc, IfOk, OnOk, IfSome, map, length, option_map, unwrap_or, slice_index_or, slice_get, Some};
-ghost use Rattle.std.specs.Option.{option_map_or};
+ghost use Rattle.std.specs.Prelude.{◌≡◌, ◌<◌, ℕ, true, false, suc, IfOk, OnOk, IfSome, map, length, option_map, slice_index_or, slice_get, Some};
 ghost use Rattle.mi_dirs.specs.Chains.{ends_in};
 ghost use Rattle.mi_dirs.specs.Order.{parent_in, IsOrder};
 ghost use Rattle.mi_schema.specs.Checks.{companion_of};
@@ -133,8 +132,8 @@ fn written_by_place(
 {
     let mut written = vec![in alloc; false; leaders.len()]?;
     for row in order {
-        let row = *row;
-        written[row] = is_written(asked[row], &written, leaders[row]);
+        let one = is_written(asked[*row], &written, leaders[*row]);
+        written[*row] = one;
     }
     Ok(written)
 }

@@ -1,13 +1,14 @@
 //! What a row of File says of the file that an installation brings, and under which letters it is brought (File table, columns
 //! Version, Language and Attributes; REINSTALLMODE property).
 
-ghost use Rattle.std.specs.Prelude.{◌≡◌, List, IfOk, map};
+ghost use Rattle.std.specs.Prelude.{◌≡◌, ◌==◌, IfOk, OnOk, map};
 ghost use Rattle.std.specs.List.{slice_split, filter_map};
 ghost use Rattle.mi_idt.specs.Fields.{number_within};
 ghost use Rattle.mi_model.specs.World.{World};
 ghost use Rattle.mi_model.specs.FileVersions.{version_of_row, rising, languages_of_row, new_file, writes_some, mode_of_row};
 ghost use Rattle.mi_model.specs.InstallFiles.{attributes_of_row};
 ghost use Rattle.mi_records.specs.Choices.{IsAsked};
+ghost use Rattle.mi_installs.specs.Languages.{with_number};
 
 use mi_base::{Languages, NoMemory, Version};
 use mi_fver::{Mode, NewFile};
@@ -32,15 +33,23 @@ fn parts_of(alloc: Global, text: &str) -> Result<Vec<&str>, AllocError>
     text.split(',').collect(alloc)
 }
 
+// Adds the number that a text spells, where it spells one.
+fn add_number(numbers: &mut BTreeSet<u16>, text: &str) -> Result<(), NoMemory>
+    ensures { OnOk result (numbers.new.keys ≡ with_number numbers.old.keys (number_within 65535 text.now)) }
+{
+    if let Some(number) = language_of(text.as_bytes()) {
+        numbers.insert(number as u16)?;
+    }
+    Ok(())
+}
+
 // The numbers among some texts, each once and in order.
 fn numbers_in(alloc: Global, parts: &[&str]) -> Result<BTreeSet<u16>, NoMemory>
     ensures { IfOk result (λ numbers. numbers.keys ≡ rising (filter_map (number_within 65535) (map (λ b. b.now) parts.now))) }
 {
     let mut numbers = BTreeSet::new(alloc);
     for part in parts {
-        if let Some(number) = language_of(part.as_bytes()) {
-            numbers.insert(number as u16)?;
-        }
+        add_number(&mut numbers, part)?;
     }
     Ok(numbers)
 }
@@ -76,7 +85,7 @@ pub(crate) fn attributes_of_row(row: &FileRow) -> u32
     ensures { result ≡ attributes_of_row row.now }
 {
     match row.attributes {
-        Some(attributes) => attributes as u32 & 7,
+        Some(attributes) => attributes.cast_unsigned() & 7,
         None => 0,
     }
 }
