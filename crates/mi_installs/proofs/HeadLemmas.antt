@@ -1,5 +1,5 @@
 -- The head of a file that is installed.
-use Rattle.std.proofs.Common.{◌≡◌, ℕ, suc, ◌<◌, ◌≤◌, ◌^◌, Bool, true, false, List, [], ◌∷◌, length, Option, Some, None, refl, sym, ap, ◌∙◌, arith}
+use Rattle.std.proofs.Common.{◌≡◌, ℕ, suc, ◌≤◌, ◌^◌, Bool, true, false, List, [], ◌∷◌, length, Option, Some, None, refl, sym, ap, ◌∙◌, arith}
 use Rattle.std.specs.Prelude.{◌&&◌, nat_lt, nat_le, ◌==◌, bit_and, unwrap_or, IfSome}
 use Rattle.std.specs.List.{filter_map, cons_option, slice_split, list_all}
 use Rattle.std.specs.Option.{option_map_or}
@@ -14,7 +14,7 @@ use Rattle.mi_schema.specs.Texts.{are_languages, is_language}
 use Rattle.mi_schema.specs.Values.{bits_of}
 use Rattle.mi_schema.specs.declared.typed_rows.FileRow.{FileRow}
 use Rattle.mi_model.specs.World.{World}
-use Rattle.mi_model.specs.FileVersions.{rising, version_of_row, languages_of_row}
+use Rattle.mi_model.specs.FileVersions.{version_of_row, languages_of_row}
 use Rattle.mi_model.specs.InstallFiles.{attributes_of_row, installed_file}
 use Rattle.mi_installs.specs.declared.placed.Placed.{Placed}
 use Rattle.mi_installs.specs.Placings.{as_placed, HasFilePath, HaveLanguages, HasLanguages}

@@ -1,5 +1,5 @@
 -- What rows of InstallFiles make of a plan.
-use Rattle.std.proofs.Common.{◌≡◌, ◌≢◌, ℕ, zero, suc, ◌+◌, ◌<◌, ◌≤◌, Bool, true, false, cond, List, [], ◌∷◌, ◌++◌, map, take, length, get_or, Option, Some, None, refl, sym, ap, ◌∙◌, subst, arith}
+use Rattle.std.proofs.Common.{◌≡◌, ◌≢◌, ℕ, zero, suc, ◌<◌, Bool, true, false, cond, List, [], ◌∷◌, ◌++◌, map, take, length, get_or, Option, Some, None, refl, sym, ap, ◌∙◌, arith}
 use Rattle.std.specs.Prelude.{Result, Ok, Err, IsErrOf, ◌==◌}
 use Rattle.std.specs.FinMap.{get}
 use Rattle.std.proofs.lemmas.Bool.Decides.{nat_tests}
@@ -22,9 +22,8 @@ use Rattle.mi_schema.specs.declared.typed_rows.FileRow.{FileRow}
 use Rattle.mi_model.specs.World.{World, RowEffect}
 use Rattle.mi_model.specs.FilePaths.{source_path}
 use Rattle.mi_model.specs.FileVersions.{is_written}
-use Rattle.mi_model.specs.InstallFiles as model
 use Rattle.mi_model.specs.InstallFiles.{source_bytes, right_file, right_size, stated_size, installed_file, file_with_parents, installed_row}
-use Rattle.mi_model.specs.Parents.{folder_with_parents, parents_of_path}
+use Rattle.mi_model.specs.Parents.{folder_with_parents}
 use Rattle.mi_model.specs.Refusals.{◌>>=◌}
 use Rattle.mi_steps.specs.declared.plan.Plan.{Plan}
 use Rattle.mi_steps.specs.Follows.{put_touch}

@@ -1,13 +1,10 @@
 -- Numbers in order, each once, rise, and are no more than there were.
-use Rattle.std.proofs.Common.{◌≡◌, ℕ, suc, ◌+◌, ◌<◌, ◌≤◌, Bool, true, false, cond, T, List, [], ◌∷◌, ◌++◌, map, length, Option, Some, None, refl, sym, ap, ◌∙◌, subst, arith}
-use Rattle.std.specs.Prelude.{nat_lt, ◌&&◌, is_some}
-use Rattle.std.specs.Ordering.{nat_cmp, is_lt, eq_by_cmp, match_ordering}
-use Rattle.std.specs.declared.cmp.Ordering.{Ordering}
-use Rattle.std.specs.declared.cmp.Ordering.TheVariants.{Less, Equal, Greater}
+use Rattle.std.proofs.Common.{◌≡◌, ℕ, suc, ◌+◌, ◌≤◌, Bool, true, false, cond, T, List, [], ◌∷◌, map, length, Some, refl, ap, ◌∙◌, arith}
+use Rattle.std.specs.Prelude.{nat_lt, ◌&&◌}
+use Rattle.std.specs.Ordering.{nat_cmp, is_lt}
 use Rattle.std.proofs.lemmas.Cmp.{nat_cmp_total}
-use Rattle.std.specs.FinMap.{FinMap, nat_cmp-IsAntisymmetric, entries, entries_sorted, entries-insert, get-insert, get-from_entries, len-entries, len-insert, len-empty, same_map, from_entries, insert, get, find, is_sorted, keys, contains_key, len}
-use Rattle.std.specs.FinMap.Entries.{put, below_all}
-use Rattle.std.specs.BTreeSet.{insert_key}
+use Rattle.std.specs.FinMap.{FinMap, entries, entries_sorted, len-entries, len-insert, len-empty, from_entries, is_sorted, contains_key, len}
+use Rattle.std.specs.FinMap.Entries.{below_all}
 use Rattle.mi_base.specs.Limits.{rises, is_above, is_chain}
 use Rattle.mi_model.specs.FileVersions.{rising}
 

@@ -1,12 +1,11 @@
 -- What is added to a script copies files of the source whole.
 use Rattle.std.proofs.Common.{◌≡◌, ℕ, suc, ◌+◌, Bool, true, false, cond, not, ◌&&◌, List, [], ◌∷◌, ◌++◌, map, length, Option, Some, None, refl, sym, ap, ◌∙◌, subst, arith, append_assoc, length-append}
-use Rattle.std.specs.Prelude.{option_map, unwrap_or, All}
+use Rattle.std.specs.Prelude.{option_map, All}
 use Rattle.std.specs.List.{AllByRecursion}
 use Rattle.std.specs.Int.{w32, to_be_bytes}
-use Rattle.std.specs.FinMap.{empty, get, get-empty, insert}
-use Rattle.std.proofs.lemmas.List.Elements.{recursion_from_All, All-from_recursion, All-append}
+use Rattle.std.specs.FinMap.{empty, get, get-empty}
+use Rattle.std.proofs.lemmas.List.Elements.{All-from_recursion, All-append}
 use Rattle.std.proofs.lemmas.Slice.Eq.{bytes_eq-Decides}
-use Rattle.mi_text.specs.Fold.{folded}
 use Rattle.mi_text.specs.Maps.{Name, Map, name_cmp, set_to}
 use Rattle.mi_text.proofs.MapLemmas.{get-set_to, same_itself}
 use Rattle.mi_base.specs.declared.entry.Entry.{Entry}
@@ -23,7 +22,7 @@ use Rattle.mi_changes.specs.Changes.{Change, changes}
 use Rattle.mi_script.specs.declared.rec.Rec.{Rec}
 use Rattle.mi_script.specs.declared.rec.Rec.TheVariants.{Put, Drop, Copy, Dup}
 use Rattle.mi_script.specs.Scripts.{change_of, script_changes}
-use Rattle.mi_script.specs.Spelled.{is_file_name, same_record, is_left_out, recorded, spelled, spelled_changes}
+use Rattle.mi_script.specs.Spelled.{is_file_name, same_record, is_left_out, spelled, spelled_changes}
 use Rattle.mi_script.proofs.SpellLemmas.{written-spelled_one}
 use Rattle.mi_model.specs.Parents.{or_new, folder_touch, folders_down_to, folder_with_parents}
 use Rattle.mi_runner.specs.Records.{HasLength}

@@ -1,7 +1,7 @@
 -- Coming rows of File with their paths.
-use Rattle.std.proofs.Common.{◌≡◌, ℕ, suc, ◌+◌, ◌<◌, ◌≤◌, Bool, true, false, cond, List, [], ◌∷◌, ◌++◌, map, take, drop, length, get_or, Bor, Option, Some, None, refl, sym, ap, ◌∙◌, subst, arith, drop-cons}
+use Rattle.std.proofs.Common.{◌≡◌, ℕ, suc, ◌+◌, ◌<◌, ◌≤◌, true, false, cond, List, [], ◌∷◌, ◌++◌, map, take, drop, length, get_or, Bor, Option, Some, None, refl, sym, ap, ◌∙◌, arith, drop-cons}
 use Rattle.std.specs.Prelude.{Result, Ok, Err, codes, filter}
-use Rattle.std.proofs.lemmas.List.{map-append, take_more, take-append-drop, take_all}
+use Rattle.std.proofs.lemmas.List.{take_more, take-append-drop, take_all}
 use Rattle.mi_text.specs.Lookups.{Lookups}
 use Rattle.mi_base.specs.declared.answers.Fault.{Fault}
 use Rattle.mi_base.specs.declared.answers.Fault.TheVariants.{BadPath}
@@ -12,7 +12,6 @@ use Rattle.mi_schema.specs.TableRows.{Numbered, in_key_order, Rows as TableRows}
 use Rattle.mi_model.specs.World.{World}
 use Rattle.mi_model.specs.Asked.{comes}
 use Rattle.mi_model.specs.FilePaths.{path_of_row, right_path}
-use Rattle.mi_model.specs.InstallFiles as model
 use Rattle.mi_model.specs.InstallFiles.{coming_files, placed}
 use Rattle.mi_model.specs.Refusals.{◌>>=◌, each}
 use Rattle.mi_model.specs.Texts.{Text}

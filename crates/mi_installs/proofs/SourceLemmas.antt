@@ -1,5 +1,5 @@
 -- Where the source has a row's file.
-use Rattle.std.proofs.Common.{◌≡◌, ℕ, List, [], Option, Some, None, option_and_then, unwrap_or, refl, sym, ap, ◌∙◌}
+use Rattle.std.proofs.Common.{◌≡◌, List, [], Option, option_and_then, unwrap_or, sym, ap, ◌∙◌}
 use Rattle.mi_text.specs.Lookups.{Lookups}
 use Rattle.mi_text.specs.Maps.{Name}
 use Rattle.mi_source.specs.Paths.{path_in}

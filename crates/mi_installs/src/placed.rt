@@ -61,10 +61,7 @@ fn coming<'a, E: Sees>(
 }
 
 // The rows of File of coming components.
-fn coming_rows<'a, E: Sees>(
-    alloc: Global,
-    seen: &'a E,
-) -> Result<Vec<Row<'a, FileRow>>, NoMemory>
+fn coming_rows<'a, E: Sees>(alloc: Global, seen: &'a E) -> Result<Vec<Row<'a, FileRow>>, NoMemory>
     requires { IsLawful (E.rows seen.now) }
     ensures rows { (w : World) → IsAsked (E.lookups seen.now) (E.choices seen.now) (E.rows seen.now) w → IfOk result (λ rows. map as_numbered rows.items ≡ coming_files w) }
     ensures languages { IfOk result (λ rows. All (λ r. HaveLanguages r.1.now) rows.items) }

@@ -23,11 +23,7 @@ use std::alloc::Global;
 // ---- the path
 
 // The folder of a directory in the source; no text where there is none.
-fn directory_source<E: Sees>(
-    alloc: Global,
-    seen: &E,
-    directory: &str,
-) -> Result<Text, NoMemory>
+fn directory_source<E: Sees>(alloc: Global, seen: &E, directory: &str) -> Result<Text, NoMemory>
     ensures { IfOk result (λ folder. folder ≡ unwrap_or (source_of (E.choices seen.now).dirs directory.now) []) }
 {
     match seen.source(alloc, directory)? {
@@ -37,11 +33,7 @@ fn directory_source<E: Sees>(
 }
 
 // The folder of a component in the source.
-fn component_source<E: Sees>(
-    alloc: Global,
-    seen: &E,
-    component: &Text,
-) -> Result<Text, NoMemory>
+fn component_source<E: Sees>(alloc: Global, seen: &E, component: &Text) -> Result<Text, NoMemory>
     requires { IsLawful (E.rows seen.now) }
     ensures { (w : World) → IsAsked (E.lookups seen.now) (E.choices seen.now) (E.rows seen.now) w → IfOk result (λ folder. folder ≡ component_source w component.now) }
 {
@@ -76,11 +68,7 @@ fn path_in(alloc: Global, folder: &str, name: &str) -> Result<Text, NoMemory>
 
 /// The path of a row's file in the source: in the folder of its component's directory, its short or its long name, as the
 /// package says (File table, FileName; Word Count Summary property).
-pub(crate) fn source_path<E: Sees>(
-    alloc: Global,
-    seen: &E,
-    row: &FileRow,
-) -> Result<Text, NoMemory>
+pub(crate) fn source_path<E: Sees>(alloc: Global, seen: &E, row: &FileRow) -> Result<Text, NoMemory>
     requires { IsLawful (E.rows seen.now) }
     ensures { (w : World) → IsAsked (E.lookups seen.now) (E.choices seen.now) (E.rows seen.now) w → IfOk result (λ path. path ≡ source_path w row.now) }
 {

@@ -41,10 +41,7 @@ fn first_repeat<'a>(
 
 /// The first row whose path an earlier row has, in whichever case, as `SameTarget` of both keys (File table; this project's own).
 /// It costs a search for each row.
-pub(crate) fn same_target(
-    alloc: Global,
-    rows: &[Placed<'_>],
-) -> Result<Option<Fault>, NoMemory>
+pub(crate) fn same_target(alloc: Global, rows: &[Placed<'_>]) -> Result<Option<Fault>, NoMemory>
     ensures { IfOk result (λ f. f ≡ model.same_target [] (map as_placed rows.now)) }
 {
     match first_repeat(alloc, rows)? {

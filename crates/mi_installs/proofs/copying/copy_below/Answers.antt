@@ -1,5 +1,5 @@
 -- The folders, then the file.
-use Rattle.std.proofs.Common.{List, ℕ, [], ◌∷◌, ◌∙◌}
+use Rattle.std.proofs.Common.{[], ◌∷◌, ◌∙◌}
 use Rattle.mi_base.specs.Names.{file_name}
 use Rattle.mi_script.specs.declared.rec.Rec.TheVariants.{Copy}
 use Rattle.mi_model.specs.Parents.{folder_with_parents}

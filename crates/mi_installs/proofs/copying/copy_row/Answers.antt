@@ -1,5 +1,5 @@
 -- The head and the folder of the row's path.
-use Rattle.std.proofs.Common.{◌≡◌, List, ℕ, [], ◌∷◌, ◌++◌, subst, ◌∙◌}
+use Rattle.std.proofs.Common.{List, subst}
 use Rattle.std.specs.Prelude.{OnOk}
 use Rattle.mi_base.specs.declared.entry.Entry.{Entry}
 use Rattle.mi_changes.specs.Touches.{Touch}

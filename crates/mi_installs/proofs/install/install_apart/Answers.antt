@@ -1,6 +1,6 @@
 -- What is decided, then written.
-use Rattle.std.proofs.Common.{◌≡◌, List, ℕ, map, refl, sym, ap, subst, ◌∙◌}
-use Rattle.std.specs.Prelude.{Bool, Err, OnOk, Vec}
+use Rattle.std.proofs.Common.{List, map, sym, ap, subst, ◌∙◌}
+use Rattle.std.specs.Prelude.{Bool, OnOk, Vec}
 use Rattle.std.specs.declared.alloc.Global.{Global}
 use Rattle.mi_source.specs.Paths.{Files}
 use Rattle.mi_image.specs.Items.{Items, AreThere, machine_over}

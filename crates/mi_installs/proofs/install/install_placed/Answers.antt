@@ -1,5 +1,5 @@
 -- The phase of rows that are apart, or its refusal.
-use Rattle.std.proofs.Common.{◌≡◌, Some, None, map}
+use Rattle.std.proofs.Common.{map}
 use Rattle.mi_installs.specs.Placings.{as_placed}
 use Rattle.mi_installs.proofs.PhaseLemmas.{phase_done, phase_same}
 use Rattle.mi_installs.proofs.install.install_placed.Goals as goal

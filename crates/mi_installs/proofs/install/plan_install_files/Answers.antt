@@ -1,5 +1,5 @@
 -- Over the placed rows.
-use Rattle.std.proofs.Common.{◌≡◌, List, ℕ, map, sym, ap, subst, ◌∙◌}
+use Rattle.std.proofs.Common.{List, map, sym, ap, subst, ◌∙◌}
 use Rattle.std.specs.Prelude.{Ok, Err, Vec}
 use Rattle.std.specs.declared.alloc.Global.{Global}
 use Rattle.mi_model.specs.InstallFiles.{install_files}

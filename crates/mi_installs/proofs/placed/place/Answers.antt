@@ -1,5 +1,4 @@
 -- By its path.
-use Rattle.std.proofs.Common.{◌≡◌, Some, None, ℕ, List}
 use Rattle.std.specs.Prelude.{codes}
 use Rattle.mi_base.specs.declared.answers.Fault.TheVariants.{BadPath}
 use Rattle.mi_model.specs.InstallFiles.{placed}

@@ -1,10 +1,9 @@
 -- Row by row.
-use Rattle.std.proofs.Common.{◌≡◌, List, ℕ, [], ◌∷◌, ◌++◌, map, take, refl, sym, ap, subst, ◌∙◌, arith}
-use Rattle.std.specs.Prelude.{Ok, Err, All, Vec}
+use Rattle.std.proofs.Common.{List, [], ◌∷◌, map, sym, ap, subst, ◌∙◌, arith}
+use Rattle.std.specs.Prelude.{Ok, All, Vec}
 use Rattle.std.specs.declared.alloc.Global.{Global}
 use Rattle.std.proofs.lemmas.List.{map-append}
 use Rattle.std.proofs.lemmas.List.Elements.{All-from_recursion, All-push}
-use Rattle.mi_model.specs.InstallFiles as model
 use Rattle.mi_model.specs.InstallFiles.{placed}
 use Rattle.mi_model.specs.Refusals.{each}
 use Rattle.mi_records.specs.Order.{as_numbered}

@@ -1,12 +1,11 @@
 -- The directory of the row of the component.
-use Rattle.std.proofs.Common.{◌≡◌, option_and_then, unwrap_or, [], List, ℕ, Option, Some, None, ap, sym, subst, ◌∙◌}
+use Rattle.std.proofs.Common.{◌≡◌, unwrap_or, [], List, ℕ, ap, subst, ◌∙◌}
 use Rattle.std.specs.Prelude.{IfOk}
 use Rattle.mi_dirs.specs.Places.{source_of}
 use Rattle.mi_schema.specs.declared.package.Package.{Package}
 use Rattle.mi_schema.specs.declared.typed_rows.ComponentRow.{ComponentRow}
 use Rattle.mi_schema.specs.RowsOf.{rows_in}
 use Rattle.mi_schema.specs.TableRows.{row_of}
-use Rattle.mi_model.specs.FilePaths.{component_source}
 use Rattle.mi_records.proofs.KeyedLemmas.{row_at_key}
 use Rattle.mi_installs.proofs.SourceLemmas.{source_of_component}
 use Rattle.mi_installs.proofs.sources.component_source.Goals as goal

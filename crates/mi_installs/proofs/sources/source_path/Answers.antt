@@ -2,7 +2,6 @@
 use Rattle.std.proofs.Common.{◌≡◌, List, ℕ, ap, subst, ◌∙◌}
 use Rattle.std.specs.Prelude.{IfOk}
 use Rattle.mi_schema.specs.declared.package.Package.{Package}
-use Rattle.mi_source.specs.Paths.{path_in}
 use Rattle.mi_model.specs.FilePaths.{source_name}
 use Rattle.mi_installs.proofs.SourceLemmas.{path_is}
 use Rattle.mi_installs.proofs.sources.source_path.Goals as goal

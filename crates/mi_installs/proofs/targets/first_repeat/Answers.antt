@@ -1,13 +1,11 @@
 -- What an earlier row is found by its path.
-use Rattle.std.proofs.Common.{◌≡◌, ◌<◌, ◌+◌, ℕ, List, map, take, get_or, cond, Bool, true, Bor, Option, Some, None, refl, sym, ap, subst, ◌∙◌}
+use Rattle.std.proofs.Common.{◌≡◌, map, take, Some, None, sym, ap, subst, ◌∙◌}
 use Rattle.std.specs.Prelude.{find, option_map}
 use Rattle.std.specs.BTreeMap.{get_by}
-use Rattle.mi_text.specs.Maps.{Name, name_cmp, same_name}
+use Rattle.mi_text.specs.Maps.{Name, name_cmp}
 use Rattle.mi_text.specs.Fold.{folded}
 use Rattle.mi_text.proofs.MapLemmas.{from_same}
-use Rattle.mi_model.specs.InstallFiles.{Placed}
 use Rattle.mi_installs.specs.Placings.{as_placed}
-use Rattle.mi_schema.specs.declared.typed_rows.FileRow.{FileRow}
 use Rattle.mi_installs.proofs.TargetLemmas.{has_path, row_in, now_of, inserted, repeats, goes_on, held_with}
 use Rattle.mi_installs.proofs.targets.first_repeat.Goals as goal
 

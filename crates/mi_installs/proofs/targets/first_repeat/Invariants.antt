@@ -1,4 +1,4 @@
-use Rattle.std.proofs.Common.{◌≡◌, [], List, ℕ, take, drop, map, nat_cmp, Bor}
+use Rattle.std.proofs.Common.{◌≡◌, [], List, ℕ, take, drop, map, Bor}
 use Rattle.std.specs.Prelude.{find, option_map}
 use Rattle.std.specs.BTreeMap.{get_by}
 use Rattle.mi_text.specs.Maps.{name_cmp, same_name}

@@ -1,6 +1,6 @@
 -- What the source has of the row's file, copied.
-use Rattle.std.proofs.Common.{◌≡◌, List, ℕ, refl, sym, ap, ◌∙◌}
-use Rattle.std.specs.Prelude.{Ok, Err}
+use Rattle.std.proofs.Common.{refl, ap, ◌∙◌}
+use Rattle.std.specs.Prelude.{Ok}
 use Rattle.std.specs.FinMap.{get}
 use Rattle.mi_model.specs.InstallFiles.{source_bytes, right_file, installed_file, file_with_parents}
 use Rattle.mi_model.specs.Refusals.{◌>>=◌}
