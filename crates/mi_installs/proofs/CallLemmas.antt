@@ -16,7 +16,7 @@ use Rattle.mi_idt.specs.Fields.{number_within}
 use Rattle.mi_fver.specs.declared.mode.Mode.{Mode}
 use Rattle.mi_fver.specs.declared.new_file.NewFile.{NewFile}
 use Rattle.mi_fver.specs.Rules.{replaces_of}
-use Rattle.mi_image.specs.Items.{Items, bytes_of_file, machine_over, AreThere}
+use Rattle.mi_image.specs.Items.{Items, bytes_of_file}
 use Rattle.mi_schema.specs.Checks.{companion_of}
 use Rattle.mi_schema.specs.Lawful.{IsLawful}
 use Rattle.mi_schema.specs.RowsOf.{rows_in}
@@ -30,7 +30,7 @@ use Rattle.mi_source.specs.Paths.{Files}
 use Rattle.mi_source.specs.Counts as source
 use Rattle.mi_volume.specs.State as volume
 use Rattle.mi_volume.proofs.Moments.{then_passes, rose_before}
-use Rattle.mi_image.proofs.LookLemmas.{looks_first, looks_once, looks_then}
+use Rattle.mi_image.proofs.LookLemmas.{looks_first, looks_then}
 use Rattle.mi_model.specs.World.{World}
 use Rattle.mi_model.specs.Texts.{Text}
 use Rattle.mi_model.specs.FilePaths.{path_of_row}

@@ -1,9 +1,6 @@
-use Rattle.std.proofs.Common.{◌≡◌, ◌∙◌, ◌+◌, ◌∷◌, [], ◌++◌, ℕ, Bool, List, Some, map, take, length, length-append, get_or, sym, ap, subst, arith}
+use Rattle.std.proofs.Common.{◌≡◌, ◌∙◌, ◌+◌, ◌∷◌, [], ◌++◌, ℕ, Bool, List, Some, map, take, length, length-append, sym, ap, subst, arith}
 use Rattle.std.specs.Prelude.{Err}
 use Rattle.std.proofs.lemmas.List.{take_all, length-map}
-use Rattle.mi_schema.specs.RowsOf.{rows_in}
-use Rattle.mi_schema.specs.TableRows.{Rows}
-use Rattle.mi_schema.specs.declared.package.Package.{Package}
 use Rattle.mi_schema.proofs.ListLemmas.{map_done_item}
 use Rattle.mi_model.specs.FilePaths.{path_of_row}
 use Rattle.mi_model.specs.FileVersions.{is_called_for, product_language}
