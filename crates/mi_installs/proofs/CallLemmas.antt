@@ -1,5 +1,5 @@
 -- What a row by itself asks for, by what was looked up.
-use Rattle.std.proofs.Common.{◌≡◌, ◌≤◌, ℕ, Bool, Bor, true, false, not, cond, List, map, Option, Some, None, refl, sym, ap, subst, ◌∙◌, arith}
+use Rattle.std.proofs.Common.{◌≡◌, ◌≤◌, ◌<◌, ◌+◌, [], ◌∷◌, ◌++◌, length, take, get_or, length-append, ℕ, Bool, Bor, true, false, not, cond, List, map, Option, Some, None, refl, sym, ap, subst, ◌∙◌, arith}
 use Rattle.std.specs.Prelude.{option_map, option_and_then, is_some, is_none, unwrap_or, codes, All, Result, Ok, Err, IfOk}
 use Rattle.std.specs.Option.{option_map_or, option_copied}
 use Rattle.std.specs.Str.{bytes_eq}
@@ -16,7 +16,7 @@ use Rattle.mi_idt.specs.Fields.{number_within}
 use Rattle.mi_fver.specs.declared.mode.Mode.{Mode}
 use Rattle.mi_fver.specs.declared.new_file.NewFile.{NewFile}
 use Rattle.mi_fver.specs.Rules.{replaces_of}
-use Rattle.mi_image.specs.Items.{Items, bytes_of_file, machine_over, AreThere}
+use Rattle.mi_image.specs.Items.{Items, bytes_of_file}
 use Rattle.mi_schema.specs.Checks.{companion_of}
 use Rattle.mi_schema.specs.Lawful.{IsLawful}
 use Rattle.mi_schema.specs.RowsOf.{rows_in}
@@ -25,12 +25,13 @@ use Rattle.mi_schema.specs.declared.package.Package.{Package}
 use Rattle.mi_schema.specs.declared.typed_rows.FileRow.{FileRow}
 use Rattle.mi_schema.specs.declared.typed_rows.MsiFileHashRow.{MsiFileHashRow}
 use Rattle.mi_schema.proofs.LawfulLaws.{of_tables}
+use Rattle.mi_schema.proofs.ListLemmas.{map_done_item}
 use Rattle.mi_schema.proofs.PackageLaws.{keys_stand, keys_apart}
 use Rattle.mi_source.specs.Paths.{Files}
 use Rattle.mi_source.specs.Counts as source
 use Rattle.mi_volume.specs.State as volume
 use Rattle.mi_volume.proofs.Moments.{then_passes, rose_before}
-use Rattle.mi_image.proofs.LookLemmas.{looks_first, looks_once, looks_then}
+use Rattle.mi_image.proofs.LookLemmas.{looks_first, looks_then}
 use Rattle.mi_model.specs.World.{World}
 use Rattle.mi_model.specs.Texts.{Text}
 use Rattle.mi_model.specs.FilePaths.{path_of_row}
@@ -130,6 +131,14 @@ pub language_is : (w : World) (p q : Package) (language : ℕ) → w.given.rows 
 language_is w p q language same is e =
     e ∙ ap (λ (x : Package). unwrap_or (number_within 65535 (table_value (rows_in x) (codes "ProductLanguage"))) 0) is
     ∙ sym (ap (λ (rs : Rows). unwrap_or (number_within 65535 (table_value rs (codes "ProductLanguage"))) 0) same)
+
+-- one row more of those that are asked
+pub called_more : (f : Placed → Bool) (rows : List Placed) (i : ℕ) (item : Placed) (called new : List Bool) (one : Bool) → item ≡ get_or rows i item → i < length rows → called ≡ take i (map f rows) → one ≡ f item → new ≡ called ++ one ∷ [] → new ≡ take (i + 1) (map f rows)
+called_more f rows i item called new one is lt so says made =
+    made ∙ ap (λ (bs : List Bool). bs ++ one ∷ []) so ∙ ap (λ (b : Bool). take i (map f rows) ++ b ∷ []) says ∙ sym (map_done_item f rows i item is lt)
+
+pub size_more : (called new : List Bool) (one : Bool) (i : ℕ) → length called ≡ i → new ≡ called ++ one ∷ [] → length new ≡ i + 1
+size_more called new one i so made = ap length made ∙ length-append called (one ∷ []) ∙ ap (λ (n : ℕ). n + 1) so
 
 -- ---- devices that are only read
 

@@ -1,16 +1,15 @@
 -- The coming rows that follow a row that asks for it, or ask for it by themselves, are those that are written.
-use Rattle.std.proofs.Common.{◌≡◌, ℕ, zero, suc, ◌<◌, ◌≤◌, Bool, true, false, cond, ◌&&◌, List, [], ◌∷◌, map, length, get_or, replicate, Option, Some, None, refl, sym, ap, subst, ◌∙◌, arith, inl, inr, ◌⊎◌}
-use Rattle.std.specs.Prelude.{slice_get, option_map, option_and_then, codes, filter, ok_or, All, Result, Ok, Err, if◌then◌else◌}
+use Rattle.std.proofs.Common.{◌≡◌, ℕ, zero, suc, ◌<◌, Bool, true, false, cond, ◌&&◌, List, [], ◌∷◌, map, length, get_or, replicate, Option, Some, None, refl, sym, ap, subst, ◌∙◌, arith, inl, inr, ◌⊎◌}
+use Rattle.std.specs.Prelude.{slice_get, option_map, option_and_then, codes, ok_or, All, Ok}
 use Rattle.std.specs.List.{list_any}
 use Rattle.std.specs.Option.{option_flatten, option_map_or}
 use Rattle.std.proofs.lemmas.Bool.{cases_Bool}
 use Rattle.std.proofs.lemmas.List.{length-map}
 use Rattle.std.proofs.lemmas.Option.{slice_get-map, slice_get-get_or, get_or_from_slice_get}
 use Rattle.mi_text.specs.Maps.{Name}
-use Rattle.mi_base.specs.declared.answers.Fault.{Fault}
 use Rattle.mi_base.specs.declared.answers.Fault.TheVariants.{BadPath}
 use Rattle.mi_dirs.specs.Order.{parent_in}
-use Rattle.mi_schema.specs.Checks.{companion_of, row_with}
+use Rattle.mi_schema.specs.Checks.{companion_of}
 use Rattle.mi_schema.specs.Laws.{HaveOwnKeys}
 use Rattle.mi_schema.specs.RowsOf.{behind}
 use Rattle.mi_schema.specs.TableRows.{Numbered, file_row_of, in_key_order}
@@ -18,7 +17,7 @@ use Rattle.mi_schema.specs.declared.typed_rows.FileRow.{FileRow}
 use Rattle.mi_model.specs.World.{World}
 use Rattle.mi_model.specs.Asked.{comes}
 use Rattle.mi_model.specs.Texts.{Text}
-use Rattle.mi_model.specs.Refusals.{◌>>=◌, each}
+use Rattle.mi_model.specs.Refusals.{◌>>=◌}
 use Rattle.mi_model.specs.FilePaths.{path_of_row}
 use Rattle.mi_model.specs.FileVersions.{is_called_for, leader_of, led_by, is_written}
 use Rattle.mi_model.specs.InstallFiles as model

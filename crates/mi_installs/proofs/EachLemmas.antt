@@ -1,5 +1,5 @@
 -- What each of some rows gives, where none is refused.
-use Rattle.std.proofs.Common.{◌≡◌, List, [], ◌∷◌, refl, sym, ap, subst, ◌∙◌, inl, inr, ◌⊎◌}
+use Rattle.std.proofs.Common.{◌≡◌, List, [], ◌∷◌, refl, sym, ap, subst, ◌∙◌, inl, inr}
 use Rattle.std.specs.Prelude.{Result, Ok}
 use Rattle.mi_base.specs.declared.answers.Fault.{Fault}
 use Rattle.mi_model.specs.Refusals.{◌>>=◌, each}

@@ -1,6 +1,6 @@
 -- Orders in which each row stands behind the one that it follows, and what is noted and found along them.
-use Rattle.std.proofs.Common.{◌≡◌, ℕ, zero, suc, ◌+◌, ◌<◌, ◌≤◌, Bool, true, false, cond, List, [], ◌∷◌, ◌++◌, map, length, take, drop, get_or, Option, Some, None, refl, sym, ap, subst, ◌∙◌, arith}
-use Rattle.std.specs.Prelude.{slice_get, slice_index, option_map, option_and_then, All, IfSome}
+use Rattle.std.proofs.Common.{◌≡◌, ℕ, zero, suc, ◌+◌, ◌<◌, ◌≤◌, Bool, true, false, List, [], ◌∷◌, ◌++◌, map, length, take, drop, get_or, Option, Some, None, refl, sym, ap, subst, ◌∙◌, arith}
+use Rattle.std.specs.Prelude.{slice_get, slice_index, option_map, All, IfSome}
 use Rattle.std.specs.Map.{keys_of}
 use Rattle.std.specs.Option.{option_flatten, option_map_or}
 use Rattle.std.proofs.lemmas.List.{length-map, get_or_default}
@@ -10,7 +10,7 @@ use Rattle.mi_dirs.specs.Chains.{along, ends_in}
 use Rattle.mi_dirs.specs.Order.{parent_in, IsOrder}
 use Rattle.mi_dirs.proofs.ChainLemmas.{along_step}
 use Rattle.mi_installs.proofs.FilledLemmas.{Filled, above_is, same_function}
-use Rattle.mi_schema.specs.Checks.{row_with, companion_of, parent_of_directory, chain_fault, required_fault, references_fault, cycles_fault, compressed_fault, package_fault}
+use Rattle.mi_schema.specs.Checks.{companion_of, parent_of_directory, chain_fault, required_fault, references_fault, cycles_fault, compressed_fault, package_fault}
 use Rattle.mi_schema.specs.Lawful.{IsLawful}
 use Rattle.mi_schema.specs.Rows.{◌or_else◌}
 use Rattle.mi_schema.specs.RowsOf.{rows_in, behind}

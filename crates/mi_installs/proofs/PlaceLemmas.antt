@@ -1,6 +1,6 @@
 -- Rows of a table by their places and by their keys.
-use Rattle.std.proofs.Common.{◌≡◌, ℕ, zero, suc, ◌+◌, ◌-◌, ◌<◌, ◌≤◌, eqb, Bool, true, false, cond, ◌||◌, ◌&&◌, List, [], ◌∷◌, ◌++◌, map, length, Option, Some, None, refl, sym, ap, subst, ◌∙◌, arith, inl, inr, ◌⊎◌}
-use Rattle.std.specs.Prelude.{slice_get, option_map, option_and_then, find, filter, unwrap_or, Result, Ok, Err}
+use Rattle.std.proofs.Common.{◌≡◌, ℕ, zero, suc, Bool, true, false, cond, List, [], ◌∷◌, map, Option, Some, None, refl, sym, ap, subst, ◌∙◌, arith, inl, inr, ◌⊎◌}
+use Rattle.std.specs.Prelude.{slice_get, option_map, option_and_then, filter}
 use Rattle.std.proofs.lemmas.Bool.{cases_Bool}
 use Rattle.std.specs.declared.cmp.Ordering.{Ordering}
 use Rattle.std.specs.declared.cmp.Ordering.TheVariants.{Less, Equal, Greater}
@@ -152,9 +152,11 @@ module _ {R : Type 0} (key : R → Name) where
 
   in_made : (n : ℕ) (rows : List R) (k : ℕ) (r : R) → AreKeyed rows → slice_get rows k ≡ Some r → (m : ℕ) × In (key r, record { number = m; row = r }) (made n rows)
   in_made n [] k r keyed e = cc
-  in_made n (x ∷ rows) zero r keyed e =
-      (n, subst (In (key r, record { number = n; row = r })) (sym (next n x rows))
-      (subst (λ (a : R). In (key r, record { number = n; row = r }) (put name_cmp (key a) (record { number = n; row = a }) (made (suc n) rows))) (sym (some_is e)) (in_put (key r) (record { number = n; row = r }) (made (suc n) rows))))
+  in_made n (x ∷ rows) zero r keyed e = (
+    n,
+    subst (In (key r, record { number = n; row = r })) (sym (next n x rows))
+        (subst (λ (a : R). In (key r, record { number = n; row = r }) (put name_cmp (key a) (record { number = n; row = a }) (made (suc n) rows))) (sym (some_is e)) (in_put (key r) (record { number = n; row = r }) (made (suc n) rows))),
+  )
   in_made n (x ∷ rows) (suc k) r keyed e =
       let rest = in_made (suc n) rows k r (λ i j a b p q same. less i j (keyed (suc i) (suc j) a b p q same)) e in
       (rest.0, subst (In (key r, record { number = rest.0; row = r })) (sym (next n x rows)) (stays_put (key x) (record { number = n; row = x }) (made (suc n) rows) (key r, record { number = rest.0; row = r }) (λ same. none (keyed zero (suc k) x r refl e same)) rest.1))

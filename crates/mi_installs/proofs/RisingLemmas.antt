@@ -5,7 +5,7 @@ use Rattle.std.proofs.lemmas.List.{append-nil, get_or_default}
 use Rattle.std.proofs.lemmas.List.Elements.{filter_map-append}
 use Rattle.std.specs.Ordering.{nat_cmp, eq_by_cmp, match_ordering}
 use Rattle.std.specs.declared.cmp.Ordering.TheVariants.{Less, Equal, Greater}
-use Rattle.std.specs.FinMap.{FinMap, get, insert, keys, entries, from_entries, same_map, nat_cmp-IsAntisymmetric, get-from_entries, get-insert, entries-insert, len-entries, len-empty}
+use Rattle.std.specs.FinMap.{insert, keys, entries, from_entries, same_map, nat_cmp-IsAntisymmetric, get-from_entries, get-insert, entries-insert, len-entries, len-empty}
 use Rattle.std.specs.FinMap.Entries.{find, put, by_order}
 use Rattle.std.specs.Cmp.{nat_cmp_total}
 use Rattle.mi_schema.proofs.ListLemmas.{map_done_item}
@@ -34,10 +34,10 @@ keys_put : (k : ℕ) (v : Unit {0}) (es : List (ℕ × Unit {0})) → map (λ (e
 keys_put k v [] = refl
 keys_put k v (e ∷ es) = elim (nat_cmp k e.0) as (λ o. map (λ (e : ℕ × Unit {0}). e.0) (by_order o ((k, v) ∷ e ∷ es) ((e.0, v) ∷ es) (e ∷ put nat_cmp k v es))
     ≡ match_ordering o (k ∷ e.0 ∷ map (λ (e : ℕ × Unit {0}). e.0) es) (e.0 ∷ map (λ (e : ℕ × Unit {0}). e.0) es) (e.0 ∷ insert_key nat_cmp (map (λ (e : ℕ × Unit {0}). e.0) es) k)) [
-  | Less ↦ refl
-  | Equal ↦ refl
-  | Greater ↦ ap (λ (ks : List ℕ). e.0 ∷ ks) (keys_put k v es)
-]
+      | Less ↦ refl
+      | Equal ↦ refl
+      | Greater ↦ ap (λ (ks : List ℕ). e.0 ∷ ks) (keys_put k v es)
+    ]
 
 pub rising_more : (ns : List ℕ) (n : ℕ) → rising (ns ++ n ∷ []) ≡ insert_key nat_cmp (rising ns) n
 rising_more ns n =

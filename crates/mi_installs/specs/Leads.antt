@@ -1,5 +1,5 @@
 -- Companions, by the places of their rows in File. (Companion Files; File Table, Version.)
-use Rattle.std.specs.Prelude.{ℕ, suc, ◌||◌, Bool, false, List, [], ◌∷◌, map, length, Option, Some, None, option_map, option_and_then, unwrap_or, slice_get, slice_index_or, slice_set, replicate}
+use Rattle.std.specs.Prelude.{ℕ, suc, ◌||◌, Bool, false, List, [], ◌∷◌, map, length, Option, Some, None, option_and_then, unwrap_or, slice_get, slice_index_or, slice_set, replicate}
 use Rattle.std.specs.Option.{option_flatten, option_map_or}
 use Rattle.mi_text.specs.Maps.{Name}
 use Rattle.mi_dirs.specs.Chains.{along}

@@ -145,7 +145,15 @@ pub(crate) fn same_hash<S: Source, V: Volume>(
     ensures causes { Causes (source.Rose (S.faults src.old) (S.faults src.new)) (volume.Rose (V.state vol.old) (V.state vol.new)) result }
 {
     if looks_at_hash(mode, old, new) {
-        has_same_hash(alloc, loaded, &placed.row.file, &placed.path, image, src, vol)
+        has_same_hash(
+            alloc,
+            loaded,
+            &placed.row.file,
+            &placed.path,
+            image,
+            src,
+            vol,
+        )
     } else {
         Ok(false)
     }

@@ -1,14 +1,10 @@
-use Rattle.std.proofs.Common.{◌≡◌, ◌∙◌, ◌+◌, ◌∷◌, [], ◌++◌, ℕ, Bool, List, Some, map, take, length, length-append, get_or, sym, ap, subst, arith}
+use Rattle.std.proofs.Common.{◌≡◌, ◌∙◌, ℕ, Bool, List, Some, map, length, sym, ap, subst, arith}
 use Rattle.std.specs.Prelude.{Err}
 use Rattle.std.proofs.lemmas.List.{take_all, length-map}
-use Rattle.mi_schema.specs.RowsOf.{rows_in}
-use Rattle.mi_schema.specs.TableRows.{Rows}
-use Rattle.mi_schema.specs.declared.package.Package.{Package}
-use Rattle.mi_schema.proofs.ListLemmas.{map_done_item}
 use Rattle.mi_model.specs.FilePaths.{path_of_row}
 use Rattle.mi_model.specs.FileVersions.{is_called_for, product_language}
 use Rattle.mi_installs.specs.declared.placed.Placed.{Placed}
-use Rattle.mi_installs.proofs.CallLemmas.{reads_first, reads_then, causes_before, seen_later, language_is}
+use Rattle.mi_installs.proofs.CallLemmas.{reads_first, reads_then, causes_before, seen_later, language_is, called_more, size_more}
 use Rattle.mi_installs.proofs.deciding.called_for.Goals as goal
 
 pub loop-placed-init : goal.loop-placed-init
@@ -34,11 +30,8 @@ loop-placed-preserved g c =
           let path : path_of_row w item.row.now ≡ Some item.path = subst (λ (p : Placed). path_of_row w p.row.now ≡ Some p.path) (sym c.placed-item.is) (paths i item c.loop-placed-test.true) in
           let language : c.in_ok-language.language ≡ product_language w = language_is w (g.E.Sees.rows c.args.seen.now) c.package.result.now c.in_ok-language.language seen.asked.rows c.package.ensures c.in_ok-language.ensures in
           let one : c.in-Ok.one ≡ is_called_for w item.row.now = c.in-Ok.ensures.called w later told src path language in
-          c.in_ok-push-in-Ok.ensures.items
-          ∙ ap (λ (bs : List Bool). bs ++ c.in-Ok.one ∷ []) (c.loop-placed.invariant.called w seen told src paths)
-          ∙ ap (λ (b : Bool). take i (map (λ (p : Placed). is_called_for w p.row.now) rows) ++ b ∷ []) one
-          ∙ sym (map_done_item (λ (p : Placed). is_called_for w p.row.now) rows i item c.placed-item.is c.loop-placed-test.true);
-      size = ap length c.in_ok-push-in-Ok.ensures.items ∙ length-append c.loop-placed.called.items (c.in-Ok.one ∷ []) ∙ ap (λ (n : ℕ). n + 1) c.loop-placed.invariant.size;
+          called_more (λ (p : Placed). is_called_for w p.row.now) rows i item c.loop-placed.called.items c.push.new.self.items c.in-Ok.one c.placed-item.is c.loop-placed-test.true (c.loop-placed.invariant.called w seen told src paths) one c.in_ok-push-in-Ok.ensures.items;
+      size = size_more c.loop-placed.called.items c.push.new.self.items c.in-Ok.one i c.loop-placed.invariant.size c.in_ok-push-in-Ok.ensures.items;
       reads = reads_then told_here (state c.args.vol.now) (state c.loop-placed.vol) (state c.is_called_for.new.vol) (files c.args.src.now) (files c.loop-placed.src) (files c.is_called_for.new.src) (faults c.args.src.now) (faults c.loop-placed.src) (faults c.is_called_for.new.src) before c.is_called_for.ensures.reads;
     }
 

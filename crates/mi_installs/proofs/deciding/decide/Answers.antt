@@ -1,6 +1,5 @@
-use Rattle.std.proofs.Common.{◌≡◌, ◌∙◌, Bool, List, map, sym, ap}
+use Rattle.std.proofs.Common.{◌∙◌, List, map, ap}
 use Rattle.mi_schema.specs.RowsOf.{rows_in}
-use Rattle.mi_schema.specs.TableRows.{Rows}
 use Rattle.mi_schema.specs.declared.package.Package.{Package}
 use Rattle.mi_installs.specs.declared.placed.Placed.{Placed}
 use Rattle.mi_installs.specs.Leads.{is_followed}

@@ -1,7 +1,7 @@
-use Rattle.std.proofs.Common.{◌≡◌, ℕ, Bool, subst, sym}
+use Rattle.std.proofs.Common.{◌≡◌, ℕ, Bool, subst}
 use Rattle.std.specs.Prelude.{IfOk}
 use Rattle.mi_fver.specs.declared.new_file.NewFile.{NewFile}
-use Rattle.mi_model.specs.FileVersions.{product_language, new_file}
+use Rattle.mi_model.specs.FileVersions.{product_language}
 use Rattle.mi_installs.specs.Deciding.{replaced_by}
 use Rattle.mi_installs.proofs.deciding.is_brought.Goals as goal
 

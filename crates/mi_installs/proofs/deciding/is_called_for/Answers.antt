@@ -1,4 +1,4 @@
-use Rattle.std.proofs.Common.{◌≡◌, ℕ, Bool, Some, option_map, refl, sym, ap, ◌∙◌}
+use Rattle.std.proofs.Common.{◌≡◌, Bool, refl, sym, ◌∙◌}
 use Rattle.mi_image.specs.Items.{machine_over}
 use Rattle.mi_model.specs.FileVersions.{is_called_for, new_file, product_language}
 use Rattle.mi_installs.specs.Deciding.{replaced_by}

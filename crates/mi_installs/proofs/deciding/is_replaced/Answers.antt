@@ -1,9 +1,7 @@
-use Rattle.std.proofs.Common.{◌≡◌, ℕ, Bool, Some, sym, refl, ap, ◌∙◌}
-use Rattle.std.specs.Prelude.{IfOk}
+use Rattle.std.proofs.Common.{sym, ap, ◌∙◌}
 use Rattle.mi_base.specs.Machine.{file_at}
 use Rattle.mi_image.specs.Items.{machine_over}
 use Rattle.mi_schema.specs.RowsOf.{rows_in}
-use Rattle.mi_schema.specs.declared.package.Package.{Package}
 use Rattle.mi_installs.proofs.CallLemmas.{head_some, head_none, replaced_is, absent_is}
 use Rattle.mi_installs.proofs.deciding.is_replaced.Goals as goal
 

@@ -1,4 +1,4 @@
-use Rattle.std.proofs.Common.{◌≡◌, ℕ, Bool, false, Some, sym, refl, ap, ◌∙◌}
+use Rattle.std.proofs.Common.{◌≡◌, Bool, false, Some, sym, refl, ap, ◌∙◌}
 use Rattle.mi_fver.specs.Rules.{replaces_of}
 use Rattle.mi_model.specs.FileVersions.{has_same_hash}
 use Rattle.mi_installs.proofs.CallLemmas.{if_ok}

@@ -1,4 +1,4 @@
-use Rattle.std.proofs.Common.{Option, Some, ap, ◌∙◌}
+use Rattle.std.proofs.Common.{Some, ap, ◌∙◌}
 use Rattle.std.specs.Prelude.{option_map}
 use Rattle.mi_schema.specs.declared.typed_rows.MsiFileHashRow.{MsiFileHashRow}
 use Rattle.mi_schema.specs.RowsOf.{rows_in}

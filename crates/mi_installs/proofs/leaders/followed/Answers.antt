@@ -1,4 +1,4 @@
-use Rattle.std.proofs.Common.{◌≡◌, ◌<◌, ◌∙◌, ℕ, Bool, List, Option, Some, length, sym, ap, subst, arith}
+use Rattle.std.proofs.Common.{◌≡◌, ◌<◌, ◌∙◌, ℕ, Bool, List, Option, Some, length, ap, subst, arith}
 use Rattle.std.specs.Prelude.{slice_get, IfOk}
 use Rattle.std.proofs.lemmas.List.{length-map}
 use Rattle.mi_schema.specs.RowsOf.{rows_in}
@@ -15,8 +15,8 @@ returns c =
     let led : c.deref-2.result.now ≡ leaders_of files = c.deref-2.ensures.value ∙ c.in_ok-leaders.ensures in
     let says : c.deref-4.result.now ≡ asked = c.deref-4.ensures.value ∙ c.in_ok-asked.ensures.asked in
     let at : (row : ℕ) → row < length files → slice_get c.deref-5.result.now row ≡ Some (written_at (leaders_of files) asked row) = λ row lt.
-        ap (λ (ws : List Bool). slice_get ws row) c.deref-5.ensures.value
-        ∙ c.in_ok-written.ensures.written row (omega (arith, lt, ap length led, length-map files (leader_place files)))
-        ∙ ap (λ (ls : List (Option ℕ)). Some (written_at ls c.deref-4.result.now row)) led
-        ∙ ap (λ (a : List (Option Bool)). Some (written_at (leaders_of files) a row)) says in
+    ap (λ (ws : List Bool). slice_get ws row) c.deref-5.ensures.value
+    ∙ c.in_ok-written.ensures.written row (omega (arith, lt, ap length led, length-map files (leader_place files)))
+    ∙ ap (λ (ls : List (Option ℕ)). Some (written_at ls c.deref-4.result.now row)) led
+    ∙ ap (λ (a : List (Option Bool)). Some (written_at (leaders_of files) a row)) says in
     subst (λ (l : List Bool). IfOk c.of_rows.result (λ all. all.items ≡ l)) (written_of (λ (p : Placed). p.row.now.file) c.args.rows.now files c.deref-5.result.now (written_at (leaders_of files) asked) at) c.of_rows.ensures
