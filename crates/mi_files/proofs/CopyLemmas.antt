@@ -1,12 +1,13 @@
 -- Copies of files.
-use Rattle.std.proofs.Common.{◌≡◌, ◌≢◌, ℕ, Bool, true, false, cond, not, ◌&&◌, List, [], ◌∷◌, ◌++◌, map, Bor, Option, Some, None, refl, sym, ap, ◌∙◌, subst}
-use Rattle.std.specs.Prelude.{filter, Ok, Err, codes, option_map, is_some, OnOk, Result}
+use Rattle.std.proofs.Common.{◌≡◌, ◌≢◌, ℕ, Bool, true, false, cond, not, ◌&&◌, List, [], ◌∷◌, ◌++◌, map, Bor, Option, Some, None, refl, sym, ap, ◌∙◌, subst, inl, inr, ◌↔◌}
+use Rattle.std.specs.Prelude.{filter, Ok, Err, codes, option_map, is_some, nat_lt, Result}
+use Rattle.std.specs.Option.{option_copied}
 use Rattle.std.specs.FinMap.{get}
 use Rattle.std.proofs.lemmas.Bool.{cases_Bool}
 use Rattle.mi_text.specs.Fold.{folded}
 use Rattle.mi_text.specs.Lookups.{Lookups}
 use Rattle.mi_text.specs.Maps.{Map, Name, same_name}
-use Rattle.mi_text.specs.Path.{is_file_path, up_to_last, parent_of}
+use Rattle.mi_text.specs.Path.{is_path, is_file_path, up_to_last, parent_of}
 use Rattle.mi_text.proofs.MapLemmas.{from_same, same_itself}
 use Rattle.mi_text.proofs.PathLemmas.{file_is, file_is_path, parent_open, only_folder}
 use Rattle.mi_base.specs.declared.entry.FileHead.{FileHead}
@@ -14,8 +15,7 @@ use Rattle.mi_base.specs.declared.entry.FileEntry.{FileEntry}
 use Rattle.mi_base.specs.declared.entry.Entry.{Entry}
 use Rattle.mi_base.specs.declared.entry.Entry.TheVariants as entry
 use Rattle.mi_base.specs.declared.answers.Fault.{Fault}
-use Rattle.mi_base.specs.declared.answers.Fault.TheVariants.{BadPath}
-use Rattle.mi_base.specs.Limits.{fits}
+use Rattle.mi_base.specs.Limits.{fits, are_few, rises}
 use Rattle.mi_base.specs.Machine.{Machine, as_file, file_at}
 use Rattle.mi_base.specs.Names.{file_name, folder_name}
 use Rattle.mi_base.specs.Records.{with_bytes}
@@ -27,7 +27,8 @@ use Rattle.mi_script.specs.Spelled.{is_file_name}
 use Rattle.mi_image.specs.declared.item.Content.{Content}
 use Rattle.mi_image.specs.declared.item.Item.{Item}
 use Rattle.mi_image.specs.declared.item.Item.TheVariants.{Head, Whole}
-use Rattle.mi_image.specs.Items.{Items, bytes_of_file, entry_over, machine_over, AreRight, is_split}
+use Rattle.mi_image.specs.Items.{Items, bytes_of_file, entry_over, machine_over, AreRight, AreThere, is_split}
+use Rattle.mi_image.specs.Overlays.{present_items}
 use Rattle.mi_image.proofs.LookupLemmas.{get_over}
 use Rattle.mi_schema.specs.declared.package.Package.{Package}
 use Rattle.mi_schema.specs.declared.typed_rows.DuplicateFileRow.{DuplicateFileRow}
@@ -49,11 +50,10 @@ use Rattle.mi_steps.proofs.FollowLemmas.{joined}
 use Rattle.mi_records.specs.declared.error.PlanError.{PlanError}
 use Rattle.mi_records.specs.declared.error.PlanError.TheVariants as error
 use Rattle.mi_records.specs.Choices.{Choices, IsAsked}
-use Rattle.mi_records.specs.Clients.{IsFault}
 use Rattle.mi_records.specs.Order.{as_numbered}
 use Rattle.mi_records.specs.Rows.{Row}
 use Rattle.mi_records.proofs.PhaseLemmas.{map-over}
-use Rattle.mi_files.specs.Copies.{copied_head, copied_at, copy_of_file}
+use Rattle.mi_files.specs.Copies.{copied_head, copied_at, copy_of_file, copied_to}
 use Rattle.mi_files.proofs.FolderLemmas.{taken_seen}
 
 -- ---- the rows
@@ -88,6 +88,21 @@ no_file held files items q e right at = ap as_file (get_over held files items q 
 pub none_at : (held files : Map (List ℕ)) (items : Items) (q : Name) → get items q ≡ None → as_file (get (machine_over held files items) q) ≡ None
 none_at held files items q at = ap as_file (get_over held files items q ∙ ap (option_map (entry_over held files)) at)
 
+pub is_there : (r : Option (Bor FileHead)) (o : Option FileEntry) → option_copied r ≡ option_map head_of o → is_some o ≡ is_some r
+is_there None None is = refl
+is_there None (Some f) is = absurd cc
+is_there (Some h) None is = absurd cc
+is_there (Some h) (Some f) is = refl
+
+swapped : (a x b c d : Bool) → (((a && b) && c) && d) ≡ true → x ≡ true → (((x && b) && c) && d) ≡ true
+swapped true x b c d e is = ap (λ t. ((t && b) && c) && d) is ∙ e
+swapped false x b c d e is = cc
+
+-- the head of a copy fits
+pub copied_fits : (h : FileHead) (path : List ℕ) (moment : ℕ) → is_file_path path ≡ true → fits (entry.File (with_bytes h [])) ≡ true → fits (entry.File (with_bytes (copied_head path moment h) [])) ≡ true
+unfolding fits
+copied_fits h path moment is e = swapped (is_file_path h.shown) (is_file_path path) (are_few h.languages) (rises nat_lt h.languages) (nat_lt h.attributes 8) e is
+
 -- ---- what a copy makes
 
 of_some : {X : Type 0} (a b : X) → Some a ≡ Some b → a ≡ b
@@ -116,12 +131,13 @@ copy_none path moment (Some f) e = absurd cc
 -- ---- the folders of a copy
 
 pub file_parent : (path : List ℕ) → is_file_path path ≡ true → parent_of path ≡ up_to_last path
-file_parent path is = sym (parent_open path path_is open)
+file_parent path is = sym (parent_open path path_is no_end)
   where
+    path_is : is_path path ≡ true
     path_is = file_is_path path (file_is path is)
 
-    open : (front : List ℕ) → path ≢ front ++ 92 ∷ []
-    open front at = let no : is_file_path path ≡ false = (only_folder path front path_is at).1 in let clash : true ≡ false = sym is ∙ no in cc
+    no_end : (front : List ℕ) → path ≢ front ++ 92 ∷ []
+    no_end front at = let no : is_file_path path ≡ false = (only_folder path front path_is at).1 in let clash : true ≡ false = sym is ∙ no in cc
 
 no_folder : (q : Name) → is_file_name q ≡ true → IsNoFolder q
 unfolding folder_name
@@ -178,14 +194,26 @@ told_apart a b false tells = elim (cases_Bool (same_name a b)) [
   | inr apart ↦ ap not apart
 ]
 
+-- what the program judges by the image, and what follows
+module _ (held : Map (List ℕ)) (files : Files) (a : Plan) (path original : List ℕ) (from : Name) (items : Items) (image : items ≡ present_items a.overlay) (named : from ≡ file_name original) where
+  pub judged : (t b : Bool) → (AreThere held files items → t ≡ (is_some (as_file (get (machine_over held files items) from)) && not (same_name (file_name path) from))) → AreThere held files (present_items a.overlay) → t ≡ b
+      → (is_some (file_at (plan_machine held files a) original) && not (same_name (file_name path) (file_name original))) ≡ b
+  judged t b tells there is =
+      let here : AreThere held files items = subst (λ (i : Items). AreThere held files i) (sym image) there in
+      ap (λ (q : Name). is_some (as_file (get (plan_machine held files a) q)) && not (same_name (file_name path) q)) (sym named)
+      ∙ ap (λ (i : Items). is_some (as_file (get (machine_over held files i) from)) && not (same_name (file_name path) from)) (sym image)
+      ∙ sym (tells here) ∙ is
+
+  pub copied : (b : Plan) (w : World) (moment : ℕ) → w.given.now ≡ moment → (is_some (file_at (plan_machine held files a) original) && not (same_name (file_name path) (file_name original))) ≡ true
+      → Makes held files a b (parents_of_path path ++ copy_of_file path moment (as_file (get (plan_machine held files a) from))) → Makes held files a b (copies w path original (file_at (plan_machine held files a) original))
+  copied b w moment now is makes =
+      subst (λ (ts : List (Touch Entry)). Makes held files a b ts) (copies_some w path original moment (file_at (plan_machine held files a) original) now is)
+      (subst (λ (q : Name). Makes held files a b (parents_of_path path ++ copy_of_file path moment (as_file (get (plan_machine held files a) q)))) named makes)
+
 -- ---- rows
 
-module _ (held : Map (List ℕ)) (files : Files) (a b : Plan) where
-  -- a row whose path is refused
-  pub row_refused : {A : Type 0} (effect : RowEffect) (f : Fault) (e : PlanError) → effect (plan_machine held files a) ≡ Err f → IsFault f e → Row held files a b {A = A} effect (Err e)
-  row_refused effect f error.NoMemory refused is = tt
-  row_refused effect f (error.Fault g) refused is = refused ∙ ap Err (sym is)
+pub told_original : (w : World) (number : ℕ) (r : DuplicateFileRow) (path original : Text) (m : Machine) → Some original ≡ original_path w r → copied_to w number r path m ≡ Ok (copies w path original (file_at m original))
+told_original w number r path original m is = ap (λ (o : Option Text). right_path (codes "DuplicateFile") number o >>= λ original. Ok (copies w path original (file_at m original))) (sym is)
 
-pub row_of_path : (w : World) (r : Numbered DuplicateFileRow) (o : Option (Option Text)) (m : Machine) → o ≡ copy_path w r.row
-    → copied_row w r m ≡ with_path r o (λ path. right_path (codes "DuplicateFile") r.number (original_path w r.row) >>= λ original. Ok (copies w path original (file_at m original)))
-row_of_path w r o m is = ap (λ (o : Option (Option Text)). with_path r o (λ path. right_path (codes "DuplicateFile") r.number (original_path w r.row) >>= λ original. Ok (copies w path original (file_at m original)))) (sym is)
+pub told_path : (w : World) (r : Numbered DuplicateFileRow) (path : Text) (m : Machine) → Some (Some path) ≡ copy_path w r.row → copied_to w r.number r.row path m ≡ copied_row w r m
+told_path w r path m is = ap (λ (o : Option (Option Text)). with_path r o (λ path. copied_to w r.number r.row path m)) is

@@ -2,6 +2,7 @@
 use Rattle.std.proofs.Common.{◌≡◌, ℕ, suc, ◌+◌, ◌<◌, ◌≤◌, Bool, true, false, not, cond, ◌&&◌, List, [], ◌∷◌, ◌++◌, length, map, take, drop, refl, sym, ap, ◌∙◌, subst, arith, add-one, append_assoc, append-nil, drop-cons}
 use Rattle.std.specs.Prelude.{◌==◌, nat_lt}
 use Rattle.std.specs.List.{slice_index_or}
+use Rattle.std.proofs.lemmas.Bool.Decides.{nat_tests}
 use Rattle.std.proofs.lemmas.List.{map-append, drop_all}
 use Rattle.mi_text.specs.Path.{is_folder_path}
 use Rattle.mi_base.specs.declared.entry.Entry.{Entry}
@@ -18,6 +19,19 @@ use Rattle.mi_files.proofs.EndLemmas.{ends_from, cut_at, folders_at_ends, folder
 -- a place at which a folder ends
 abbrev pub ends_folder : List ℕ → ℕ → Bool
 ends_folder path place = nat_lt 2 place && (slice_index_or path place 0 == 92)
+
+pub ends_there : (path : List ℕ) (place : ℕ) → 2 < place → (slice_index_or path place 0 == 92) ≡ true → ends_folder path place ≡ true
+ends_there path place past slash = let behind : nat_lt 2 place ≡ true = grind (arith, nat_tests) in rw (behind, slash) refl
+
+pub ends_not : (path : List ℕ) (place : ℕ) → (slice_index_or path place 0 == 92) ≡ false → ends_folder path place ≡ false
+ends_not path place other = ap (λ t. nat_lt 2 place && t) other ∙ by (nat_lt 2 place)
+  where
+    by : (b : Bool) → (b && false) ≡ false
+    by true = refl
+    by false = refl
+
+pub in_drive : (path : List ℕ) (place : ℕ) → place ≤ 2 → ends_folder path place ≡ false
+in_drive path place le = let before : nat_lt 2 place ≡ false = grind (arith, nat_tests) in ap (λ t. t && (slice_index_or path place 0 == 92)) before
 
 pub folder_fits : (path : List ℕ) (place : ℕ) → is_folder_path path ≡ true → 2 < place → place < length path → (slice_index_or path place 0 == 92) ≡ true → fits (entry.Folder (take (place + 1) path)) ≡ true
 unfolding fits

@@ -1,5 +1,5 @@
 -- The files that rows guard, as the program gathers them. (Guards are this project's own.)
-use Rattle.std.specs.Prelude.{ℕ, Bool, List, Option, None, option_map, if◌then◌else◌}
+use Rattle.std.specs.Prelude.{Bool, Option, None, option_map, if◌then◌else◌}
 use Rattle.std.specs.Option.{option_flatten}
 use Rattle.mi_text.specs.Maps.{Name}
 use Rattle.mi_base.specs.Names.{file_name}

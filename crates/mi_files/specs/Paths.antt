@@ -1,5 +1,5 @@
 -- The paths of rows, by what phases ask. (File Table; DuplicateFile Table; Directory Table.)
-use Rattle.std.specs.Prelude.{List, ℕ, Option, Some, None, option_map, option_and_then}
+use Rattle.std.specs.Prelude.{Option, Some, None, option_map, option_and_then}
 use Rattle.std.specs.Result.{result_ok}
 use Rattle.mi_text.specs.Lookups.{Lookups}
 use Rattle.mi_text.specs.Path.{file_of}

@@ -1,6 +1,6 @@
 -- Which rows take files away, and which files, by what phases ask. (RemoveFile Table; RemoveFiles Action. Guards are this
 -- project's own.)
-use Rattle.std.specs.Prelude.{ℕ, Bool, ◌&&◌, ◌||◌, not, if◌then◌else◌, List, ◌++◌, map, Option, None, option_map, is_none}
+use Rattle.std.specs.Prelude.{ℕ, Bool, ◌&&◌, ◌||◌, not, if◌then◌else◌, List, ◌++◌, map, Option, None, option_map, is_none, Ok}
 use Rattle.std.specs.List.{filter_map}
 use Rattle.std.specs.Option.{option_flatten}
 use Rattle.mi_text.specs.Maps.{Name}
@@ -11,9 +11,10 @@ use Rattle.mi_schema.specs.declared.typed_rows.DuplicateFileRow.{DuplicateFileRo
 use Rattle.mi_schema.specs.declared.typed_rows.FileRow.{FileRow}
 use Rattle.mi_schema.specs.declared.typed_rows.RemoveFileRow.{RemoveFileRow}
 use Rattle.mi_model.specs.Texts.{Text}
-use Rattle.mi_model.specs.World.{World}
+use Rattle.mi_model.specs.World.{World, RowEffect}
 use Rattle.mi_model.specs.Conditions.{has}
-use Rattle.mi_model.specs.FilePaths.{path_of_row, copy_path}
+use Rattle.mi_model.specs.FilePaths.{path_of_row, copy_path, right_path, takes_file}
+use Rattle.mi_model.specs.Refusals.{◌>>=◌}
 use Rattle.mi_model.specs.RemoveFiles.{folder_of_row, lies_in}
 use Rattle.mi_records.specs.Choices.{Choices}
 
@@ -24,6 +25,10 @@ is_in_force c r = (c.local r.component && has 1 r.install_mode) || (c.leaving r.
 -- what a folder and a pattern take: guarded names too where the row is of a local component
 abbrev pub takes : (Name → Bool) → Bool → Folder → Text → Name → Bool
 takes guarded local folder pattern q = lies_in folder pattern q && (local || not (guarded q))
+
+-- what a row of a table takes whose path is this
+abbrev pub path_effect : World → Text → ℕ → Option Text → RowEffect
+path_effect w table number path m = right_path table number path >>= λ p. Ok (takes_file w p)
 
 -- ---- the folders that rows touch
 

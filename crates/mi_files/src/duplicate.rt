@@ -1,6 +1,6 @@
 //! DuplicateFiles as a plan call (DuplicateFile table).
 
-ghost use Rattle.std.specs.Prelude.{◌≡◌, [], List, ℕ, Ok, Some, IfOk, IfSome, OnOk, IsTrue, true, codes, map, filter, option_map};
+ghost use Rattle.std.specs.Prelude.{◌≡◌, ◌++◌, ◌&&◌, not, [], List, ℕ, Some, IfOk, IfSome, OnOk, IsTrue, true, is_some, map, filter, option_map};
 ghost use Rattle.std.specs.FinMap.{get};
 ghost use Rattle.std.specs.Option.{option_copied};
 ghost use Rattle.mi_text.specs.Maps.{Map, same_name};
@@ -8,6 +8,7 @@ ghost use Rattle.mi_text.specs.Path.{is_file_path};
 ghost use Rattle.mi_base.specs.declared.entry.Entry.TheVariants as entry;
 ghost use Rattle.mi_base.specs.Limits.{fits};
 ghost use Rattle.mi_base.specs.Machine.{as_file, file_at};
+ghost use Rattle.mi_base.specs.Names.{file_name};
 ghost use Rattle.mi_base.specs.Records.{with_bytes};
 ghost use Rattle.mi_base.specs.Spelling.{head_of};
 ghost use Rattle.mi_image.specs.Items.{AreThere, machine_over};
@@ -17,20 +18,20 @@ ghost use Rattle.mi_model.specs.World.{World};
 ghost use Rattle.mi_model.specs.Asked.{comes};
 ghost use Rattle.mi_model.specs.DuplicateFiles as model;
 ghost use Rattle.mi_model.specs.DuplicateFiles.{copies, copied_row, duplicate_files};
-ghost use Rattle.mi_model.specs.FilePaths.{original_path, right_path};
-ghost use Rattle.mi_model.specs.Refusals.{◌>>=◌};
+ghost use Rattle.mi_model.specs.Parents.{parents_of_path};
 ghost use Rattle.mi_schema.specs.Lawful.{IsLawful};
 ghost use Rattle.mi_schema.specs.RowsOf.{rows_in};
 ghost use Rattle.mi_schema.specs.TableRows.{in_key_order};
 ghost use Rattle.mi_schema.specs.declared.typed_rows.DuplicateFileRow.{DuplicateFileRow};
 ghost use Rattle.mi_steps.specs.Follows.{Grows};
 ghost use Rattle.mi_steps.specs.Makes.{Makes, plan_machine};
+ghost use Rattle.mi_script.specs.Spelled.{is_file_name};
 ghost use Rattle.mi_records.specs.Choices.{IsAsked};
 ghost use Rattle.mi_records.specs.Keeps.{Keeps};
 ghost use Rattle.mi_records.specs.Order.{as_numbered};
 ghost use Rattle.mi_records.specs.Rows as made;
 ghost use Rattle.mi_records.specs.Rows.{Phase};
-ghost use Rattle.mi_files.specs.Copies.{copied_head, copy_of_file};
+ghost use Rattle.mi_files.specs.Copies.{copied_head, copy_of_file, copied_to};
 
 use crate::names::{bad_path, name_of_file};
 use crate::parents::make_folders;
@@ -176,7 +177,8 @@ fn copy_with_folders(
     path: &PathText,
     from: &Name,
 ) -> Result<(), NoMemory>
-    requires { IsTrue (is_file_path path.now) }
+    requires path { IsTrue (is_file_path path.now) }
+    requires from { is_file_name from.now ≡ true }
     ensures makes { (held files : Map (List ℕ)) → AreThere held files (present_items plan.old.overlay) → OnOk result (Makes held files plan.old plan.new (parents_of_path path.now ++ copy_of_file path.now moment (as_file (get (plan_machine held files plan.old) from.now)))) }
     ensures keeps { Keeps plan.old plan.new }
 {
@@ -225,7 +227,7 @@ fn copy_to<E: Sees>(
 ) -> Result<(), PlanError>
     requires lawful { IsLawful (E.rows seen.now) }
     requires path { IsTrue (is_file_path path.now) }
-    ensures row { (held files : Map (List ℕ)) (w : World) → IsAsked (E.lookups seen.now) (E.choices seen.now) (E.rows seen.now) w → AreThere held files (present_items plan.old.overlay) → made.Row held files plan.old plan.new (λ m. right_path (codes "DuplicateFile") row.entry.0 (original_path w row.entry.1.now) >>= λ original. Ok (copies w path.now original (file_at m original))) result }
+    ensures row { (held files : Map (List ℕ)) (w : World) → IsAsked (E.lookups seen.now) (E.choices seen.now) (E.rows seen.now) w → AreThere held files (present_items plan.old.overlay) → made.Row held files plan.old plan.new (copied_to w row.entry.0 row.entry.1.now path.now) result }
     ensures keeps { Keeps plan.old plan.new }
 {
     let (number, row) = row;

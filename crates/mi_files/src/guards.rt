@@ -1,15 +1,14 @@
 //! The files that rows of kept components guard.
 
-ghost use Rattle.std.specs.Prelude.{◌≡◌, ◌||◌, List, ℕ, Bool, IfOk, OnOk, option_map};
+ghost use Rattle.std.specs.Prelude.{◌≡◌, ◌||◌, IfOk, OnOk, option_map};
 ghost use Rattle.std.specs.BTreeSet.{contains};
 ghost use Rattle.std.specs.Option.{option_flatten};
 ghost use Rattle.mi_text.specs.Maps.{Name as VolumeName, name_cmp};
 ghost use Rattle.mi_base.specs.Names.{file_name};
 ghost use Rattle.mi_model.specs.World.{World};
-ghost use Rattle.mi_model.specs.FilePaths.{is_guarded_file};
+ghost use Rattle.mi_model.specs.FilePaths.{copy_path, is_guarded_file, path_of_row};
 ghost use Rattle.mi_schema.specs.Lawful.{IsLawful};
 ghost use Rattle.mi_records.specs.Choices.{IsAsked};
-ghost use Rattle.mi_records.specs.Meaning.{numbered};
 ghost use Rattle.mi_records.specs.Removing.{Guards};
 ghost use Rattle.mi_files.specs.Guarding.{file_guard, copy_guard, guards_files, guards_copies};
 
@@ -34,19 +33,45 @@ fn name_of_some(alloc: Global, path: Option<PathText>) -> Result<Option<Name>, N
     }
 }
 
-// The name of the file that a row of File guards; one that is refused guards none.
+// The name of the file that a row of File names; one that is refused names none.
+fn file_named<E: Sees>(alloc: Global, seen: &E, row: &FileRow) -> Result<Option<Name>, NoMemory>
+    requires { IsLawful (E.rows seen.now) }
+    ensures { (w : World) → IsAsked (E.lookups seen.now) (E.choices seen.now) (E.rows seen.now) w → IfOk result (λ name. name ≡ option_map file_name (path_of_row w row.now)) }
+{
+    let path = row_path(alloc, seen, row)?;
+    let name = name_of_some(alloc, path)?;
+    Ok(name)
+}
+
+// The name of the copy that a row of DuplicateFile names; one that is refused or copies nothing names none.
+fn copy_named<E: Sees>(
+    alloc: Global,
+    seen: &E,
+    row: &DuplicateFileRow,
+) -> Result<Option<Name>, NoMemory>
+    requires { IsLawful (E.rows seen.now) }
+    ensures { (w : World) → IsAsked (E.lookups seen.now) (E.choices seen.now) (E.rows seen.now) w → IfOk result (λ name. name ≡ option_map file_name (option_flatten (copy_path w row.now))) }
+{
+    match copy_path(alloc, seen, row) {
+        Ok(Some(path)) => name_of_some(alloc, path),
+        Ok(None) => Ok(None),
+        Err(_) => Err(NoMemory),
+    }
+}
+
+// The name of the file that a row of File guards.
 fn file_guard<E: Sees>(alloc: Global, seen: &E, row: &FileRow) -> Result<Option<Name>, NoMemory>
     requires { IsLawful (E.rows seen.now) }
     ensures { (w : World) → IsAsked (E.lookups seen.now) (E.choices seen.now) (E.rows seen.now) w → IfOk result (λ name. name ≡ file_guard w row.now) }
 {
-    if !seen.keeps(row.component.as_str()) {
-        return Ok(None);
+    if seen.keeps(row.component.as_str()) {
+        file_named(alloc, seen, row)
+    } else {
+        Ok(None)
     }
-    let path = row_path(alloc, seen, row)?;
-    name_of_some(alloc, path)
 }
 
-// The name of the copy that a row of DuplicateFile guards; one that is refused or copies nothing guards none.
+// The name of the copy that a row of DuplicateFile guards.
 fn copy_guard<E: Sees>(
     alloc: Global,
     seen: &E,
@@ -55,25 +80,20 @@ fn copy_guard<E: Sees>(
     requires { IsLawful (E.rows seen.now) }
     ensures { (w : World) → IsAsked (E.lookups seen.now) (E.choices seen.now) (E.rows seen.now) w → IfOk result (λ name. name ≡ copy_guard w row.now) }
 {
-    if !seen.keeps(row.component.as_str()) {
-        return Ok(None);
-    }
-    match copy_path(alloc, seen, row)? {
-        Some(path) => name_of_some(alloc, path),
-        None => Ok(None),
+    if seen.keeps(row.component.as_str()) {
+        copy_named(alloc, seen, row)
+    } else {
+        Ok(None)
     }
 }
 
 // Adds the names that rows of File guard.
-fn add_files<E: Sees>(
-    alloc: Global,
-    seen: &E,
-    set: &mut BTreeSet<Name>,
-) -> Result<(), NoMemory>
+fn add_files<E: Sees>(alloc: Global, seen: &E, set: &mut BTreeSet<Name>) -> Result<(), NoMemory>
     requires { IsLawful (E.rows seen.now) }
     ensures { (w : World) → IsAsked (E.lookups seen.now) (E.choices seen.now) (E.rows seen.now) w → OnOk result ((q : VolumeName) → contains name_cmp set.new q ≡ (contains name_cmp set.old q || guards_files w q)) }
 {
-    for row in seen.package().file.values() {
+    let loaded = seen.package();
+    for row in loaded.file.values() {
         if let Some(name) = file_guard(alloc, seen, row)? {
             set.insert(name)?;
         }
@@ -82,15 +102,12 @@ fn add_files<E: Sees>(
 }
 
 // Adds the names that rows of DuplicateFile guard.
-fn add_copies<E: Sees>(
-    alloc: Global,
-    seen: &E,
-    set: &mut BTreeSet<Name>,
-) -> Result<(), NoMemory>
+fn add_copies<E: Sees>(alloc: Global, seen: &E, set: &mut BTreeSet<Name>) -> Result<(), NoMemory>
     requires { IsLawful (E.rows seen.now) }
     ensures { (w : World) → IsAsked (E.lookups seen.now) (E.choices seen.now) (E.rows seen.now) w → OnOk result ((q : VolumeName) → contains name_cmp set.new q ≡ (contains name_cmp set.old q || guards_copies w q)) }
 {
-    for row in seen.package().duplicate_file.values() {
+    let loaded = seen.package();
+    for row in loaded.duplicate_file.values() {
         if let Some(name) = copy_guard(alloc, seen, row)? {
             set.insert(name)?;
         }

@@ -1,6 +1,6 @@
 //! The files of a folder whose names are of a pattern (RemoveFile table; WildCardFilename).
 
-ghost use Rattle.std.specs.Prelude.{◌≡◌, ◌∷◌, ◌&&◌, [], List, ℕ, Bool, if◌then◌else◌, Some, None, IfOk, OnOk, filter, map};
+ghost use Rattle.std.specs.Prelude.{◌≡◌, ◌∷◌, ◌&&◌, ◌||◌, not, [], List, ℕ, Bool, if◌then◌else◌, Some, None, IfOk, OnOk, filter, map};
 ghost use Rattle.std.specs.FinMap.{keys};
 ghost use Rattle.std.specs.Str.{bytes_eq};
 ghost use Rattle.mi_text.specs.Fold.{folded};
@@ -53,7 +53,26 @@ fn lies_in(alloc: Global, folder: &str, pattern: &str, path: &PathText) -> Resul
     has_pattern(alloc, pattern, name)
 }
 
-// The name of the file of a path, where that goes.
+// Whether what lies in the folder goes.
+fn may_go(taking: Taking<'_>, name: &Name) -> bool
+    ensures { (guarded : List ℕ → Bool) → Guards taking.entry.guards.now guarded → result ≡ (taking.entry.local || not (guarded name.now)) }
+{
+    taking.local || !taking.guards.contains(name)
+}
+
+// The name of the file of a path that lies in the folder, where it goes.
+fn unguarded(alloc: Global, taking: Taking<'_>, path: &PathText) -> Result<Option<Name>, NoMemory>
+    ensures { (guarded : List ℕ → Bool) → Guards taking.entry.guards.now guarded → IfOk result (λ name. name ≡ (if taking.entry.local || not (guarded (file_name path.now)) then Some (file_name path.now) else None)) }
+{
+    let name = name_of_file(alloc, path)?;
+    if may_go(taking, &name) {
+        Ok(Some(name))
+    } else {
+        Ok(None)
+    }
+}
+
+// The name of the file of a path, where it goes.
 fn taken(
     alloc: Global,
     taking: Taking<'_>,
@@ -61,14 +80,10 @@ fn taken(
     path: &PathText,
 ) -> Result<Option<Name>, NoMemory>
     requires { folder.now ≡ folded taking.folder.now }
-    ensures { (guarded : List ℕ → Bool) → Guards taking.guards.now guarded → IfOk result (λ name. name ≡ (if takes guarded taking.local taking.folder.now taking.pattern.now (file_name path.now) then Some (file_name path.now) else None)) }
+    ensures { (guarded : List ℕ → Bool) → Guards taking.entry.guards.now guarded → IfOk result (λ name. name ≡ (if takes guarded taking.entry.local taking.entry.folder.now taking.entry.pattern.now (file_name path.now) then Some (file_name path.now) else None)) }
 {
-    if !lies_in(alloc, folder, taking.pattern, path)? {
-        return Ok(None);
-    }
-    let name = name_of_file(alloc, path)?;
-    if taking.local || !taking.guards.contains(&name) {
-        Ok(Some(name))
+    if lies_in(alloc, folder, taking.pattern, path)? {
+        unguarded(alloc, taking, path)
     } else {
         Ok(None)
     }
@@ -82,7 +97,7 @@ fn all_taken(
     paths: &[PathText],
 ) -> Result<Vec<Name>, NoMemory>
     requires { folder.now ≡ folded taking.folder.now }
-    ensures { (guarded : List ℕ → Bool) → Guards taking.guards.now guarded → IfOk result (λ names. names.items ≡ filter (takes guarded taking.local taking.folder.now taking.pattern.now) (map file_name paths.now)) }
+    ensures { (guarded : List ℕ → Bool) → Guards taking.entry.guards.now guarded → IfOk result (λ names. names.items ≡ filter (takes guarded taking.entry.local taking.entry.folder.now taking.entry.pattern.now) (map file_name paths.now)) }
 {
     let mut names = Vec::new(alloc);
     for path in paths {
@@ -96,7 +111,7 @@ fn all_taken(
 // The names of the files that go, in byte order.
 fn names_taken(alloc: Global, image: &Image, taking: Taking<'_>) -> Result<Vec<Name>, NoMemory>
     requires { IsFolder taking.folder.now }
-    ensures { (guarded : List ℕ → Bool) (held files : Map (List ℕ)) → Guards taking.guards.now guarded → IfOk result (λ names. names.items ≡ filter (takes guarded taking.local taking.folder.now taking.pattern.now) (keys (machine_over held files image.now))) }
+    ensures { (guarded : List ℕ → Bool) (held files : Map (List ℕ)) → Guards taking.entry.guards.now guarded → IfOk result (λ names. names.items ≡ filter (takes guarded taking.entry.local taking.entry.folder.now taking.entry.pattern.now) (keys (machine_over held files image.now))) }
 {
     stands_right(image);
     let folder = fold(alloc, taking.folder.as_str())?;
@@ -106,13 +121,9 @@ fn names_taken(alloc: Global, image: &Image, taking: Taking<'_>) -> Result<Vec<N
 
 /// Takes those files away. It costs a search, a comparison for each file in the folder or below it, and a search for each that
 /// goes.
-pub fn take_matching(
-    alloc: Global,
-    plan: &mut Plan,
-    taking: Taking<'_>,
-) -> Result<(), NoMemory>
+pub fn take_matching(alloc: Global, plan: &mut Plan, taking: Taking<'_>) -> Result<(), NoMemory>
     requires { IsFolder taking.folder.now }
-    ensures makes { (guarded : List ℕ → Bool) (held files : Map (List ℕ)) → Guards taking.guards.now guarded → OnOk result (Makes held files plan.old plan.new (Clear (takes guarded taking.local taking.folder.now taking.pattern.now) ∷ [])) }
+    ensures makes { (guarded : List ℕ → Bool) (held files : Map (List ℕ)) → Guards taking.entry.guards.now guarded → OnOk result (Makes held files plan.old plan.new (Clear (takes guarded taking.entry.local taking.entry.folder.now taking.entry.pattern.now) ∷ [])) }
     ensures keeps { Keeps plan.old plan.new }
 {
     let names = names_taken(alloc, plan.overlay.image(), taking)?;

@@ -53,14 +53,17 @@ pub fn place_of(alloc: Global, folder: &str) -> Result<Bytes, NoMemory>
     ensures { IfOk result (λ place. place ≡ folded folder.now) }
 {
     let text = fold(alloc, folder)?;
-    Bytes::copy_of(alloc, text.as_bytes())
+    let place = Bytes::copy_of(alloc, text.as_bytes())?;
+    Ok(place)
 }
 
 /// The place of the folder that a file lies in.
 pub fn place_above(alloc: Global, path: &PathText) -> Result<Bytes, NoMemory>
     ensures { IfOk result (λ place. place ≡ folded (up_to_last path.now)) }
 {
-    place_of(alloc, split_last(path.as_str()).0)
+    let (folder, _) = split_last(path.as_str());
+    let place = place_of(alloc, folder)?;
+    Ok(place)
 }
 
 // ---- refusals

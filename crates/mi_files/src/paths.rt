@@ -12,17 +12,26 @@ ghost use Rattle.mi_model.specs.Asked.{component_folder};
 ghost use Rattle.mi_model.specs.FilePaths.{path_of_row, copy_name, copy_path, original_path};
 ghost use Rattle.mi_schema.specs.Lawful.{IsLawful};
 ghost use Rattle.mi_schema.specs.RowsOf.{rows_in};
-ghost use Rattle.mi_schema.specs.TableRows.{file_row_of};
+ghost use Rattle.mi_schema.specs.TableRows.{component_row_of, file_row_of};
 ghost use Rattle.mi_records.specs.Choices.{IsAsked};
 ghost use Rattle.mi_files.specs.Paths.{copy_seen, copy_in};
 
 use mi_base::{NoMemory, PathError, PathText, Text, long_name};
 use mi_format::BoundedEnv;
 use mi_records::Sees;
-use mi_schema::{DuplicateFileRow, FileRow, Package, keys_stand};
+use mi_schema::{ComponentRow, DuplicateFileRow, FileRow, Package, keys_stand};
 use std::alloc::Global;
 
 // ---- folders
+
+// The row of Component of a key.
+fn component_row<'a>(loaded: &'a Package, key: &Text) -> Option<&'a ComponentRow>
+    requires { IsLawful loaded.now }
+    ensures { option_copied result ≡ component_row_of (rows_in loaded.now) key.now }
+{
+    keys_stand(loaded);
+    loaded.component.get(key)
+}
 
 // The folder of a component: the target of its directory, as the directories stand.
 fn component_folder<'a, E: Sees>(seen: &'a E, component: &Text) -> Option<&'a PathText>
@@ -30,10 +39,10 @@ fn component_folder<'a, E: Sees>(seen: &'a E, component: &Text) -> Option<&'a Pa
     ensures folder { option_copied result ≡ component_folder (rows_in (E.rows seen.now)) (E.choices seen.now).dirs component.now }
     ensures right { IfSome result (λ path. IsFolder path.now) }
 {
-    let loaded = seen.package();
-    keys_stand(loaded);
-    let row = loaded.component.get(component)?;
-    seen.target(row.directory.as_str())
+    match component_row(seen.package(), component) {
+        Some(row) => seen.target(row.directory.as_str()),
+        None => None,
+    }
 }
 
 /// The folder that a property names. The outer None is that the property is empty, the inner one that its value is no folder
@@ -60,11 +69,7 @@ pub fn named_folder<E: BoundedEnv>(
 // ---- files in folders
 
 // The file of a long name in a folder, and None where that is past the limits of paths.
-fn file_in(
-    alloc: Global,
-    folder: &PathText,
-    file_name: &str,
-) -> Result<Option<PathText>, NoMemory>
+fn file_in(alloc: Global, folder: &PathText, file_name: &str) -> Result<Option<PathText>, NoMemory>
     requires { IsFolder folder.now }
     ensures path { IfOk result (λ p. p ≡ result_ok (file_of folder.now (long_name file_name.now))) }
     ensures file { IfOk result (λ p. IfSome p (λ path. IsTrue (is_file_path path))) }
@@ -180,12 +185,7 @@ fn copy_of<E: Sees>(
     let name = copy_name(row, file);
     match &row.dest_folder {
         Some(property) => copy_in(alloc, seen, property.as_str(), name),
-        None => Ok(Some(file_of_component(
-            alloc,
-            seen,
-            &file.component,
-            name,
-        )?)),
+        None => Ok(Some(file_of_component(alloc, seen, &file.component, name)?)),
     }
 }
 

@@ -28,7 +28,8 @@ fn add_system_places<E: Sees>(
 ) -> Result<(), NoMemory>
     ensures { OnOk result (places.new.items ≡ places.old.items ++ map folded (E.choices seen.now).system) }
 {
-    for folder in seen.system_folders() {
+    let folders = seen.system_folders();
+    for folder in folders {
         let place = place_of(alloc, folder.as_str())?;
         places.push(place)?;
     }

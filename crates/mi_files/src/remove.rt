@@ -4,7 +4,6 @@ ghost use Rattle.std.specs.Prelude.{◌≡◌, ◌++◌, ◌∷◌, [], List, �
 ghost use Rattle.std.specs.Option.{option_to_list};
 ghost use Rattle.mi_text.specs.Fold.{folded};
 ghost use Rattle.mi_text.specs.Maps.{Map};
-
 ghost use Rattle.mi_dirs.specs.Views.{IsFolder};
 ghost use Rattle.mi_image.specs.Items.{AreThere};
 ghost use Rattle.mi_image.specs.Overlays.{former_items, present_items};
@@ -111,7 +110,8 @@ fn remove_in<E: Sees>(
             take_matching(alloc, plan, taking)
         }
         None => {
-            touched.push(place_of(alloc, folder.as_str())?)?;
+            let place = place_of(alloc, folder.as_str())?;
+            touched.push(place)?;
             Ok(())
         }
     }
@@ -133,14 +133,16 @@ fn remove_in_some<E: Sees>(
     ensures keeps { Keeps plan.old plan.new }
 {
     let (number, row) = row;
-    let Some(folder) = folder else {
-        return Err(bad_path(alloc, "RemoveFile", number));
-    };
-    let done = remove_in(alloc, seen, guards, row, &folder, plan, touched);
-    drop(folder);
-    match done {
-        Ok(()) => Ok(()),
-        Err(_) => Err(PlanError::NoMemory),
+    match folder {
+        Some(folder) => {
+            let done = remove_in(alloc, seen, guards, row, &folder, plan, touched);
+            drop(folder);
+            match done {
+                Ok(()) => Ok(()),
+                Err(_) => Err(PlanError::NoMemory),
+            }
+        }
+        None => Err(bad_path(alloc, "RemoveFile", number)),
     }
 }
 
@@ -242,11 +244,7 @@ fn remove_and_prune<E: Sees>(
 ///
 /// Refused with `BadPath` of the first row of File whose path is past the limits of paths, or of RemoveFile whose property is
 /// neither empty nor a folder.
-pub fn plan_remove_files<E: Sees>(
-    alloc: Global,
-    seen: &E,
-    plan: &mut Plan,
-) -> Result<(), PlanError>
+pub fn plan_remove_files<E: Sees>(alloc: Global, seen: &E, plan: &mut Plan) -> Result<(), PlanError>
     requires { IsLawful (E.rows seen.now) }
     ensures phase { (held files : Map (List ℕ)) (w : World) → IsAsked (E.lookups seen.now) (E.choices seen.now) (E.rows seen.now) w → w.machine ≡ plan_machine held files plan.old → Phase held files plan.old plan.new remove_files w result }
     ensures there { (held files : Map (List ℕ)) → AreThere held files (present_items plan.old.overlay) → AreThere held files (present_items plan.new.overlay) }

@@ -1,17 +1,17 @@
 //! What leaving rows of File and DuplicateFile take away (RemoveFiles and RemoveDuplicateFiles actions).
 
-ghost use Rattle.std.specs.Prelude.{◌≡◌, ◌∷◌, ◌++◌, [], List, ℕ, OnOk, Ok, map, option_map};
+ghost use Rattle.std.specs.Prelude.{◌≡◌, ◌∷◌, ◌++◌, [], List, ℕ, OnOk, map, option_map};
 ghost use Rattle.std.specs.Option.{option_to_list};
 ghost use Rattle.mi_text.specs.Fold.{folded};
 ghost use Rattle.mi_text.specs.Maps.{Map};
 ghost use Rattle.mi_text.specs.Path.{up_to_last};
 ghost use Rattle.mi_model.specs.World.{World};
-ghost use Rattle.mi_model.specs.FilePaths.{is_guarded_file, right_path, takes_file};
-ghost use Rattle.mi_model.specs.Refusals.{◌>>=◌};
+ghost use Rattle.mi_model.specs.FilePaths.{is_guarded_file, takes_file};
 ghost use Rattle.mi_steps.specs.Makes.{Makes};
 ghost use Rattle.mi_records.specs.Keeps.{Keeps};
 ghost use Rattle.mi_records.specs.Removing.{Guards};
 ghost use Rattle.mi_records.specs.Rows as made;
+ghost use Rattle.mi_files.specs.Taking.{path_effect};
 
 use crate::names::{bad_path, name_of_file, place_above};
 use mi_base::{Bytes, Name, NoMemory, PathText};
@@ -65,17 +65,19 @@ pub fn take_row(
     table: &str,
     number: u32,
 ) -> Result<(), PlanError>
-    ensures row { (held files : Map (List ℕ)) (w : World) → Guards guards.now (is_guarded_file w) → made.Row held files plan.old plan.new (λ m. right_path table.now number path >>= λ p. Ok (takes_file w p)) result }
+    ensures row { (held files : Map (List ℕ)) (w : World) → Guards guards.now (is_guarded_file w) → made.Row held files plan.old plan.new (path_effect w table.now number path) result }
     ensures touched { OnOk result (touched.new.items ≡ touched.old.items ++ map folded (option_to_list (option_map up_to_last path))) }
     ensures keeps { Keeps plan.old plan.new }
 {
-    let Some(path) = path else {
-        return Err(bad_path(alloc, table, number));
-    };
-    let done = take_and_touch(alloc, plan, guards, touched, &path);
-    drop(path);
-    match done {
-        Ok(()) => Ok(()),
-        Err(_) => Err(PlanError::NoMemory),
+    match path {
+        Some(path) => {
+            let done = take_and_touch(alloc, plan, guards, touched, &path);
+            drop(path);
+            match done {
+                Ok(()) => Ok(()),
+                Err(_) => Err(PlanError::NoMemory),
+            }
+        }
+        None => Err(bad_path(alloc, table, number)),
     }
 }
