@@ -1,5 +1,5 @@
 -- What of the plan of a walk may be carried out, and how its answer is made. (InstallExecuteSequence Table.)
-use Rattle.std.specs.Prelude.{◌≡◌, ◌⊎◌, ◌≤◌, Bool, true, false, length, map, Option, None, Some}
+use Rattle.std.specs.Prelude.{◌≡◌, ◌⊎◌, ◌≤◌, Bool, true, false, length, map, Option}
 use Rattle.std.specs.List.{All}
 use Rattle.mi_source.specs.Paths.{Files}
 use Rattle.mi_script.specs.Scripts.{touched_names}

@@ -4,7 +4,6 @@ use Rattle.std.specs.Prelude.{length, IsSome, IfOk, OnOk, Vec, Result, Ok, Err}
 use Rattle.std.specs.declared.alloc.Global.{Global}
 use Rattle.std.specs.FinMap.{insert}
 use Rattle.mi_text.specs.Maps.{Name, Map}
-use Rattle.mi_text.specs.Lookups.{Lookups}
 use Rattle.mi_text.specs.PropertyNames.{is_property_name}
 use Rattle.mi_base.specs.declared.answers.Fault.{Fault}
 use Rattle.mi_base.specs.declared.answers.Fault.TheVariants.{BadName}
@@ -43,7 +42,7 @@ use Rattle.mi_plan.specs.declared.turn.Turn.TheVariants.{Went, Ended}
 use Rattle.mi_plan.specs.declared.work.Work.{Work}
 use Rattle.mi_plan.specs.Nexts.{Row, IsNext}
 use Rattle.mi_plan.specs.Turns.{IsBegun, IsOver, Begins, Takes, Steps, world_of, planned_of}
-use Rattle.mi_plan.specs.Stages.{IsOfSome, is_cost, is_phase, writes_script, Leaves, StaysThere, IsDone, IsStepped}
+use Rattle.mi_plan.specs.Stages.{is_cost, is_phase, writes_script, Leaves, StaysThere, IsDone, IsStepped}
 use Rattle.mi_plan.specs.Lengths.{HaveLength, SegmentsHave, HaveLengths}
 use Rattle.mi_plan.specs.declared.segment.Segment.{Segment}
 use Rattle.mi_runner.specs.Records.{HasLength}
@@ -313,12 +312,7 @@ module _ (volume source : Type 0) (held : Map (List ℕ)) (files : Files) (folde
       stepped_more s old new t more (record { steps = steps; there = there; lengths = lengths; ends = ends; begun = begun; leaves = leaves; former = former })
   stepped_result s old new (Err e) more steps there lengths ends begun leaves former = tt
 
--- ---- what stays there, and lengths
-
--- a step that is no phase leaves the image
-pub seen_stays : {E : Type 0} (held : Map (List ℕ)) (files : Files) (s : Step) (old new : World) (r : Result Turn E) → is_phase s ≡ false → IfOk r (λ t. t ≡ Went → Leaves s old new) → IfOk r (λ t. t ≡ Went → StaysThere held files old new)
-seen_stays held files s old new (Ok t) isnt leaves = λ went there. subst (AreThere held files) (sym ((leaves went).present isnt)) there
-seen_stays held files s old new (Err e) isnt leaves = tt
+-- ---- lengths
 
 -- where the script and the segments stay
 have_lengths : (files : Files) (old new : Work) (t : Turn) → new.segments ≡ old.segments → (t ≡ Went → new.world.plan.script ≡ old.world.plan.script) → HaveLengths files old Went → HaveLengths files new t

@@ -4,13 +4,6 @@ use Rattle.std.specs.List.{All, AllByRecursion}
 use Rattle.std.proofs.lemmas.List.Elements.{recursion_from_All, All-weaker}
 use Rattle.mi_text.specs.Maps.{Name, same_name, is_among}
 use Rattle.mi_text.proofs.MapLemmas.{from_same, same_itself}
-use Rattle.mi_base.specs.declared.entry.Entry.TheVariants as entry
-use Rattle.mi_base.specs.declared.entry.FileEntry.{FileEntry}
-use Rattle.mi_base.specs.declared.entry.FileHead.{FileHead}
-use Rattle.mi_base.specs.Limits.{fits}
-use Rattle.mi_base.specs.Records.{with_bytes}
-use Rattle.mi_base.specs.Spelling.{name_of}
-use Rattle.mi_image.specs.Items.{HeadMayStand}
 use Rattle.mi_script.specs.declared.rec.Rec.{Rec}
 use Rattle.mi_script.specs.Scripts.{name_at, touched_names}
 use Rattle.mi_undo.specs.Names.{is_inside}
@@ -19,13 +12,6 @@ use Rattle.mi_runner.specs.Records.{MayCarry}
 use Rattle.mi_runner.proofs.RecordLemmas.{is_among-touched}
 use Rattle.mi_plan.specs.declared.segment.Segment.{Segment}
 use Rattle.mi_plan.specs.Carried.{IsCarried, AreCarried}
-
--- a head whose file has this name and a record
-pub head_stands : (name : Name) (h : FileHead) (f : FileEntry) → f ≡ with_bytes h [] → (name_of (entry.File f) ≡ name) × (fits (entry.File f) ≡ true) → HeadMayStand name h
-head_stands name h f is both = record {
-  named = sym (ap (λ (x : FileEntry). name_of (entry.File x)) is) ∙ both.0;
-  right = sym (ap (λ (x : FileEntry). fits (entry.File x)) is) ∙ both.1;
-}
 
 -- ---- of a script
 

@@ -1,5 +1,5 @@
 -- Devices that are asked, call after call.
-use Rattle.std.proofs.Common.{◌≡◌, ℕ, ◌≤◌, arith, Ok, Err, refl, ◌∙◌}
+use Rattle.std.proofs.Common.{ℕ, ◌≤◌, arith, Ok, Err, refl, ◌∙◌}
 use Rattle.std.specs.Prelude.{Result, OnOk}
 use Rattle.mi_volume.specs.State.{State, Rose, Passes}
 use Rattle.mi_volume.proofs.Moments.{then_passes, rose_before}

@@ -1,5 +1,5 @@
 -- A row that is next is begun: what each step makes of the walk so far.
-use Rattle.std.proofs.Common.{◌≡◌, true, List, [], ◌∷◌, ◌++◌, Option, Some, None, refl, ap, ◌∙◌}
+use Rattle.std.proofs.Common.{◌≡◌, true, List, [], ◌∷◌, ◌++◌, Some, None, refl, ap, ◌∙◌}
 use Rattle.std.specs.Prelude.{length, Result, Ok, Err}
 use Rattle.mi_text.specs.Maps.{Name}
 use Rattle.mi_base.specs.declared.answers.Fault.{Fault}
@@ -15,11 +15,11 @@ use Rattle.mi_model.specs.Properties.{cost, set_dir, set_property}
 use Rattle.mi_model.specs.Steps.{Step, Plain, Launch, Cost, Runs, Ends, SetProperty, SetDirectory, Fails}
 use Rattle.mi_model.specs.LaunchConditions.{launch_refusal}
 use Rattle.mi_model.specs.PhaseRows.{phase_rows}
-use Rattle.mi_model.specs.Walk.{Walked, walk, taken, refused, or_refused, with_world, with_rows}
+use Rattle.mi_model.specs.Walk.{Walked, walk, taken, or_refused, with_world, with_rows}
 use Rattle.mi_model.specs.Plans.{Plans, Planned}
 use Rattle.mi_model.specs.Planning.{Walking, IsPlan}
 use Rattle.mi_model_laws.proofs.PlanningLemmas.{before_next, plain, launches, resets, runs, ends}
-use Rattle.mi_model_laws.proofs.WalkLemmas.{Keeps, cost_keeps, set_dir_keeps, set_property_keeps}
+use Rattle.mi_model_laws.proofs.WalkLemmas.{cost_keeps, set_dir_keeps, set_property_keeps}
 use Rattle.mi_seq.proofs.LoopLemmas.{next_refuses, next_fails, next_launch_refused}
 use Rattle.mi_plan.specs.Nexts.{Row, IsNext}
 

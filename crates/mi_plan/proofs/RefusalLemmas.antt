@@ -1,6 +1,6 @@
 -- What refuses a walk.
 use Rattle.std.proofs.Common.{◌≡◌, Option, Some, None, Result, Ok, Err, sym, subst}
-use Rattle.std.specs.Prelude.{option_map, find, IfOk}
+use Rattle.std.specs.Prelude.{option_map, find}
 use Rattle.mi_text.specs.Maps.{Name}
 use Rattle.mi_text.specs.Lookups.{Lookups}
 use Rattle.mi_base.specs.declared.answers.Fault.{Fault}

@@ -1,10 +1,10 @@
 -- Where the walk stands behind one more action, and what may be planned there.
-use Rattle.std.proofs.Common.{◌≡◌, ◌≢◌, ℕ, zero, suc, ◌+◌, ◌<◌, ◌≤◌, Bool, true, false, cond, not, ◌&&◌, ◌||◌, List, [], ◌∷◌, ◌++◌, map, length, get_or, Option, Some, None, refl, sym, ap, ◌∙◌, subst, arith}
-use Rattle.std.specs.Prelude.{codes, filter, is_some, IsSome, All, AllPairs, Result, Ok, if◌then◌else◌}
+use Rattle.std.proofs.Common.{◌≡◌, ◌≢◌, ℕ, suc, ◌+◌, ◌<◌, ◌≤◌, Bool, true, false, cond, not, ◌&&◌, ◌||◌, List, [], ◌∷◌, ◌++◌, map, length, get_or, Option, Some, None, refl, sym, ap, ◌∙◌, subst, arith}
+use Rattle.std.specs.Prelude.{codes, filter, All, AllPairs, Ok}
 use Rattle.std.specs.List.{AllByRecursion}
 use Rattle.std.proofs.lemmas.List.Elements.{recursion_from_All}
 use Rattle.std.specs.declared.cmp.Ordering.TheVariants.{Less, Equal, Greater}
-use Rattle.std.specs.FinMap.{entries, from_entries, entries-insert, len-entries, len-empty}
+use Rattle.std.specs.FinMap.{entries, entries-insert, len-entries, len-empty}
 use Rattle.std.specs.FinMap.Entries.{put, by_order}
 use Rattle.mi_text.specs.Maps.{Name, same_name, is_among}
 use Rattle.mi_text.specs.Lookups.{Lookups}
@@ -12,7 +12,7 @@ use Rattle.mi_text.proofs.MapLemmas.{from_same, same_itself, is_among-append}
 use Rattle.mi_schema.specs.declared.typed_rows.InstallExecuteSequenceRow.{InstallExecuteSequenceRow}
 use Rattle.mi_schema.specs.RowsOf.{behind}
 use Rattle.mi_schema.specs.TableRows.{Rows}
-use Rattle.mi_image.specs.Overlays.{former_items, present_items}
+use Rattle.mi_image.specs.Overlays.{former_items}
 use Rattle.mi_model.specs.Conditions.{holds}
 use Rattle.mi_model.specs.Sequence.{Seat, seat_cmp, seat_of, has_seat, by_seat, sequence, next_row, is_costed, is_finalized, is_inside}
 use Rattle.mi_model.specs.Steps as model
@@ -24,7 +24,7 @@ use Rattle.mi_seq.specs.Meaning.{meant, action_of}
 use Rattle.mi_world.specs.declared.world.World.{World}
 use Rattle.mi_world.specs.Seen.{IsCosted}
 use Rattle.mi_plan.specs.Nexts.{Row}
-use Rattle.mi_plan.specs.Stages.{IsUnchanged, IsOfSome, is_initialized, IsStaged, how_many, actions, costs, is_cost, is_phase, Leaves}
+use Rattle.mi_plan.specs.Stages.{IsOfSome, is_initialized, IsStaged, how_many, actions, costs, is_cost, is_phase, Leaves}
 use Rattle.mi_plan.proofs.StepLemmas.{IsRun, tells, cost_is, initialize_is}
 
 abbrev cost_name : Name

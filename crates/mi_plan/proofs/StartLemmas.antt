@@ -1,5 +1,5 @@
 -- Before the first row.
-use Rattle.std.proofs.Common.{◌≡◌, ◌≢◌, ◌≤◌, ℕ, Bool, true, false, List, [], ◌∷◌, map, refl, sym, ap, ◌∙◌, subst}
+use Rattle.std.proofs.Common.{◌≡◌, ◌≤◌, ℕ, List, [], map, refl, sym, ap, ◌∙◌, subst}
 use Rattle.std.specs.Prelude.{Option, Vec}
 use Rattle.std.specs.declared.alloc.Global.{Global}
 use Rattle.std.specs.FinMap.{empty}
@@ -7,12 +7,9 @@ use Rattle.mi_text.specs.Maps.{Name, Map}
 use Rattle.mi_source.specs.Paths.{Files}
 use Rattle.mi_schema.specs.declared.package.Package.{Package}
 use Rattle.mi_schema.specs.RowsOf.{rows_in}
-use Rattle.mi_schema.specs.TableRows.{Rows}
 use Rattle.mi_schema.specs.Laws.{KeysStand, KeysApart}
 use Rattle.mi_image.specs.Items.{Items, machine_over}
-use Rattle.mi_image.specs.Overlays.{former_items, present_items}
 use Rattle.mi_script.specs.declared.rec.Rec.{Rec}
-use Rattle.mi_model.specs.World as model
 use Rattle.mi_model.specs.World.{Given}
 use Rattle.mi_model.specs.Properties.{started}
 use Rattle.mi_model.specs.Sequence.{sequence}
@@ -31,7 +28,6 @@ use Rattle.mi_model_laws.proofs.PlanningLemmas.{starts}
 use Rattle.mi_seq.specs.declared.walk.Walk.{Walk}
 use Rattle.mi_seq.specs.Walks.{rest, Stands}
 use Rattle.mi_world.specs.declared.world.World.{World}
-use Rattle.mi_world.specs.Seen.{world_over, IsOf}
 use Rattle.mi_plan.specs.declared.work.Work.{Work}
 use Rattle.mi_plan.specs.Nexts.{Row}
 use Rattle.mi_plan.specs.Turns.{IsSoFar, IsStart, world_of, planned_of}

@@ -1,6 +1,6 @@
 -- What it says of an action that it has a step: where it stands, and what it names.
 use Rattle.std.proofs.Common.{◌≡◌, ℕ, zero, suc, ◌<◌, Bool, true, false, cond, not, ◌&&◌, ◌||◌, ◌==◌, List, [], ◌∷◌, map, length, get_or, Option, Some, None, refl, sym, ap, ◌∙◌, subst, arith}
-use Rattle.std.specs.Prelude.{find, unwrap_or, option_map, codes, is_some, IsSome, All, Contains, Result, Ok, Err, if◌then◌else◌}
+use Rattle.std.specs.Prelude.{find, unwrap_or, option_map, codes, IsSome, All, Contains, Result, Ok, Err, if◌then◌else◌}
 use Rattle.std.specs.List.{AllByRecursion}
 use Rattle.std.specs.Map.{keys_of}
 use Rattle.std.proofs.lemmas.List.Elements.{recursion_from_All}

@@ -3,7 +3,6 @@ use Rattle.std.proofs.Common.{◌≡◌, ◌⊎◌, inl, inr, ℕ, ◌<◌, ◌�
 use Rattle.std.specs.Prelude.{IsSome, option_and_then, IfOk, OnOk, Result, Ok, Err, Vec}
 use Rattle.std.specs.declared.alloc.Global.{Global}
 use Rattle.mi_plan.specs.declared.segment.Segment.{Segment}
-use Rattle.std.specs.Map.{keys_of}
 use Rattle.mi_text.specs.Maps.{Name, Map}
 use Rattle.mi_text.specs.Lookups.{Lookups}
 use Rattle.mi_base.specs.declared.answers.Fault.{Fault}
@@ -18,8 +17,6 @@ use Rattle.mi_schema.specs.TableRows.{Rows}
 use Rattle.mi_schema.specs.Laws.{KeysStand, ReferencesStand}
 use Rattle.mi_image.specs.Items.{machine_over}
 use Rattle.mi_image.specs.Overlays.{former_items}
-use Rattle.mi_script.specs.declared.rec.Rec.{Rec}
-use Rattle.mi_model.specs.World as model
 use Rattle.mi_model.specs.World.{Given}
 use Rattle.mi_model.specs.Asked.{lookups}
 use Rattle.mi_model.specs.Sequence.{next_row, is_costed}
@@ -32,21 +29,21 @@ use Rattle.mi_seq.specs.declared.step.Step.TheVariants as step
 use Rattle.mi_seq.specs.declared.walk.Walk.{Walk}
 use Rattle.mi_seq.specs.declared.error.SeqError.{SeqError}
 use Rattle.mi_seq.specs.declared.error.SeqError.TheVariants as error
-use Rattle.mi_seq.specs.Meaning.{meant, action_of}
+use Rattle.mi_seq.specs.Meaning.{meant}
 use Rattle.mi_seq.specs.Walks as seq
 use Rattle.mi_seq.specs.Walks.{rest, IsRefused}
 use Rattle.mi_seq.proofs.LoopLemmas.{next_refused, next_ends, next_unfinished}
 use Rattle.mi_world.specs.declared.seen.Seen.{Seen}
 use Rattle.mi_world.specs.declared.world.World.{World}
-use Rattle.mi_world.specs.Seen.{seen_lookups, world_over, dirs_in, IsOf, IsCosted, IsRow, ArePlaced}
+use Rattle.mi_world.specs.Seen.{seen_lookups, dirs_in, ArePlaced}
 use Rattle.mi_world.proofs.LookLemmas.{looks}
 use Rattle.mi_plan.specs.declared.turn.Turn.{Turn}
 use Rattle.mi_plan.specs.declared.turn.Turn.TheVariants.{Went, Ended}
 use Rattle.mi_plan.specs.declared.work.Work.{Work}
 use Rattle.mi_plan.specs.Nexts.{Row, IsNext}
 use Rattle.mi_plan.specs.Turns.{IsBegun, IsOver, IsSoFar, IsTurned, world_of, planned_of}
-use Rattle.mi_plan.specs.Stages.{IsUnchanged, IsOfSome, is_initialized, IsStaged, IsRight, IsReady, MayTake, Leaves, costs, IsDone, IsStepped, IsRefusedBy, with_refused}
-use Rattle.mi_plan.specs.Made.{as_planned, with_action}
+use Rattle.mi_plan.specs.Stages.{is_initialized, IsStaged, IsRight, IsReady, MayTake, costs, IsDone, IsStepped, IsRefusedBy, with_refused}
+use Rattle.mi_plan.specs.Made.{with_action}
 use Rattle.mi_plan.specs.Lengths.{SegmentsHave, HaveLengths}
 use Rattle.mi_plan.specs.Refusals.{EndsRight}
 use Rattle.mi_plan.proofs.StepLemmas.{tells, sets_row, row_is}

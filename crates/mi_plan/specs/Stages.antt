@@ -1,5 +1,5 @@
 -- Where the walk stands: what may be planned there. (Suggested InstallExecuteSequence.)
-use Rattle.std.specs.Prelude.{◌≡◌, ◌≤◌, ◌+◌, ℕ, Bool, true, false, List, [], ◌∷◌, ◌++◌, map, codes, if◌then◌else◌, Option, Some, None}
+use Rattle.std.specs.Prelude.{◌≡◌, ◌≤◌, ◌+◌, ℕ, Bool, true, false, List, [], ◌∷◌, ◌++◌, map, codes, if◌then◌else◌, Some, None}
 use Rattle.mi_text.specs.Maps.{Name, Map, same_name, is_among}
 use Rattle.mi_schema.specs.declared.package.Package.{Package}
 use Rattle.mi_schema.specs.Lawful.{IsLawful}

@@ -1,5 +1,5 @@
 -- What a turn of the loop over the walk does: a row is begun, and its action does its step. (InstallExecuteSequence Table.)
-use Rattle.std.specs.Prelude.{◌≡◌, ℕ, List, [], ◌∷◌, ◌++◌, map, Option, Some, None, Ok}
+use Rattle.std.specs.Prelude.{◌≡◌, ℕ, List, [], ◌∷◌, ◌++◌, map}
 use Rattle.mi_text.specs.Maps.{Name, Map}
 use Rattle.mi_source.specs.Paths.{Files}
 use Rattle.mi_script.specs.declared.rec.Rec.{Rec}

@@ -1,7 +1,6 @@
 use Rattle.std.proofs.Common.{refl}
 use Rattle.mi_volume.specs.State as volume
 use Rattle.mi_source.specs.Counts.{Rose}
-use Rattle.mi_image.specs.Items.{machine_over}
 use Rattle.mi_image.proofs.LookLemmas.{looks_first}
 use Rattle.mi_schema.specs.RowsOf.{rows_in}
 use Rattle.mi_engine.proofs.PackageLemmas.{walks_by, stopped_by}

@@ -1,9 +1,7 @@
-use Rattle.std.proofs.Common.{List, ℕ, refl, sym, subst, ◌∙◌}
-use Rattle.mi_text.specs.Maps.{Map}
+use Rattle.std.proofs.Common.{refl}
 use Rattle.mi_volume.specs.State as volume
 use Rattle.mi_source.specs.Counts.{Rose}
-use Rattle.mi_source.specs.Paths.{Files}
-use Rattle.mi_image.specs.Items.{machine_over, AreThere as HasContents}
+use Rattle.mi_image.specs.Items.{machine_over}
 use Rattle.mi_image.proofs.LookLemmas.{looks_first}
 use Rattle.mi_schema.specs.RowsOf.{rows_in}
 use Rattle.mi_model.specs.World.{Given}

@@ -1,5 +1,5 @@
 -- The rows, whose records copy nothing of the source.
-use Rattle.std.proofs.Common.{◌≡◌, ◌≤◌, ℕ, List, false, length, drop, sym, ap, subst, ◌∙◌}
+use Rattle.std.proofs.Common.{◌≡◌, ◌≤◌, ℕ, false, length, drop, sym, ap, subst}
 use Rattle.std.specs.List.{All}
 use Rattle.mi_script.specs.declared.rec.Rec.{Rec}
 use Rattle.mi_plan.specs.Lengths.{is_copy}

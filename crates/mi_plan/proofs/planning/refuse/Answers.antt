@@ -1,7 +1,6 @@
 -- The action and its fault, as they are told.
-use Rattle.std.proofs.Common.{◌≡◌, List, sym, subst}
+use Rattle.std.proofs.Common.{◌≡◌, sym, subst}
 use Rattle.std.specs.Prelude.{IfOk, OnOk}
-use Rattle.mi_text.specs.Maps.{Name}
 use Rattle.mi_seq.specs.declared.error.SeqError.{SeqError}
 use Rattle.mi_plan.specs.Stages.{IsRefusedBy, with_refused}
 use Rattle.mi_plan.proofs.planning.refuse.Goals as goal

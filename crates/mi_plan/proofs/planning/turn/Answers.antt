@@ -1,6 +1,6 @@
 -- The next step, taken, or the end of the walk.
 use Rattle.std.proofs.Common.{◌≡◌, ◌<◌, length, ap, subst}
-use Rattle.std.specs.Prelude.{List, map, Vec, Ok, Err}
+use Rattle.std.specs.Prelude.{List, map, Vec, Err}
 use Rattle.std.specs.declared.alloc.Global.{Global}
 use Rattle.mi_text.specs.Maps.{Name}
 use Rattle.mi_volume.specs.State as volume

@@ -2,10 +2,9 @@
 use Rattle.std.proofs.Common.{Option, refl, ◌∙◌, subst}
 use Rattle.mi_base.specs.declared.answers.Cause.{Cause}
 use Rattle.std.proofs.lemmas.Result.{err_from_is_err_and}
-use Rattle.mi_source.specs.Paths.{Files}
 use Rattle.mi_plan.specs.declared.turn.Turn.{Turn}
 use Rattle.mi_plan.specs.declared.turn.Turn.TheVariants.{Went, Ended}
-use Rattle.mi_plan.specs.Lengths.{HaveLengths, SegmentsHave}
+use Rattle.mi_plan.specs.Lengths.{HaveLengths}
 use Rattle.mi_plan.specs.Refusals.{EndsRight}
 use Rattle.mi_plan.specs.Turns.{IsTurned}
 use Rattle.mi_plan.proofs.TurnLemmas.{over_same, lengths_same}

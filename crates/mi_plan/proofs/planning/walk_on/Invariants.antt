@@ -1,4 +1,4 @@
-use Rattle.std.proofs.Common.{◌≡◌, List, length}
+use Rattle.std.proofs.Common.{◌≡◌, length}
 use Rattle.mi_image.specs.Overlays.{former_items}
 use Rattle.mi_model.specs.World.{Given}
 use Rattle.mi_seq.specs.Walks.{rest}

@@ -1,5 +1,5 @@
 -- A phase, or a step that asks no device.
-use Rattle.std.proofs.Common.{refl, sym, subst}
+use Rattle.std.proofs.Common.{subst}
 use Rattle.mi_seq.specs.declared.step.Step.{Step}
 use Rattle.mi_seq.specs.declared.step.Step.TheVariants as step
 use Rattle.mi_plan.specs.Stages.{MayTake}
