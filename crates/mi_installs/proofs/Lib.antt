@@ -1,0 +1,10 @@
+pub mod CallLemmas
+pub mod DecideLemmas
+pub mod EachLemmas
+pub mod FilledLemmas
+pub mod HashLemmas
+pub mod LeaderLemmas
+pub mod LedLemmas
+pub mod NoteLemmas
+pub mod PlaceLemmas
+pub mod RisingLemmas
