@@ -3,8 +3,16 @@ pub mod DecideLemmas
 pub mod EachLemmas
 pub mod FilledLemmas
 pub mod HashLemmas
+pub mod HeadLemmas
+pub mod InstallLemmas
+pub mod LanguageLemmas
 pub mod LeaderLemmas
 pub mod LedLemmas
+pub mod LengthLemmas
 pub mod NoteLemmas
+pub mod PhaseLemmas
+pub mod PlacedLemmas
 pub mod PlaceLemmas
 pub mod RisingLemmas
+pub mod SourceLemmas
+pub mod TargetLemmas
