@@ -1,6 +1,6 @@
 -- Copies of files.
 use Rattle.std.proofs.Common.{◌≡◌, ◌≢◌, ℕ, Bool, true, false, cond, not, ◌&&◌, List, [], ◌∷◌, ◌++◌, map, Bor, Option, Some, None, refl, sym, ap, ◌∙◌, subst, inl, inr, ◌↔◌}
-use Rattle.std.specs.Prelude.{filter, Ok, Err, codes, option_map, is_some, nat_lt, Result}
+use Rattle.std.specs.Prelude.{filter, Ok, codes, option_map, is_some, nat_lt}
 use Rattle.std.specs.Option.{option_copied}
 use Rattle.std.specs.FinMap.{get}
 use Rattle.std.proofs.lemmas.Bool.{cases_Bool}
@@ -14,19 +14,16 @@ use Rattle.mi_base.specs.declared.entry.FileHead.{FileHead}
 use Rattle.mi_base.specs.declared.entry.FileEntry.{FileEntry}
 use Rattle.mi_base.specs.declared.entry.Entry.{Entry}
 use Rattle.mi_base.specs.declared.entry.Entry.TheVariants as entry
-use Rattle.mi_base.specs.declared.answers.Fault.{Fault}
 use Rattle.mi_base.specs.Limits.{fits, are_few, rises}
 use Rattle.mi_base.specs.Machine.{Machine, as_file, file_at}
 use Rattle.mi_base.specs.Names.{file_name, folder_name}
 use Rattle.mi_base.specs.Records.{with_bytes}
 use Rattle.mi_base.specs.Spelling.{head_of}
 use Rattle.mi_source.specs.Paths.{Files}
-use Rattle.mi_changes.specs.Touches.{Touch, by_touch, left_at}
+use Rattle.mi_changes.specs.Touches.{Touch, by_touch}
 use Rattle.mi_changes.proofs.TouchLemmas.{get-by_touch}
 use Rattle.mi_script.specs.Spelled.{is_file_name}
-use Rattle.mi_image.specs.declared.item.Content.{Content}
-use Rattle.mi_image.specs.declared.item.Item.{Item}
-use Rattle.mi_image.specs.declared.item.Item.TheVariants.{Head, Whole}
+use Rattle.mi_image.specs.declared.item.Item.TheVariants.{Whole}
 use Rattle.mi_image.specs.Items.{Items, bytes_of_file, entry_over, machine_over, AreRight, AreThere, is_split}
 use Rattle.mi_image.specs.Overlays.{present_items}
 use Rattle.mi_image.proofs.LookupLemmas.{get_over}
@@ -34,7 +31,7 @@ use Rattle.mi_schema.specs.declared.package.Package.{Package}
 use Rattle.mi_schema.specs.declared.typed_rows.DuplicateFileRow.{DuplicateFileRow}
 use Rattle.mi_schema.specs.RowsOf.{rows_in}
 use Rattle.mi_schema.specs.TableRows.{Numbered, in_key_order, Rows as TableRows}
-use Rattle.mi_model.specs.World.{World, RowEffect}
+use Rattle.mi_model.specs.World.{World}
 use Rattle.mi_model.specs.Asked.{comes}
 use Rattle.mi_model.specs.DuplicateFiles.{copy_rows, copies, copied_row, copied_file, with_path, duplicate_files}
 use Rattle.mi_model.specs.FilePaths.{copy_path, original_path, right_path}
@@ -44,16 +41,13 @@ use Rattle.mi_model.specs.Refusals.{◌>>=◌}
 use Rattle.mi_model.specs.Texts.{Text}
 use Rattle.mi_model_laws.proofs.ParentLemmas.{IsNoFolder, folders_elsewhere}
 use Rattle.mi_steps.specs.declared.plan.Plan.{Plan}
-use Rattle.mi_steps.specs.Follows.{Follows, put_touch}
+use Rattle.mi_steps.specs.Follows.{put_touch}
 use Rattle.mi_steps.specs.Makes.{Makes, plan_machine, duplicate_touch}
 use Rattle.mi_steps.proofs.FollowLemmas.{joined}
-use Rattle.mi_records.specs.declared.error.PlanError.{PlanError}
-use Rattle.mi_records.specs.declared.error.PlanError.TheVariants as error
 use Rattle.mi_records.specs.Choices.{Choices, IsAsked}
 use Rattle.mi_records.specs.Order.{as_numbered}
-use Rattle.mi_records.specs.Rows.{Row}
 use Rattle.mi_records.proofs.PhaseLemmas.{map-over}
-use Rattle.mi_files.specs.Copies.{copied_head, copied_at, copy_of_file, copied_to}
+use Rattle.mi_files.specs.Copies.{copied_head, copy_of_file, copied_to}
 use Rattle.mi_files.proofs.FolderLemmas.{taken_seen}
 
 -- ---- the rows

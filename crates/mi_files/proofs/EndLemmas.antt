@@ -1,7 +1,7 @@
 -- The folders down to a folder, by the places at which they end.
-use Rattle.std.proofs.Common.{◌≡◌, ℕ, zero, suc, ◌+◌, ◌<◌, ◌≤◌, Bool, true, false, not, cond, ◌&&◌, List, [], ◌∷◌, ◌++◌, length, map, take, drop, refl, sym, ap, ◌∙◌, subst, arith, add-one, append_assoc, length-append}
-use Rattle.std.specs.Prelude.{filter, ◌==◌, nat_lt, nat_le}
-use Rattle.std.specs.List.{slice_split, onto_first, list_all, slice_index_or}
+use Rattle.std.proofs.Common.{◌≡◌, ℕ, zero, suc, ◌+◌, ◌<◌, ◌≤◌, Bool, true, false, not, cond, ◌&&◌, List, [], ◌∷◌, ◌++◌, length, map, take, refl, sym, ap, ◌∙◌, subst, arith, add-one, append_assoc, length-append}
+use Rattle.std.specs.Prelude.{filter, ◌==◌, nat_lt}
+use Rattle.std.specs.List.{slice_split, slice_index_or}
 use Rattle.std.proofs.lemmas.Bool.Decides.{nat_tests}
 use Rattle.mi_text.specs.Path.{is_backslash, is_part, is_folder_path, path_on, path_text, joined}
 use Rattle.mi_text.proofs.PathLemmas.{IsFolder, folder_is, folder_path, all_parts, no_backslash, drive}

@@ -1,10 +1,10 @@
 -- Rows of CreateFolder, and the places that they name.
-use Rattle.std.proofs.Common.{◌≡◌, ℕ, ◌+◌, ◌<◌, ◌≤◌, Bool, true, false, cond, List, [], ◌∷◌, ◌++◌, length, map, take, get_or, Bor, Option, Some, None, refl, sym, ap, ◌∙◌, subst, append_assoc, arith}
+use Rattle.std.proofs.Common.{◌≡◌, ℕ, Bool, true, false, cond, List, [], ◌∷◌, ◌++◌, map, Bor, Option, Some, None, refl, sym, ap, ◌∙◌, subst, append_assoc}
 use Rattle.std.specs.Prelude.{filter, Ok, option_map}
 use Rattle.std.specs.List.{filter_map, cons_option}
 use Rattle.std.specs.Option.{option_to_list, option_map_or}
 use Rattle.std.specs.FinMap.{keys}
-use Rattle.std.proofs.lemmas.List.{append-nil, map-append, take_all}
+use Rattle.std.proofs.lemmas.List.{append-nil, map-append}
 use Rattle.mi_text.specs.Fold.{folded}
 use Rattle.mi_text.specs.Lookups.{Lookups}
 use Rattle.mi_text.specs.Maps.{Map}
@@ -14,7 +14,7 @@ use Rattle.mi_changes.specs.Touches.{Clear}
 use Rattle.mi_dirs.specs.Places.{Place, target_of}
 use Rattle.mi_schema.specs.declared.package.Package.{Package}
 use Rattle.mi_schema.specs.declared.typed_rows.CreateFolderRow.{CreateFolderRow}
-use Rattle.mi_schema.specs.RowsOf.{rows_in, behind}
+use Rattle.mi_schema.specs.RowsOf.{rows_in}
 use Rattle.mi_schema.specs.TableRows.{Numbered, in_key_order, Rows as TableRows}
 use Rattle.mi_model.specs.World.{World, RowEffect}
 use Rattle.mi_model.specs.Asked.{comes, leaves, dirs_of}
@@ -28,7 +28,6 @@ use Rattle.mi_steps.proofs.RowLemmas.{rows_started, row_more}
 use Rattle.mi_records.specs.Choices.{Choices, IsAsked}
 use Rattle.mi_records.specs.Order.{as_numbered}
 use Rattle.mi_records.specs.Rows.{Made}
-use Rattle.mi_records.proofs.NamedLemmas.{picked_one}
 use Rattle.mi_records.proofs.PhaseLemmas.{map-over}
 use Rattle.mi_files.specs.Folders.{key_of, kept_folder}
 

@@ -20,9 +20,6 @@ ghost use Rattle.mi_model.specs.DuplicateFiles as model;
 ghost use Rattle.mi_model.specs.DuplicateFiles.{copies, copied_row, duplicate_files};
 ghost use Rattle.mi_model.specs.Parents.{parents_of_path};
 ghost use Rattle.mi_schema.specs.Lawful.{IsLawful};
-ghost use Rattle.mi_schema.specs.RowsOf.{rows_in};
-ghost use Rattle.mi_schema.specs.TableRows.{in_key_order};
-ghost use Rattle.mi_schema.specs.declared.typed_rows.DuplicateFileRow.{DuplicateFileRow};
 ghost use Rattle.mi_steps.specs.Follows.{Grows};
 ghost use Rattle.mi_steps.specs.Makes.{Makes, plan_machine};
 ghost use Rattle.mi_script.specs.Spelled.{is_file_name};
@@ -36,27 +33,15 @@ ghost use Rattle.mi_files.specs.Copies.{copied_head, copy_of_file, copied_to};
 use crate::names::{bad_path, name_of_file};
 use crate::parents::make_folders;
 use crate::paths::{copy_path, original_path};
+use crate::rows::copies_in_order;
 use mi_base::{FileHead, Languages, Name, NoMemory, PathText};
 use mi_image::{Image, Item};
-use mi_records::{PlanError, Row, Sees, in_key_order};
-use mi_schema::{DuplicateFileRow, Package, keys_stand, tables_small};
+use mi_records::{PlanError, Row, Sees};
+use mi_schema::DuplicateFileRow;
 use mi_steps::Plan;
 use std::alloc::Global;
 
 // ---- the rows
-
-// The rows of DuplicateFile in key order.
-fn rows_in_order(
-    alloc: Global,
-    loaded: &Package,
-) -> Result<Vec<Row<'_, DuplicateFileRow>>, NoMemory>
-    requires { IsLawful loaded.now }
-    ensures { IfOk result (λ rows. map as_numbered rows.items ≡ in_key_order (λ (r : DuplicateFileRow). r.file_key) (rows_in loaded.now).duplicate_file) }
-{
-    keys_stand(loaded);
-    tables_small(loaded);
-    in_key_order(alloc, &loaded.duplicate_file)
-}
 
 // The rows whose components come, of these.
 fn coming<'a, E: Sees>(
@@ -83,7 +68,7 @@ fn coming_rows<'a, E: Sees>(
     requires { IsLawful (E.rows seen.now) }
     ensures { (w : World) → IsAsked (E.lookups seen.now) (E.choices seen.now) (E.rows seen.now) w → IfOk result (λ rows. map as_numbered rows.items ≡ model.copy_rows (comes w) w) }
 {
-    let rows = rows_in_order(alloc, seen.package())?;
+    let rows = copies_in_order(alloc, seen.package())?;
     let taken = coming(alloc, seen, rows.as_slice())?;
     Ok(taken)
 }

@@ -1,5 +1,5 @@
 -- A folder's path is one.
-use Rattle.std.proofs.Common.{◌≡◌, true, false, List, ℕ, Option, Some, None, cond, sym, ap, ◌∙◌}
+use Rattle.std.proofs.Common.{◌≡◌, true, Some, None, cond, sym, ap, ◌∙◌}
 use Rattle.mi_text.specs.Path.{is_path}
 use Rattle.mi_text.proofs.PathLemmas.{folder_is, folder_is_path}
 use Rattle.mi_files.proofs.parents.path_of.Goals as goal
