@@ -28,3 +28,7 @@ grown_lengths files had has grows none have =
     let more : drop (length had) has ≡ grows.0 = ap (drop (length had)) grows.1 ∙ drop_at had grows.0 (length had) refl in
     let there : HaveLength files grows.0 = All-weaker (λ (r : Rec). is_copy r ≡ false) (HasLength files) (no_copy files) grows.0 (subst (All (λ (r : Rec). is_copy r ≡ false)) more none) in
     subst (HaveLength files) (sym grows.1) (All-append (HasLength files) had grows.0 have there)
+
+-- what was added has the lengths too
+pub lengths_on : (files : Files) (had has : List Rec) → Grows had has → ((more : List Rec) → has ≡ had ++ more → All (HasLength files) more) → HaveLength files had → HaveLength files has
+lengths_on files had has grows adds have = subst (All (HasLength files)) (sym grows.1) (All-append (HasLength files) had grows.0 have (adds grows.0 grows.1))

@@ -8,4 +8,5 @@ mod StartLemmas
 mod DeviceLemmas
 mod RefusalLemmas
 mod LengthLemmas
+mod InstallLemmas
 pub mod CarriedLemmas
