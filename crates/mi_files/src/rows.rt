@@ -44,7 +44,11 @@ fn remove_file_rows(
     in_key_order(alloc, &loaded.remove_file)
 }
 
-fn copy_rows(alloc: Global, loaded: &Package) -> Result<Vec<Row<'_, DuplicateFileRow>>, NoMemory>
+/// The rows of DuplicateFile in key order.
+pub fn copies_in_order(
+    alloc: Global,
+    loaded: &Package,
+) -> Result<Vec<Row<'_, DuplicateFileRow>>, NoMemory>
     requires { IsLawful loaded.now }
     ensures { IfOk result (λ rows. map as_numbered rows.items ≡ in_key_order (λ (r : DuplicateFileRow). r.file_key) (rows_in loaded.now).duplicate_file) }
 {
@@ -153,7 +157,7 @@ pub fn leaving_copies<'a, E: Sees>(
     requires { IsLawful (E.rows seen.now) }
     ensures { (w : World) → IsAsked (E.lookups seen.now) (E.choices seen.now) (E.rows seen.now) w → IfOk result (λ rows. map as_numbered rows.items ≡ copy_rows (leaves w) w) }
 {
-    let rows = copy_rows(alloc, seen.package())?;
+    let rows = copies_in_order(alloc, seen.package())?;
     let taken = leaving_of(alloc, seen, rows.as_slice())?;
     Ok(taken)
 }

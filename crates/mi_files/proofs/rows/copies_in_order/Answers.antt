@@ -1,7 +1,7 @@
 -- The rows by their own keys.
 use Rattle.mi_schema.specs.declared.typed_rows.DuplicateFileRow.{DuplicateFileRow}
 use Rattle.mi_schema.specs.RowsOf.{rows_in}
-use Rattle.mi_files.proofs.rows.copy_rows.Goals as goal
+use Rattle.mi_files.proofs.rows.copies_in_order.Goals as goal
 
 pub returns : goal.returns
 unfolding rows_in
