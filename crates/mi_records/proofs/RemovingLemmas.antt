@@ -30,7 +30,7 @@ use Rattle.mi_records.proofs.PhaseLemmas.{map-over}
 
 -- ---- the rows that are taken
 
-taken_seen : {R : Type 0} (test : R → Bool) (other : R → Bool) → ((r : R) → test r ≡ other r) → (rows : List (ℕ × Bor R)) → filter (λ (r : Numbered R). test r.row) (map as_numbered rows) ≡ map as_numbered (filter (λ r. other r.1.now) rows)
+pub taken_seen : {R : Type 0} (test : R → Bool) (other : R → Bool) → ((r : R) → test r ≡ other r) → (rows : List (ℕ × Bor R)) → filter (λ (r : Numbered R). test r.row) (map as_numbered rows) ≡ map as_numbered (filter (λ r. other r.1.now) rows)
 taken_seen test other same [] = refl
 taken_seen {R} test other same (r ∷ rows) =
     ap (λ b. cond b (as_numbered r ∷ filter (λ (r : Numbered R). test r.row) (map as_numbered rows)) (filter (λ (r : Numbered R). test r.row) (map as_numbered rows))) (same r.1.now)

@@ -33,11 +33,17 @@ mod written;
 
 pub use clients::plan_process_components;
 pub use error::PlanError;
+pub use key_path::recorded_path;
+pub use keys::{name_of, put_entry};
 pub use meaning::{RegistryMeaning, registry_meaning, registry_place, removal_place};
 pub use order::{Row, in_key_order};
+pub use parts::lacks_zero;
 pub use phase::plan_write_registry;
 pub use place::RegistryPlace;
 pub use publish::plan_publish_product;
 pub use removing::plan_remove_registry;
 pub use says::Says;
 pub use sees::Sees;
+pub use stop::{Stop, Why};
+pub use text::whole_text;
+pub use value::small_enough;

@@ -27,7 +27,8 @@ pub fn without_empty_parts(alloc: Global, text: &str) -> Result<Text, NoMemory>
     Ok(Text::from_string(key))
 }
 
-fn lacks_zero(text: &str) -> bool
+/// Whether no byte of a text is 0.
+pub fn lacks_zero(text: &str) -> bool
     ensures { result ≡ has_no_zero text.now }
 {
     text.as_bytes().iter().all(|byte| !(*byte == 0))

@@ -119,8 +119,9 @@ fn is_too_large(alloc: Global, entry: &Entry) -> Result<bool, NoMemory>
     }
 }
 
-// The entry, where it isn't too large.
-fn small(alloc: Global, entry: Entry) -> Result<Entry, Stop>
+/// An entry, where its record has at most 16,777,216 bytes and its list at most 65,535 items. One that has no record is too
+/// large.
+pub fn small_enough(alloc: Global, entry: Entry) -> Result<Entry, Stop>
     requires { fits entry ≡ false → is_too_large entry ≡ true }
     ensures { KeepsSize entry result }
 {
@@ -143,7 +144,7 @@ fn small_entry(alloc: Global, place: &RegistryPlace, value: RegValue) -> Result<
     ensures size { KeepsSize (value_entry place.now value) result }
 {
     match entry_of(alloc, place, value) {
-        Ok(entry) => small(alloc, entry),
+        Ok(entry) => small_enough(alloc, entry),
         Err(_) => Err(Stop::NoMemory),
     }
 }

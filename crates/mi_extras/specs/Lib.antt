@@ -1,0 +1,4 @@
+pub mod Forms
+pub mod Lefts
+pub mod Sizes
+pub mod Variables

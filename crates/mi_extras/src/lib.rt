@@ -1,0 +1,20 @@
+//! Environment variables and shortcuts as plan calls: WriteEnvironmentStrings and RemoveEnvironmentStrings
+//! (Environment table; WriteEnvironmentStrings and RemoveEnvironmentStrings actions).
+#![tactic(auto)]
+
+mod column;
+mod form;
+mod guards;
+mod items;
+mod parts;
+mod put;
+mod remove;
+mod rows;
+mod take;
+mod texts;
+mod value;
+mod variable;
+mod write;
+
+pub use remove::plan_remove_environment;
+pub use write::plan_write_environment;
