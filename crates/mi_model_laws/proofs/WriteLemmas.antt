@@ -32,7 +32,7 @@ value_at root key name p Makes old = keys_elsewhere (value_name root key name) p
 value_at root key name p MakesAndRemoves old = keys_elsewhere (value_name root key name) p.root p.key old (value_is_no_key root key name)
 value_at root key name p (Writes text) old = set_in_key (value_name root key name) (name_of_value p) (value_after p text) p.root p.key old (value_is_no_key root key name)
 
-value_acts : (w : World) (root : ℕ) (key name : Text) (r : Numbered RegistryRow) → Acts (value_name root key name) (write_row w r) (written_by (value_name root key name) (registry_meaning (lookups w) r))
+pub value_acts : (w : World) (root : ℕ) (key name : Text) (r : Numbered RegistryRow) → Acts (value_name root key name) (write_row w r) (written_by (value_name root key name) (registry_meaning (lookups w) r))
 unfolding write_row
 value_acts w root key name r m ts e old =
     let q = value_name root key name in

@@ -40,6 +40,7 @@ pub use order::{Row, in_key_order};
 pub use parts::lacks_zero;
 pub use phase::plan_write_registry;
 pub use place::RegistryPlace;
+pub use product::{language_of, product_language};
 pub use publish::plan_publish_product;
 pub use removing::plan_remove_registry;
 pub use says::Says;

@@ -81,8 +81,9 @@ fn product_version(alloc: Global, loaded: &Package) -> Result<Version, NoMemory>
     Ok(version_in(text.as_str()))
 }
 
-// The number that digits spell, up to 65,535.
-fn number_of(digits: &[u8]) -> Option<u32>
+/// The number of a language that digits spell, up to 65,535, and None where they spell no such number (ProductLanguage property;
+/// File table, Language).
+pub fn language_of(digits: &[u8]) -> Option<u32>
     ensures value { result ≡ number_within 65535 digits.now }
     ensures bound { IfSome result (λ number. number ≤ 65535) }
 {
@@ -105,13 +106,14 @@ fn number_of(digits: &[u8]) -> Option<u32>
 fn language_in(text: &str) -> u16
     ensures { result ≡ unwrap_or (number_within 65535 text.now) 0 }
 {
-    match number_of(text.as_bytes()) {
+    match language_of(text.as_bytes()) {
         Some(number) => number as u16,
         None => 0,
     }
 }
 
-fn product_language(alloc: Global, loaded: &Package) -> Result<u16, NoMemory>
+/// The language that the rows of the Property table state, whatever the property was set to (ProductLanguage property).
+pub fn product_language(alloc: Global, loaded: &Package) -> Result<u16, NoMemory>
     requires { IsLawful loaded.now }
     ensures { IfOk result (λ language. language ≡ unwrap_or (number_within 65535 (table_value (rows_in loaded.now) (codes "ProductLanguage"))) 0) }
 {

@@ -104,7 +104,7 @@ first_put L c (e ∷ es) are sorted none =
     let k = c.row.0 in
     let here = not_here k e es none in
     elim (name_cmp k e.0) as (λ o. name_cmp k e.0 ≡ o → is_eq o ≡ false
-        → find (is_false L) (map second (by_order o ((k, c) ∷ e ∷ es) ((e.0, c) ∷ es) (e ∷ put name_cmp k c es))) ≡ first_of L c (find (is_false L) (map second (e ∷ es)))) [
+    → find (is_false L) (map second (by_order o ((k, c) ∷ e ∷ es) ((e.0, c) ∷ es) (e ∷ put name_cmp k c es))) ≡ first_of L c (find (is_false L) (map second (e ∷ es)))) [
       | Less ↦ λ at isnt. of_two L c (find (is_false L) (map second (e ∷ es))) (before_all L k (e ∷ es) are (subst (λ o. T (is_lt o && below_all name_cmp k es)) (sym at) (below_too k e.0 es at (both_left _ _ sorted))))
       | Equal ↦ λ at isnt. cc
       | Greater ↦ λ at isnt. elim (is_false L e.1) as (λ b. cond b (Some e.1) (find (is_false L) (map second (put name_cmp k c es))) ≡ first_of L c (cond b (Some e.1) (find (is_false L) (map second es)))) [

@@ -1,6 +1,6 @@
 use Rattle.std.proofs.Common.{◌≡◌, ◌≤◌, drop}
 use Rattle.mi_idt.specs.Fields.{within_on}
-use Rattle.mi_records.proofs.product.number_of.Given as goal
+use Rattle.mi_records.proofs.product.language_of.Given as goal
 
 abbrev pub invariant-loop-digit : goal.invariant-loop-digit
 invariant-loop-digit l = record { small : l.number ≤ 65535; same : within_on 65535 l.number (drop l.digit-index l.digits) ≡ within_on 65535 0 l.digits }

@@ -1,0 +1,3 @@
+mod StandLemmas
+pub mod ValueLemmas
+pub mod ClientLemmas

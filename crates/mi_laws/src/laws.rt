@@ -1,0 +1,16 @@
+//! The laws.
+
+ghost use Rattle.mi_laws.specs.ClientLaws.{ClientsGoByAbsence};
+ghost use Rattle.mi_laws.specs.ValueLaws.{ValuesGoByRows};
+
+/// A value of the registry that goes is named by a row of Registry of a component that leaves, and not guarded, or by a row of
+/// RemoveRegistry of a component that is made local; no other phase takes a value away (RemoveRegistryValues action).
+pub fn values_go_by_rows()
+    ensures { ValuesGoByRows }
+{}
+
+/// A client row that goes is the one of this product for the id of a component that is made Absent; no other phase changes the rows of
+/// clients (ProcessComponents action).
+pub fn clients_go_by_absence()
+    ensures { ClientsGoByAbsence }
+{}
