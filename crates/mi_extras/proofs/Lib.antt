@@ -1,5 +1,6 @@
 pub mod ColumnLemmas
 pub mod ItemLemmas
+pub mod RowLemmas
 pub mod GuardLemmas
 pub mod SizeLemmas
 pub mod TakeLemmas

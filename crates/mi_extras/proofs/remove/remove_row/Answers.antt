@@ -6,7 +6,8 @@ use Rattle.mi_model.specs.RemoveEnvironmentStrings.{is_guarded_variable, remove_
 use Rattle.mi_steps.specs.Makes.{plan_machine}
 use Rattle.mi_records.specs.Meaning.{numbered}
 use Rattle.mi_records.specs.Rows as made
-use Rattle.mi_records.proofs.ClientLemmas.{row_same, row_untold}
+use Rattle.mi_records.proofs.ClientLemmas.{row_same}
+use Rattle.mi_extras.proofs.RowLemmas.{row_untold}
 use Rattle.mi_extras.specs.Forms.{form_told, meant}
 use Rattle.mi_extras.specs.Variables.{taken_touches}
 use Rattle.mi_extras.proofs.TakeLemmas.{row_takes, row_takes_nothing}
