@@ -1,6 +1,6 @@
 //! Steps that write files. Their records are always added, also where nothing changes.
 
-ghost use Rattle.std.specs.Prelude.{◌≡◌, ◌∷◌, [], Some, List, ℕ, OnOk, OnErr, length, true};
+ghost use Rattle.std.specs.Prelude.{◌≡◌, ◌∷◌, ◌++◌, [], Some, List, ℕ, OnOk, OnErr, length, true};
 ghost use Rattle.std.specs.FinMap.{get, insert};
 ghost use Rattle.mi_text.specs.Maps.{Map};
 ghost use Rattle.mi_base.specs.declared.entry.Entry.TheVariants as entry;
@@ -10,6 +10,7 @@ ghost use Rattle.mi_base.specs.Records.{with_bytes};
 ghost use Rattle.mi_image.specs.Items.{bytes_of_file, bytes_or_none, AreThere, HeadMayStand};
 ghost use Rattle.mi_image.specs.Lookups.{length_in};
 ghost use Rattle.mi_image.specs.Overlays.{former_items, present_items, present_machine};
+ghost use Rattle.mi_script.specs.declared.rec.Rec.TheVariants as record_of_script;
 ghost use Rattle.mi_steps.specs.Follows.{Grows};
 ghost use Rattle.mi_steps.specs.Makes.{Makes, plan_machine, copy_touch, duplicate_touch};
 
@@ -78,6 +79,7 @@ impl Plan {
     ) -> Result<(), NoMemory>
         requires { fits (entry.File (with_bytes head.now [])) ≡ true }
         ensures makes { (held files : Map (List ℕ)) → OnOk result (Makes held files self.old self.new (copy_touch files head.now path.now ∷ [])) }
+        ensures adds { OnOk result (self.new.script ≡ self.old.script ++ record_of_script.Copy (file_name head.now.shown) head.now file.now path.now head.now.length ∷ []) }
         ensures there { (held files : Map (List ℕ)) → length (bytes_or_none (get files path.now)) ≡ head.now.length → AreThere held files (present_items self.old.overlay) → AreThere held files (present_items self.new.overlay) }
         ensures image { OnErr result (present_items self.new.overlay ≡ present_items self.old.overlay) }
         ensures former { former_items self.new.overlay ≡ former_items self.old.overlay }
