@@ -1,23 +1,13 @@
 -- The column Name, byte by byte.
-use Rattle.std.proofs.Common.{◌≡◌, ℕ, suc, ◌+◌, ◌-◌, ◌<◌, ◌≤◌, Bool, true, false, cond, ◌||◌, List, [], ◌∷◌, length, take, drop, get_or, zero, refl, sym, ap, ◌∙◌, arith, add-one}
-use Rattle.std.specs.List.{prefix_len, slice_index_or, list_any}
+use Rattle.std.proofs.Common.{◌≡◌, ℕ, zero, suc, ◌+◌, ◌<◌, ◌≤◌, Bool, true, false, cond, List, [], ◌∷◌, length, get_or, refl, subst, arith, add-one}
+use Rattle.std.specs.Prelude.{codes}
+use Rattle.std.specs.List.{prefix_len}
 use Rattle.std.specs.Str.{IsUtf8, IsCharBoundary}
-use Rattle.std.proofs.Math.Seq.{drop-cons}
 use Rattle.std.proofs.lemmas.Bool.Decides.{nat_tests}
 use Rattle.std.proofs.lemmas.Str.{IsCharBoundary-start, IsCharBoundary-after_ascii}
-use Rattle.mi_model.specs.EnvironmentRows.{is_any_of, repeats}
+use Rattle.mi_model.specs.EnvironmentRows.{is_any_of}
 
 -- ---- the bytes in front that pass
-
-module _ (p : ℕ → Bool) (xs : List ℕ) (i : ℕ) where
-  pub front_ends : i < length xs → p (slice_index_or xs i 0) ≡ false → prefix_len p (drop i xs) ≡ 0
-  front_ends lt no = ap (prefix_len p) (drop-cons xs i 0 lt) ∙ ap (λ b. cond b (1 + prefix_len p (drop (suc i) xs)) 0) no
-
-  pub front_goes_on : i < length xs → p (slice_index_or xs i 0) ≡ true → prefix_len p (drop i xs) ≡ 1 + prefix_len p (drop (i + 1) xs)
-  front_goes_on lt yes =
-      ap (prefix_len p) (drop-cons xs i 0 lt)
-      ∙ ap (λ b. cond b (1 + prefix_len p (drop (suc i) xs)) 0) yes
-      ∙ ap (λ n. 1 + prefix_len p (drop n xs)) (sym (add-one i))
 
 pub front_within : (p : ℕ → Bool) (xs : List ℕ) → prefix_len p xs ≤ length xs
 front_within p [] = omega arith
@@ -27,24 +17,31 @@ front_within p (x ∷ xs) = elim (p x) as (λ b. cond b (1 + prefix_len p xs) 0 
 ]
 
 -- the last byte in front passes
-pub last_passes : (p : ℕ → Bool) (xs : List ℕ) (n : ℕ) → prefix_len p xs ≡ n + 1 → p (get_or xs n 0) ≡ true
+last_passes : (p : ℕ → Bool) (xs : List ℕ) (n : ℕ) → prefix_len p xs ≡ n + 1 → p (get_or xs n 0) ≡ true
 last_passes p [] n is = absurd (omega (arith, is))
-last_passes p (x ∷ xs) n is = elim (p x) as (λ b. p x ≡ b → cond b (1 + prefix_len p xs) 0 ≡ n + 1 → p (get_or (x ∷ xs) n 0) ≡ true) [
-  | true ↦ λ at e. by_place n e at
-  | false ↦ λ at e. absurd (omega (arith, e))
-] refl is
-  where
-    by_place : (m : ℕ) → 1 + prefix_len p xs ≡ m + 1 → p x ≡ true → p (get_or (x ∷ xs) m 0) ≡ true
-    by_place zero e at = at
-    by_place (suc m) e at = last_passes p xs m (omega (arith, e))
+last_passes p (x ∷ xs) zero is = elim (p x) as (λ b. cond b (1 + prefix_len p xs) 0 ≡ 0 + 1 → b ≡ true) [
+  | true ↦ λ e. refl
+  | false ↦ λ e. absurd (omega (arith, e))
+] is
+last_passes p (x ∷ xs) (suc n) is = elim (p x) as (λ b. cond b (1 + prefix_len p xs) 0 ≡ suc n + 1 → p (get_or xs n 0) ≡ true) [
+  | true ↦ λ e. last_passes p xs n (omega (arith, e))
+  | false ↦ λ e. absurd (omega (arith, e))
+] is
 
 -- a prefix is one byte of ASCII
-pub small_prefix : (b : ℕ) → is_any_of (61 ∷ 43 ∷ 45 ∷ 33 ∷ 42 ∷ []) b ≡ true → b < 128
+small_prefix : (b : ℕ) → is_any_of (codes "=+-!*") b ≡ true → b < 128
 small_prefix b is = grind (arith, nat_tests)
 
--- ---- bytes that stand twice
+abbrev front : List ℕ → ℕ
+front name = prefix_len (is_any_of (codes "=+-!*")) name
 
-pub repeats_at : (xs : List ℕ) (i : ℕ) → i < length xs → repeats (drop i xs) ≡ (is_any_of (drop (i + 1) xs) (slice_index_or xs i 0) || repeats (drop (i + 1) xs))
-repeats_at xs i lt =
-    ap repeats (drop-cons xs i 0 lt)
-    ∙ ap (λ n. is_any_of (drop n xs) (slice_index_or xs i 0) || repeats (drop n xs)) (sym (add-one i))
+-- a text may be cut behind its prefixes
+pub front_boundary : (name : List ℕ) → IsUtf8 name → IsCharBoundary name (front name)
+front_boundary name text = by_length (front name) refl (front_within (is_any_of (codes "=+-!*")) name)
+  where
+    by_length : (n : ℕ) → front name ≡ n → front name ≤ length name → IsCharBoundary name n
+    by_length zero is within = IsCharBoundary-start name text
+    by_length (suc n) is within =
+        let more : front name ≡ n + 1 = omega (arith, is) in
+        subst (λ k. IsCharBoundary name k) (add-one n)
+        (IsCharBoundary-after_ascii name n text (omega (arith, more, within)) (small_prefix (get_or name n 0) (last_passes (is_any_of (codes "=+-!*")) name n more)))

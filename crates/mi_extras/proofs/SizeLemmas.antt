@@ -1,20 +1,19 @@
 -- Entries of rows that are small enough.
 use Rattle.std.proofs.Common.{◌≡◌, ℕ, Bool, true, false, cond, ◌&&◌, ◌||◌, List, [], ◌∷◌, ◌++◌, length, Some, None, refl, sym, ap, subst, ◌∙◌, arith, length-append}
-use Rattle.std.specs.Prelude.{nat_lt, Result, Ok, Err}
+use Rattle.std.specs.Prelude.{nat_lt, Ok, Err}
 use Rattle.std.specs.Int.{w32, to_be_bytes}
 use Rattle.std.proofs.lemmas.Bool.Decides.{nat_tests}
 use Rattle.mi_text.specs.Maps.{Map}
 use Rattle.mi_base.specs.declared.entry.Entry.{Entry}
 use Rattle.mi_base.specs.declared.entry.Entry.TheVariants as entry
 use Rattle.mi_base.specs.declared.entry.Variable.{Variable}
-use Rattle.mi_base.specs.declared.answers.Fault.{Fault}
 use Rattle.mi_base.specs.declared.answers.Fault.TheVariants as faults
 use Rattle.mi_base.specs.Fields.{string}
 use Rattle.mi_base.specs.Limits.{fits, is_short, is_variable_name}
 use Rattle.mi_base.specs.Spelling.{name_of, record_of}
 use Rattle.mi_source.specs.Paths.{Files}
 use Rattle.mi_model.specs.Texts.{Text}
-use Rattle.mi_model.specs.Refusals.{has_too_many, size_fault}
+use Rattle.mi_model.specs.Refusals.{size_fault}
 use Rattle.mi_steps.specs.declared.plan.Plan.{Plan}
 use Rattle.mi_steps.specs.Follows.{put_touch}
 use Rattle.mi_steps.specs.Makes.{Makes}
@@ -49,10 +48,10 @@ sized_err table row e (Refused why) (error.Fault f) size refusal = large_is tabl
 
 -- an entry that was put, as it is or as the same one
 module _ (held : Map (List ℕ)) (files : Files) (a b : Plan) (table : Text) (row : ℕ) (e : Entry) where
-  pub put_small : (same : Entry) → IsSmall table row e same → Makes held files a b (put_touch (name_of same) same ∷ []) → Put held files a b table row e {A = Unit {0}} (Ok tt)
+  pub put_small : (same : Entry) → IsSmall table row e same → Makes held files a b (put_touch (name_of same) same ∷ []) → Put {A = Unit {0}} held files a b table row e (Ok tt)
   put_small same small made = (small.small, subst (λ (x : Entry). Makes held files a b (put_touch (name_of x) x ∷ [])) small.is made)
 
-  pub put_refused : (error : PlanError) → IsSized table row e (Err error) → Put held files a b table row e {A = Unit {0}} (Err error)
+  pub put_refused : (error : PlanError) → IsSized table row e (Err error) → Put {A = Unit {0}} held files a b table row e (Err error)
   put_refused error.NoMemory is = tt
   put_refused (error.Fault f) is = is
 

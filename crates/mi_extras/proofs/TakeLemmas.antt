@@ -1,10 +1,10 @@
 -- What rows of RemoveEnvironmentStrings make of a plan.
 use Rattle.std.proofs.Common.{◌≡◌, ℕ, Bool, true, false, cond, not, ◌&&◌, ◌||◌, List, [], ◌∷◌, map, Bor, Option, Some, None, refl, sym, ap, subst, ◌∙◌}
-use Rattle.std.specs.Prelude.{is_some, option_map, filter, IfSome, Result, Ok, Err}
+use Rattle.std.specs.Prelude.{is_some, option_map, filter, Result, Ok, Err}
 use Rattle.std.specs.FinMap.{get}
 use Rattle.std.specs.Str.{bytes_eq}
 use Rattle.mi_text.specs.Lookups.{Lookups}
-use Rattle.mi_text.specs.Maps.{Name, Map}
+use Rattle.mi_text.specs.Maps.{Name}
 use Rattle.mi_base.specs.declared.entry.Entry.{Entry}
 use Rattle.mi_base.specs.declared.entry.Entry.TheVariants as entry
 use Rattle.mi_base.specs.declared.entry.Variable.{Variable}
@@ -20,7 +20,6 @@ use Rattle.mi_script.specs.declared.rec.Rec.{Rec}
 use Rattle.mi_script.specs.Spelled.{is_file_name}
 use Rattle.mi_model.specs.Texts.{Text}
 use Rattle.mi_model.specs.World.{World}
-use Rattle.mi_model.specs.Asked.{leaves, lookups}
 use Rattle.mi_model.specs.ComponentRows.{is_local}
 use Rattle.mi_model.specs.Refusals.{◌>>=◌}
 use Rattle.mi_model.specs.EnvironmentRows.{Form, named_variable, environment_form, removes, clears}

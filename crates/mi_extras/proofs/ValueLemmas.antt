@@ -1,5 +1,5 @@
 -- The Value of a row of Environment.
-use Rattle.std.proofs.Common.{◌≡◌, ℕ, Bool, true, false, List, Option, Some, None, refl, sym, ap, subst, ◌∙◌}
+use Rattle.std.proofs.Common.{◌≡◌, ℕ, true, false, Option, Some, ap, ◌∙◌}
 use Rattle.std.specs.Prelude.{codes, Result, Ok, Err, IfOk}
 use Rattle.mi_text.specs.Lookups.{Lookups}
 use Rattle.mi_base.specs.declared.answers.Fault.{Fault}

@@ -1,18 +1,17 @@
 -- Variables as they are held.
-use Rattle.std.proofs.Common.{◌≡◌, ℕ, ◌+◌, ◌≤◌, Bool, true, false, cond, not, ◌&&◌, ◌||◌, List, [], ◌∷◌, length, Option, Some, None, Bor, refl, sym, ap, ◌∙◌, arith}
+use Rattle.std.proofs.Common.{◌≡◌, ℕ, suc, ◌≤◌, Bool, true, false, not, ◌&&◌, ◌||◌, List, length, Option, Some, None, Bor, refl, sym, ap, ◌∙◌, arith}
 use Rattle.std.specs.Prelude.{◌==◌, nat_le, option_map, IfSome}
 use Rattle.std.specs.FinMap.{get}
-use Rattle.std.specs.Str.{bytes_eq}
 use Rattle.std.proofs.lemmas.Bool.Decides.{nat_tests}
 use Rattle.std.proofs.lemmas.List.{length-map}
 use Rattle.std.specs.Char.{to_ascii_lowercase}
-use Rattle.mi_text.specs.Fold.{folded, IsNameLength}
+use Rattle.mi_text.specs.Fold.{IsNameLength}
 use Rattle.mi_text.specs.Maps.{Name, Map}
 use Rattle.mi_text.proofs.ByteLemmas.{both}
 use Rattle.mi_base.specs.declared.entry.Entry.{Entry}
 use Rattle.mi_base.specs.declared.entry.Entry.TheVariants as entry
 use Rattle.mi_base.specs.declared.entry.Variable.{Variable}
-use Rattle.mi_base.specs.Limits.{is_variable_name}
+use Rattle.mi_base.specs.Limits.{is_variable_name, has_no_zero}
 use Rattle.mi_base.specs.Machine.{as_variable}
 use Rattle.mi_base.specs.Names.{variable_name}
 use Rattle.mi_base.specs.Spelling.{name_of}
@@ -43,13 +42,14 @@ good_variable name good = not_false (is_variable_name (variable_in name)) (or_la
 short_variable : (name : Text) → is_variable_name name ≡ true → length name ≤ 500
 unfolding is_variable_name
 short_variable name is =
-    let short : nat_le (length name) 500 ≡ true = (both _ _ (both _ _ is).0).1 in
+    let all = both (not (length name == 0) && nat_le (length name) 500) (has_no_zero name) is in
+    let short : nat_le (length name) 500 ≡ true = (both (not (length name == 0)) (nat_le (length name) 500) all.0).1 in
     grind (arith, nat_tests)
 
-named_length : (system : Bool) (name : Text) → length (variable_name system name) ≡ 3 + length name
+named_length : (system : Bool) (name : Text) → length (variable_name system name) ≡ suc (suc (suc (length name)))
 unfolding variable_name
-named_length true name = ap (λ n. 3 + n) (length-map name to_ascii_lowercase)
-named_length false name = ap (λ n. 3 + n) (length-map name to_ascii_lowercase)
+named_length true name = ap (λ (n : ℕ). suc (suc (suc n))) (length-map name to_ascii_lowercase)
+named_length false name = ap (λ (n : ℕ). suc (suc (suc n))) (length-map name to_ascii_lowercase)
 
 -- its name has 1 to 1,024 bytes
 pub right_length : (name : Text) → is_bad_name name ≡ false → IsNameLength (named_variable name)

@@ -1,5 +1,5 @@
 -- What rows of WriteEnvironmentStrings make of a plan.
-use Rattle.std.proofs.Common.{◌≡◌, ℕ, Bool, true, false, cond, ◌&&◌, List, [], ◌∷◌, map, Bor, Option, Some, None, refl, sym, ap, subst, ◌∙◌}
+use Rattle.std.proofs.Common.{◌≡◌, ℕ, true, false, cond, ◌&&◌, List, [], ◌∷◌, map, Bor, Option, Some, None, refl, sym, ap, subst, ◌∙◌}
 use Rattle.std.specs.Prelude.{codes, is_some, option_map, filter, Result, Ok, Err}
 use Rattle.std.specs.Option.{option_map_or, option_or}
 use Rattle.std.specs.FinMap.{get}
@@ -8,16 +8,14 @@ use Rattle.mi_text.specs.Maps.{Name, Map}
 use Rattle.mi_base.specs.declared.entry.Entry.{Entry}
 use Rattle.mi_base.specs.declared.answers.Fault.{Fault}
 use Rattle.mi_base.specs.Machine.{Machine}
-use Rattle.mi_base.specs.Spelling.{name_of}
 use Rattle.mi_source.specs.Paths.{Files}
-use Rattle.mi_changes.specs.Touches.{Set}
+use Rattle.mi_changes.specs.Touches.{Set, Touch}
 use Rattle.mi_schema.specs.declared.package.Package.{Package}
 use Rattle.mi_schema.specs.declared.typed_rows.EnvironmentRow.{EnvironmentRow}
 use Rattle.mi_schema.specs.RowsOf.{rows_in}
 use Rattle.mi_schema.specs.TableRows.{Numbered, in_key_order, Rows as TableRows}
-use Rattle.mi_script.specs.Spelled.{is_file_name}
 use Rattle.mi_model.specs.Texts.{Text}
-use Rattle.mi_model.specs.World.{World, RowEffect}
+use Rattle.mi_model.specs.World.{World}
 use Rattle.mi_model.specs.Asked.{comes, lookups}
 use Rattle.mi_model.specs.ComponentRows.{rows_that}
 use Rattle.mi_model.specs.Refusals.{◌>>=◌, size_fault, unless}
@@ -25,7 +23,7 @@ use Rattle.mi_model.specs.EnvironmentRows.{Form, named_variable, environment_for
 use Rattle.mi_model.specs.WriteEnvironmentStrings.{old_text, is_to_write, text_after, variable_entry, variable_written, variable_after, variable_fault, write_string, write_environment_strings}
 use Rattle.mi_steps.specs.declared.plan.Plan.{Plan}
 use Rattle.mi_steps.specs.Follows.{Follows, put_touch}
-use Rattle.mi_steps.specs.Makes.{Makes, plan_machine}
+use Rattle.mi_steps.specs.Makes.{plan_machine}
 use Rattle.mi_steps.proofs.FollowLemmas.{no_step, same_touch}
 use Rattle.mi_records.specs.declared.error.PlanError.{PlanError}
 use Rattle.mi_records.specs.declared.error.PlanError.TheVariants as error
@@ -77,7 +75,7 @@ module _ (held : Map (List ℕ)) (files : Files) (a : Plan) (row : ℕ) (name : 
   wrote b text (Err (error.Fault f)) is put = ap (λ (o : Option Fault). unless o (Ok (Set (named_variable name) (variable_after name form) ∷ []))) (fault_is (Some text) is ∙ put)
 
   -- it writes nothing
-  pub wrote_nothing : None ≡ written_text name form (old_text stood) → Row held files a a (write_effect row name form) {A = Unit {0}} (Ok tt)
+  pub wrote_nothing : None ≡ written_text name form (old_text stood) → Row held files a a {A = Unit {0}} (write_effect row name form) (Ok tt)
   wrote_nothing is = record {
     touches = Set (named_variable name) (variable_after name form) ∷ [];
     gives = ap (λ (o : Option Fault). unless o (Ok (Set (named_variable name) (variable_after name form) ∷ []))) (fault_is None is);
@@ -87,7 +85,7 @@ module _ (held : Map (List ℕ)) (files : Files) (a : Plan) (row : ℕ) (name : 
 -- ---- a row
 
 module _ (w : World) (L : Lookups) (r : Numbered EnvironmentRow) (m : Machine) (same : lookups w ≡ L) where
-  abbrev writes : Result Form Fault → Result _ Fault
+  abbrev writes : Result Form Fault → Result (List (Touch Entry)) Fault
   writes x = x >>= λ form. unless (variable_fault m r.number r.row.name form) (Ok (Set (named_variable r.row.name) (variable_after r.row.name form) ∷ []))
 
   pub row_writes : (form : Form) → environment_form L r ≡ Ok form → write_string w r m ≡ write_effect r.number r.row.name form m

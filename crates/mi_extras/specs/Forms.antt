@@ -1,5 +1,5 @@
 -- What the program's values of Environment rows mean. (Environment Table, column Value.)
-use Rattle.std.specs.Prelude.{List, ℕ, Option, Some, None}
+use Rattle.std.specs.Prelude.{Option, Some, None}
 use Rattle.mi_model.specs.EnvironmentRows as model
 use Rattle.mi_model.specs.Texts.{Text}
 use Rattle.mi_model.specs.EnvironmentRows.{form_of}

@@ -1,5 +1,5 @@
 -- What is left of a list of a variable. (Environment Table, column Value. That a list without items goes is this project's own.)
-use Rattle.std.specs.Prelude.{List, ℕ, [], ◌∷◌, Option, Some, None}
+use Rattle.std.specs.Prelude.{List, [], ◌∷◌, Option, Some, None}
 use Rattle.std.specs.List.{join_with_byte}
 use Rattle.mi_model.specs.Texts.{Text}
 

@@ -1,5 +1,5 @@
 -- What rows of Environment do to variables, by what the program keeps of them. (Environment Table.)
-use Rattle.std.specs.Prelude.{◌≡◌, ℕ, Bool, false, true, not, ◌&&◌, ◌||◌, if◌then◌else◌, List, [], ◌∷◌, Option, Some, None, Ok}
+use Rattle.std.specs.Prelude.{◌≡◌, ℕ, Bool, false, not, ◌&&◌, ◌||◌, if◌then◌else◌, List, [], ◌∷◌, Option, Some, None, Ok}
 use Rattle.std.specs.Str.{bytes_eq}
 use Rattle.mi_text.specs.Maps.{Name}
 use Rattle.mi_base.specs.declared.entry.Entry.{Entry}

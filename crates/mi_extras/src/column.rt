@@ -66,13 +66,22 @@ fn is_any_of(bytes: &[u8], byte: u8) -> bool
     bytes.iter().any(|other| byte == *other)
 }
 
+// Whether one of these says what is done.
+fn act(prefixes: &[u8]) -> bool
+    ensures { result ≡ list_any (is_any_of (codes "=+!-")) prefixes.now }
+{
+    prefixes.iter().any(|byte| acts(*byte))
+}
+
 // Whether a Name has a prefix; one that says nothing of what is done has `=` and `-`.
 fn has_prefix(name: &str, prefix: u8) -> bool
     ensures { result ≡ has_prefix prefix name.now }
 {
     let prefixes = prefixes(name);
-    let acting = prefixes.iter().any(|byte| acts(*byte));
-    is_any_of(prefixes, prefix) || (!acting && is_any_of(b"=-", prefix))
+    let has = is_any_of(prefixes, prefix);
+    let acting = act(prefixes);
+    let stands_for_none = is_any_of(b"=-", prefix);
+    has || (!acting && stands_for_none)
 }
 
 /// Whether a row sets its variable.

@@ -1,5 +1,4 @@
-//! Environment variables and shortcuts as plan calls: WriteEnvironmentStrings and RemoveEnvironmentStrings
-//! (Environment table; WriteEnvironmentStrings and RemoveEnvironmentStrings actions).
+//! Environment variables as plan calls: WriteEnvironmentStrings and RemoveEnvironmentStrings (Environment table).
 #![tactic(auto)]
 
 mod column;

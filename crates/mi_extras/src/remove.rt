@@ -1,7 +1,8 @@
 //! RemoveEnvironmentStrings as a plan call.
 
-ghost use Rattle.std.specs.Prelude.{◌≡◌, List, ℕ, Bool, Ok, OnOk, map, false};
-ghost use Rattle.mi_text.specs.Maps.{Map};
+ghost use Rattle.std.specs.Prelude.{◌≡◌, ◌&&◌, List, ℕ, Bool, Ok, OnOk, map, false};
+ghost use Rattle.std.specs.BTreeSet.{contains};
+ghost use Rattle.mi_text.specs.Maps.{Map, name_cmp};
 ghost use Rattle.mi_image.specs.Items.{AreThere};
 ghost use Rattle.mi_image.specs.Overlays.{former_items, present_items};
 ghost use Rattle.mi_model.specs.World.{World};
@@ -32,6 +33,13 @@ use mi_steps::Plan;
 use std::alloc::Global;
 use std::collections::BTreeSet;
 
+// Whether a row leaves and its variable is guarded.
+fn is_held_back(guards: &BTreeSet<Text>, leaving: bool, at: &Text) -> bool
+    ensures { result ≡ (leaving && contains name_cmp guards.now at.now) }
+{
+    leaving && guards.contains(at)
+}
+
 // Takes away what the form of a Value says, unless the row leaves and its variable is guarded.
 fn take_unguarded(
     alloc: Global,
@@ -46,7 +54,7 @@ fn take_unguarded(
     ensures keeps { Keeps plan.old plan.new }
 {
     let at = name_text(alloc, name)?;
-    if leaving && guards.contains(&at) {
+    if is_held_back(guards, leaving, &at) {
         return Ok(());
     }
     take_form(alloc, plan, at.as_str(), leaving, form)

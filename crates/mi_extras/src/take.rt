@@ -26,8 +26,8 @@ use mi_image::Image;
 use mi_steps::Plan;
 use std::alloc::Global;
 
-// Takes away what stands at a name.
-fn drop_at(alloc: Global, plan: &mut Plan, at: &str) -> Result<(), NoMemory>
+/// Takes away what stands at a name.
+pub fn drop_at(alloc: Global, plan: &mut Plan, at: &str) -> Result<(), NoMemory>
     requires { IsNameLength at.now }
     ensures makes { (held files : Map (List ℕ)) → OnOk result (Makes held files plan.old plan.new (drop_touch at.now ∷ [])) }
     ensures keeps { Keeps plan.old plan.new }
@@ -41,11 +41,7 @@ fn drop_at(alloc: Global, plan: &mut Plan, at: &str) -> Result<(), NoMemory>
 // ---- a part
 
 // A variable with another value.
-fn with_value(
-    alloc: Global,
-    variable: &Variable,
-    value: Text,
-) -> Result<Option<Variable>, NoMemory>
+fn with_value(alloc: Global, variable: &Variable, value: Text) -> Result<Option<Variable>, NoMemory>
     ensures { IfOk result (λ rest. rest ≡ Some (record { system = variable.now.system; name = variable.now.name; value = value })) }
 {
     match Text::copy_of(alloc, variable.name.as_str()) {
@@ -62,11 +58,7 @@ fn with_value(
 }
 
 // A variable without its first item that equals a part; None where no item is left.
-fn less_part(
-    alloc: Global,
-    variable: &Variable,
-    part: &str,
-) -> Result<Option<Variable>, NoMemory>
+fn less_part(alloc: Global, variable: &Variable, part: &str) -> Result<Option<Variable>, NoMemory>
     ensures left { IfOk result (λ rest. option_map entry.Variable rest ≡ less_part part.now (Some variable.now)) }
     ensures named { (q : List ℕ) → IsHeldAt q variable.now → IfOk result (λ rest. IfSome rest (IsHeldAt q)) }
 {

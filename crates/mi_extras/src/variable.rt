@@ -55,11 +55,11 @@ pub fn name_of_text(alloc: Global, text: &str) -> Result<Name, NoMemory>
     }
 }
 
-fn as_variable(entry: &Entry) -> Option<&Variable>
-    ensures value { option_copied result ≡ as_variable (Some entry.now) }
-    ensures whole { IfSome result (λ variable. entry.now ≡ entry.Variable variable.now) }
+fn as_variable(held: &Entry) -> Option<&Variable>
+    ensures value { option_copied result ≡ as_variable (Some held.now) }
+    ensures whole { IfSome result (λ variable. held.now ≡ entry.Variable variable.now) }
 {
-    match entry {
+    match held {
         Entry::File(_) => None,
         Entry::Folder(_) => None,
         Entry::Value(_, _) => None,

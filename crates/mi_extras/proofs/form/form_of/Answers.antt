@@ -1,9 +1,9 @@
 -- Where neither mark stands.
-use Rattle.std.proofs.Common.{false, ◌≡◌, List, ℕ, ◌∷◌, [], cond, take, drop, length, ◌-◌, sym, ap, ◌∙◌}
-use Rattle.std.specs.Prelude.{codes, nat_eq}
+use Rattle.std.proofs.Common.{false, ◌≡◌, ◌∷◌, [], cond, take, drop, length, ◌-◌, sym, ap, ◌∙◌}
+use Rattle.std.specs.Prelude.{nat_eq}
 use Rattle.std.specs.List.{starts_with, ends_with}
 use Rattle.std.proofs.lemmas.Str.Pattern.{starts_text, ends_text}
-use Rattle.mi_model.specs.EnvironmentRows.{Form, Whole, Behind, Before, form_of}
+use Rattle.mi_model.specs.EnvironmentRows.{Whole, Behind, Before}
 use Rattle.mi_extras.proofs.form.form_of.Goals as goal
 
 pub returns-in-None : goal.returns-in-None

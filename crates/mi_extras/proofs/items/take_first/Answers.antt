@@ -1,5 +1,5 @@
 -- By the place of the part.
-use Rattle.std.proofs.Common.{◌≡◌, ℕ, List, Some, None, map, Bor, length, lit<, rules, tests, sym, ap, ◌∙◌}
+use Rattle.std.proofs.Common.{ℕ, List, map, Bor, length, rules, tests, sym, ap, ◌∙◌}
 use Rattle.std.specs.List.{position_or_len, remove}
 use Rattle.std.proofs.lemmas.Iterator.{YieldsList-from_slice}
 use Rattle.std.proofs.lemmas.Iterator.Search.{position_from_yields_List}

@@ -2,7 +2,6 @@
 use Rattle.std.proofs.Common.{ap, ◌∙◌}
 use Rattle.mi_base.specs.Limits.{fits}
 use Rattle.mi_steps.specs.Makes.{is_file}
-use Rattle.mi_records.proofs.KeyLemmas.{keeps_not}
 use Rattle.mi_extras.proofs.SizeLemmas.{put_small, put_refused}
 use Rattle.mi_extras.proofs.put.put_sized.Goals as goal
 

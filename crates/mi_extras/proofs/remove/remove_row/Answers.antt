@@ -1,5 +1,5 @@
 -- The form of the row is carried out.
-use Rattle.std.proofs.Common.{◌≡◌, List, ℕ, Bool, ap, subst, ◌∙◌}
+use Rattle.std.proofs.Common.{List, ℕ, Bool, ap, subst, ◌∙◌}
 use Rattle.std.specs.Prelude.{Ok}
 use Rattle.mi_model.specs.EnvironmentRows.{Form, environment_form}
 use Rattle.mi_model.specs.RemoveEnvironmentStrings.{is_guarded_variable, remove_string}

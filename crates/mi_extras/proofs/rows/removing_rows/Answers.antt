@@ -1,7 +1,6 @@
 -- The rows in key order, and those that take away.
 use Rattle.std.proofs.Common.{map, ap, ◌∙◌}
 use Rattle.std.specs.Prelude.{filter}
-use Rattle.mi_schema.specs.declared.package.Package.{Package}
 use Rattle.mi_records.specs.Order.{as_numbered}
 use Rattle.mi_extras.proofs.WriteLemmas.{ordered}
 use Rattle.mi_extras.proofs.TakeLemmas.{removing_are}

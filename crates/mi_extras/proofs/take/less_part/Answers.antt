@@ -1,5 +1,5 @@
 -- By the items that are left.
-use Rattle.std.proofs.Common.{◌≡◌, Some, None, List, ℕ, Option, ap, sym, ◌∙◌, subst}
+use Rattle.std.proofs.Common.{◌≡◌, Some, List, ℕ, Option, ap, sym, ◌∙◌, subst}
 use Rattle.std.specs.Prelude.{option_map, IfSome}
 use Rattle.std.proofs.lemmas.Result.{IfOk-weaker}
 use Rattle.mi_base.specs.declared.entry.Entry.TheVariants as entry

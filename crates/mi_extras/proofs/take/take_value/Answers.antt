@@ -1,5 +1,5 @@
 -- Another value stays.
-use Rattle.std.proofs.Common.{◌≡◌, true, false, ap, sym, ◌∙◌}
+use Rattle.std.proofs.Common.{◌≡◌, false, ap, sym, ◌∙◌}
 use Rattle.std.specs.FinMap.{get}
 use Rattle.mi_base.specs.Machine.{as_variable}
 use Rattle.mi_image.specs.Items.{Items, machine_over}
@@ -17,8 +17,8 @@ returns-then-has_other_value-clause-makes c = λ held files.
     stays_so files (plan_machine held files c.args.plan.now) c.args.plan.now.script q text c.requires.plain
     (ap (λ (items : Items). has_other_value text (as_variable (get (machine_over held files items) q))) (sym c.image.ensures) ∙ sym (c.has_other_value.ensures held files) ∙ c.if-has_other_value.true)
 
-pub returns-else-has_other_value-clause-makes : goal.returns-else-has_other_value-clause-makes
-returns-else-has_other_value-clause-makes c = λ held files.
+pub returns-clause-makes : goal.returns-clause-makes
+returns-clause-makes c = λ held files.
     let m = plan_machine held files c.args.plan.now in
     let q = c.args.at.now in
     let text = c.args.text.now in

@@ -1,5 +1,5 @@
 -- The text, or why there is none.
-use Rattle.std.proofs.Common.{List, ℕ, Option, sym, subst}
+use Rattle.std.proofs.Common.{List, ℕ, sym, subst}
 use Rattle.std.specs.Prelude.{Result, Some, codes}
 use Rattle.mi_base.specs.declared.answers.Fault.{Fault}
 use Rattle.mi_model.specs.Refusals.{expanded}

@@ -1,8 +1,8 @@
 -- The Name is judged first.
-use Rattle.std.proofs.Common.{◌≡◌, Option, List, ℕ, false, sym, ap, subst, ◌∙◌}
+use Rattle.std.proofs.Common.{◌≡◌, false, sym, ap, subst, ◌∙◌}
 use Rattle.std.specs.Prelude.{Result, Some, None}
 use Rattle.mi_base.specs.declared.answers.Fault.{Fault}
-use Rattle.mi_model.specs.EnvironmentRows.{Form, is_bad_name, environment_form, form_in}
+use Rattle.mi_model.specs.EnvironmentRows.{Form, is_bad_name}
 use Rattle.mi_records.specs.Meaning.{numbered}
 use Rattle.mi_records.specs.Stops.{TellsBy}
 use Rattle.mi_extras.specs.Forms.{form_told}

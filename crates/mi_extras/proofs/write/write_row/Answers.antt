@@ -1,6 +1,5 @@
 -- The form of the row is carried out.
-use Rattle.std.proofs.Common.{◌≡◌, List, ℕ, ap, subst, ◌∙◌}
-use Rattle.mi_base.specs.declared.answers.Fault.{Fault}
+use Rattle.std.proofs.Common.{List, ℕ, subst}
 use Rattle.mi_model.specs.EnvironmentRows.{Form, environment_form}
 use Rattle.mi_model.specs.WriteEnvironmentStrings.{write_string}
 use Rattle.mi_steps.specs.Makes.{plan_machine}
