@@ -40,11 +40,15 @@ module _ (held : Map (List ℕ)) (files : Files) (g : Given) (plan : Plan) where
     local = λ name. refl;
     absent = λ name. refl;
     found = λ r. refl;
-    present = λ r.
-        or_false (is_present (ground g.rows g.former)) (is_present g) (present_is g) (component_row_of g.rows r.component)
-        ∙ sym (ap (λ (o : Option Bool). unwrap_or o false) (is.knows.known.present r.component));
+    present = λ name.
+        or_false (is_present (ground g.rows g.former)) (is_present g) (present_is g) (component_row_of g.rows name)
+        ∙ sym (ap (λ (o : Option Bool). unwrap_or o false) (is.knows.known.present name));
     mode = λ letter. refl;
     local_after = refl;
+    letters = refl;
+    dirs = refl;
+    moment = sym is.knows.now;
+    system = sym is.knows.known.system;
   }
 
   pub asks : (s : Seen) → IsOf g s → IsCosted s → IsAsked (seen_lookups s) (seen_choices s) s.loaded (world_over held files g s plan)

@@ -1,7 +1,8 @@
 -- The properties of the system by the names of an image.
-use Rattle.std.proofs.Common.{◌≡◌, ℕ, ◌&&◌, ◌||◌, Bool, true, false, cond, T, List, [], ◌∷◌, map, length, Some, None, refl, sym, ap, ◌∙◌, eqb, eqb-true, Bor}
+use Rattle.std.proofs.Common.{◌≡◌, ℕ, ◌+◌, ◌<◌, ◌&&◌, ◌||◌, Bool, true, false, cond, T, List, [], ◌∷◌, ◌++◌, map, length, take, get_or, Some, None, refl, sym, ap, ◌∙◌, eqb, eqb-true, Bor}
 use Rattle.std.specs.Prelude.{nat_eq, codes, filter, Result, Ok, Err, IfOk}
-use Rattle.std.proofs.lemmas.List.{length-map}
+use Rattle.std.proofs.lemmas.List.{length-map, take_more}
+use Rattle.std.proofs.lemmas.List.Elements.{filter_map-append}
 use Rattle.mi_props.specs.declared.props.PropFault.{PropFault}
 use Rattle.mi_props.specs.declared.props.PropError.{PropError}
 use Rattle.mi_props.specs.declared.props.PropError.TheVariants as prop
@@ -26,7 +27,8 @@ use Rattle.mi_model.specs.World.{Given}
 use Rattle.mi_model.specs.Settings.{settings, system_pair, system_properties}
 use Rattle.mi_schema.specs.TableRows.{Rows}
 use Rattle.mi_world.specs.Ground.{ground}
-use Rattle.mi_world.specs.Systems.{system_of, system_at, listed_in}
+use Rattle.mi_dirs.specs.Places.{Folder}
+use Rattle.mi_world.specs.Systems.{system_of, system_at, listed_in, folder_named, pair_folder}
 
 true_of : (b : Bool) → T b → b ≡ true
 true_of true t = refl
@@ -150,6 +152,17 @@ listed_so held files items right names es is listed =
       | true ↦ λ e h. none_held m es (sym is ∙ names_none names (eqb-true (length names) 0 e)) h
       | false ↦ λ e h. held_so m ns es is (ap (λ k. eqb k 0) (length-map names (λ (n : Bor Name). n.now)) ∙ e) (h ∙ ap (filter_map (system_at items)) is ∙ system_listed held files items right)
     ] refl listed
+
+-- ---- the folders that they name
+
+-- one pair more
+pub folders_more : (pairs : List (Name × List ℕ)) (i : ℕ) (pair : Name × List ℕ) (text : List ℕ) (old new : List Folder) → i < length pairs → pair ≡ get_or pairs i pair → text ≡ pair.1
+    → new ≡ old ++ cons_option (folder_named text) [] → old ≡ filter_map pair_folder (take i pairs) → new ≡ filter_map pair_folder (take (i + 1) pairs)
+folders_more pairs i pair text old new lt at said is so_far =
+    is ∙ ap (λ t. old ++ cons_option (folder_named t) []) said ∙ ap (λ fs. fs ++ cons_option (pair_folder pair) []) so_far
+    ∙ ap (λ (p : Name × List ℕ). filter_map pair_folder (take i pairs) ++ cons_option (pair_folder p) []) at
+    ∙ sym (filter_map-append pair_folder (take i pairs) (get_or pairs i pair ∷ []))
+    ∙ sym (ap (filter_map pair_folder) (take_more pairs i pair lt))
 
 -- ---- the properties at the start
 

@@ -1,16 +1,17 @@
 -- What is known from the start, as the program keeps it. (This project's own.)
 use Rattle.std.specs.Prelude.{◌≡◌, ℕ, ◌&&◌, ◌||◌, Bool, List, map, filter, drop}
-use Rattle.std.specs.List.{list_any}
+use Rattle.std.specs.List.{list_any, filter_map}
 use Rattle.mi_text.specs.Maps.{Name, Map, same_name, is_among}
 use Rattle.mi_base.specs.Machine.{Machine}
 use Rattle.mi_schema.specs.declared.typed_rows.ComponentRow.{ComponentRow}
 use Rattle.mi_schema.specs.declared.typed_rows.FeatureRow.{FeatureRow}
 use Rattle.mi_schema.specs.declared.typed_rows.FeatureComponentsRow.{FeatureComponentsRow}
 use Rattle.mi_schema.specs.TableRows.{Rows}
-use Rattle.mi_model.specs.Settings.{variable_of}
+use Rattle.mi_model.specs.Settings.{variable_of, system_properties}
 use Rattle.mi_model.specs.States.{is_present}
 use Rattle.mi_world.specs.Ground.{ground, recorded_in, is_set, present_by}
 use Rattle.mi_world.specs.Rows.{AreTold}
+use Rattle.mi_world.specs.Systems.{pair_folder}
 use Rattle.mi_world.specs.Variables.{variable_in}
 use Rattle.mi_world.specs.declared.known.Known.{Known}
 
@@ -42,3 +43,4 @@ pub record IsKnown (rows : Rows) (m : Machine) (k : Known) : Type 0 where
   pub directories : AreDirectories rows.component 0 k.directories
   pub present : AreTold (λ (r : ComponentRow). r.component) (is_present (ground rows m)) rows.component 0 k.present
   pub recorded : AreRecorded rows.feature (λ f. is_among f (recorded_in rows m)) 0 k.recorded
+  pub system : k.system.items ≡ filter_map pair_folder (system_properties m)

@@ -4,10 +4,10 @@ pub mod Flags
 pub mod Variables
 pub mod Rows
 pub mod Ground
+pub mod Systems
 pub mod Known
 pub mod Places
 pub mod Directories
-pub mod Systems
 pub mod Firsts
 pub mod Recall
 pub mod Seen

@@ -10,9 +10,10 @@ ghost use Rattle.mi_world.specs.Known.{AreHeld, is_held_by, ArePresent, AreDirec
 
 use crate::flags::Flags;
 use crate::rows::{component_at, feature_at, feature_component_at, product_code};
+use crate::system::system_folders;
 use crate::table::Table;
 use crate::variables::Variables;
-use mi_base::{Guid, NoMemory, Text};
+use mi_base::{Guid, NoMemory, PathText, Text};
 use mi_image::Image;
 use mi_schema::{ComponentRow, FeatureComponentsRow, Package};
 use std::alloc::Global;
@@ -27,6 +28,8 @@ pub(crate) struct Known {
     pub present: Flags,
     /// Whether each feature was recorded.
     pub recorded: Flags,
+    /// The folders that properties of the system name.
+    pub system: Vec<PathText>,
 }
 
 // ---- the directories of components
@@ -228,11 +231,13 @@ impl Known {
         let recorded = recorded_of(alloc, loaded, &names)?;
         let held = held_of(alloc, loaded, &names)?;
         let present = present_of(alloc, loaded, image, &held)?;
+        let system = system_folders(alloc, image)?;
         Ok(Known {
             variables,
             directories,
             present,
             recorded,
+            system,
         })
     }
 }

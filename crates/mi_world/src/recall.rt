@@ -15,8 +15,9 @@ ghost use Rattle.mi_world.specs.Ground.{ground};
 ghost use Rattle.mi_world.specs.Recall.{in_order, told_path, told_over, folder_told, folder_row, AreOrdered, AreToldBy};
 
 use crate::rows::{component_at, directory_at, product_code};
+use crate::system::folder_named;
 use crate::table::Table;
-use mi_base::{Guid, NoMemory, PathError, PathText, Text};
+use mi_base::{Guid, NoMemory, PathText, Text};
 use mi_image::Image;
 use mi_schema::{ComponentRow, DirectoryRow, Package};
 use std::alloc::Global;
@@ -144,11 +145,8 @@ fn folder_told(alloc: Global, path: &str) -> Result<Option<PathText>, NoMemory>
     ensures value { IfOk result (λ f. f ≡ folder_told path.now) }
     ensures folder { IfOk result (λ f. IfSome f IsFolder) }
 {
-    match PathText::folder(alloc, up_to_last(path)) {
-        Ok(folder) => Ok(Some(folder)),
-        Err(PathError::NoMemory) => Err(NoMemory),
-        Err(PathError::Fault(_)) => Ok(None),
-    }
+    let folder = folder_named(alloc, up_to_last(path))?;
+    Ok(folder)
 }
 
 // The directory of a row with its folder.

@@ -9,7 +9,7 @@ ghost use Rattle.mi_world.specs.Choices.{seen_choices};
 ghost use Rattle.mi_world.specs.Seen.{seen_lookups, world_over, IsCosted, IsOf};
 
 use crate::seen::Seen;
-use mi_base::{NoMemory, Text};
+use mi_base::{NoMemory, PathText, Text};
 use mi_fver::Mode;
 use mi_records::Sees;
 use mi_schema::Package;
@@ -95,6 +95,28 @@ impl Sees for Seen {
             Some(selection) => Ok(selection.local_after(alloc)?),
             None => Ok(Vec::new(alloc)),
         }
+    }
+
+    fn target(&self, directory: &str) -> Option<&PathText> {
+        match &self.placed {
+            Some(placed) => placed.dirs.target(directory),
+            None => None,
+        }
+    }
+
+    fn source(&self, alloc: Global, directory: &str) -> Result<Option<Text>, NoMemory> {
+        match &self.placed {
+            Some(placed) => Ok(placed.dirs.source(alloc, directory)?),
+            None => Ok(None),
+        }
+    }
+
+    fn moment(&self) -> u64 {
+        self.moment
+    }
+
+    fn system_folders(&self) -> &[PathText] {
+        &self.known.system
     }
 }
 

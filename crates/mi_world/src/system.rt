@@ -1,18 +1,19 @@
 //! The properties that the former machine gives a run.
 
-ghost use Rattle.std.specs.Prelude.{◌≡◌, ◌++◌, ◌∷◌, [], List, ℕ, IfOk, OnOk, Some, codes, map, option_map, if◌then◌else◌};
-ghost use Rattle.std.specs.List.{filter_map};
+ghost use Rattle.std.specs.Prelude.{◌≡◌, ◌++◌, ◌∷◌, [], List, ℕ, IfOk, IfSome, OnOk, Some, codes, map, option_map, if◌then◌else◌};
+ghost use Rattle.std.specs.List.{cons_option, filter_map};
 ghost use Rattle.mi_text.specs.Maps.{Map};
 ghost use Rattle.mi_base.specs.System.{default_system};
+ghost use Rattle.mi_dirs.specs.Views.{IsFolder};
 ghost use Rattle.mi_image.specs.Items.{machine_over, AreRight};
 ghost use Rattle.mi_schema.specs.RowsOf.{rows_in};
 ghost use Rattle.mi_model.specs.Settings.{settings, system_properties, is_recorded};
 ghost use Rattle.mi_world.specs.Ground.{ground};
-ghost use Rattle.mi_world.specs.Systems.{lent_pair, system_of, system_at, listed_in, both_now};
+ghost use Rattle.mi_world.specs.Systems.{lent_pair, system_of, system_at, listed_in, both_now, folder_named, pair_folder};
 
 use crate::rows::product_code;
 use crate::variables::stands_right;
-use mi_base::{Entry, NoMemory, Text};
+use mi_base::{Entry, NoMemory, PathError, PathText, Text};
 use mi_image::Image;
 use mi_schema::Package;
 use std::alloc::Global;
@@ -135,6 +136,55 @@ fn system_pairs(alloc: Global, image: &Image) -> Result<Vec<(Text, Text)>, NoMem
     let pairs = listed_pairs(alloc, image, &names)?;
     Ok(pairs)
 }
+
+// ---- the folders that they name
+
+/// The folder that a text names, if it names one.
+pub(crate) fn folder_named(alloc: Global, text: &str) -> Result<Option<PathText>, NoMemory>
+    ensures value { IfOk result (λ f. f ≡ folder_named text.now) }
+    ensures folder { IfOk result (λ f. IfSome f IsFolder) }
+{
+    match PathText::folder(alloc, text) {
+        Ok(folder) => Ok(Some(folder)),
+        Err(PathError::NoMemory) => Err(NoMemory),
+        Err(PathError::Fault(_)) => Ok(None),
+    }
+}
+
+fn push_folder(alloc: Global, folders: &mut Vec<PathText>, text: &str) -> Result<(), NoMemory>
+    ensures { OnOk result (folders.new.items ≡ folders.old.items ++ cons_option (folder_named text.now) []) }
+{
+    match folder_named(alloc, text)? {
+        Some(folder) => {
+            folders.push(folder)?;
+            Ok(())
+        }
+        None => Ok(()),
+    }
+}
+
+// The folders that the values of these properties name.
+fn folders_in(alloc: Global, pairs: &[(Text, Text)]) -> Result<Vec<PathText>, NoMemory>
+    ensures { IfOk result (λ v. v.items ≡ filter_map pair_folder pairs.now) }
+{
+    let mut folders = Vec::new(alloc);
+    for pair in pairs {
+        push_folder(alloc, &mut folders, pair.1.as_str())?;
+    }
+    Ok(folders)
+}
+
+/// The folders that properties of the system name, in byte order of the properties; where none of them is held, those of the
+/// default ones (Property Reference).
+pub(crate) fn system_folders(alloc: Global, image: &Image) -> Result<Vec<PathText>, NoMemory>
+    ensures { (held files : Map (List ℕ)) → IfOk result (λ v. v.items ≡ filter_map pair_folder (system_properties (machine_over held files image.now))) }
+{
+    let pairs = system_pairs(alloc, image)?;
+    let folders = folders_in(alloc, &pairs)?;
+    Ok(folders)
+}
+
+// ---- the properties of a run
 
 fn push_pair(
     alloc: Global,

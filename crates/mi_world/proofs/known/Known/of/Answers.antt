@@ -15,4 +15,5 @@ returns c = λ held files.
       directories = c.in_ok-directories.ensures;
       present = were_present rows m c.in_ok-names.names c.in_ok-held.held (c.in_ok-names.ensures held files) c.in_ok-held.ensures c.in_ok-present.present (c.in_ok-present.ensures held files);
       recorded = told_as (λ (r : FeatureRow). r.feature) (λ r. is_set c.in_ok-names.names r.feature) (λ r. is_among r.feature (recorded_in rows m)) rows.feature 0 c.in_ok-recorded.recorded (λ r. c.in_ok-names.ensures held files r.feature) c.in_ok-recorded.ensures;
+      system = c.in_ok-system.ensures held files;
     }
