@@ -1,0 +1,11 @@
+pub mod CopyLemmas
+pub mod EndLemmas
+pub mod FileGuardLemmas
+pub mod FileNameLemmas
+pub mod FolderLemmas
+pub mod KeyedLemmas
+pub mod MatchLemmas
+pub mod ParentLemmas
+pub mod RemovalLemmas
+pub mod RowPathLemmas
+pub mod TakeLemmas

@@ -1,0 +1,19 @@
+use Rattle.std.proofs.Common.{List, ℕ, map, take}
+use Rattle.mi_text.specs.Maps.{Map}
+use Rattle.mi_image.specs.Items.{AreThere}
+use Rattle.mi_image.specs.Overlays.{present_items}
+use Rattle.mi_model.specs.World.{World}
+use Rattle.mi_model.specs.DuplicateFiles.{copied_row}
+use Rattle.mi_steps.specs.Makes.{plan_machine}
+use Rattle.mi_steps.specs.Rows.{FollowsRows}
+use Rattle.mi_records.specs.Choices.{IsAsked}
+use Rattle.mi_records.specs.Keeps.{Keeps}
+use Rattle.mi_records.specs.Order.{as_numbered}
+use Rattle.mi_files.proofs.duplicate.copy_rows.Given as goal
+
+abbrev pub invariant-loop-row : goal.invariant-loop-row
+invariant-loop-row g l = record {
+  rows : (held files : Map (List ℕ)) (w : World) → IsAsked (g.E.Env.lookups l.seen) (g.E.Sees.choices l.seen) (g.E.Sees.rows l.seen) w → AreThere held files (present_items l.fn.plan.overlay)
+      → FollowsRows files (plan_machine held files l.fn.plan) (plan_machine held files l.plan) l.fn.plan.script l.plan.script (map (λ r. copied_row w (as_numbered r)) (take l.row-index l.rows));
+  keeps : Keeps l.fn.plan l.plan;
+}

@@ -1,0 +1,36 @@
+-- Row by row.
+use Rattle.std.proofs.Common.{Some, None, ap, sym, ◌∙◌}
+use Rattle.std.specs.BTreeSet.{contains}
+use Rattle.std.specs.Map.Iter.{deref}
+use Rattle.std.proofs.lemmas.Map.Iter.{rest_more, rest_all}
+use Rattle.mi_text.specs.Maps.{name_cmp}
+use Rattle.mi_schema.specs.declared.package.Package.{Package}
+use Rattle.mi_schema.specs.declared.typed_rows.FileRow.{FileRow}
+use Rattle.mi_schema.specs.RowsOf.{rows_in, behind}
+use Rattle.mi_schema.specs.TableRows.{Rows}
+use Rattle.mi_model.specs.FilePaths.{file_named}
+use Rattle.mi_records.proofs.GuardLemmas.{one_added}
+use Rattle.mi_records.proofs.SeatLemmas.{or_none}
+use Rattle.mi_files.proofs.FileGuardLemmas.{guarding_none, guarding_more, guarding_all}
+use Rattle.mi_files.proofs.guards.add_files.Goals as goal
+
+pub loop-row-init : goal.loop-row-init
+unfolding rows_in
+loop-row-init g c = λ w asked.
+    let these = c.into_iter-row-iterator.ensures.into_iter_gives ∙ c.values-row-items.ensures.rest in
+    guarding_none FileRow w (λ r. r.component) (file_named w) w.given.rows.file c.args.set.now _ (these ∙ ap (λ (p : Package). behind p.file.entries) c.package-loaded.ensures ∙ ap (λ (rs : Rows). rs.file) (sym asked.rows))
+
+pub loop-row-preserved-in_ok-insert : goal.loop-row-preserved-in_ok-insert
+loop-row-preserved-in_ok-insert g c = λ w asked.
+    let next = rest_more deref c.loop-row.row-iterator c.next.new.self c.next.result c.in-Some.row c.in-Some.is c.next.ensures.steps in
+    guarding_more FileRow w (λ r. r.component) (file_named w) w.given.rows.file c.args.set.now c.loop-row.set c.insert.new.self c.loop-row.row-iterator c.next.new.self c.in-Some.row.now (Some c.in-Some-2.name) (c.loop-row.invariant w asked) next (sym c.in-Some-2.is ∙ c.in_ok-name.ensures w asked)
+    (λ q. c.in_ok-insert.ensures.updates.0 q ∙ one_added (contains name_cmp c.loop-row.set q) c.in-Some-2.name q)
+
+pub loop-row-preserved : goal.loop-row-preserved
+loop-row-preserved g c = λ w asked.
+    let next = rest_more deref c.loop-row.row-iterator c.next.new.self c.next.result c.in-Some.row c.in-Some.is c.next.ensures.steps in
+    guarding_more FileRow w (λ r. r.component) (file_named w) w.given.rows.file c.args.set.now c.loop-row.set c.loop-row.set c.loop-row.row-iterator c.next.new.self c.in-Some.row.now None (c.loop-row.invariant w asked) next (sym c.in_default.is ∙ c.in_ok-name.ensures w asked)
+    (λ q. sym (or_none (contains name_cmp c.loop-row.set q)))
+
+pub returns : goal.returns
+returns g c = λ w asked. guarding_all FileRow w (λ r. r.component) (file_named w) w.given.rows.file c.args.set.now c.loop-row.set c.loop-row.row-iterator (c.loop-row.invariant w asked) (rest_all deref c.loop-row.row-iterator c.next.new.self c.next.result c.in-None.is c.next.ensures.steps)

@@ -1,0 +1,54 @@
+-- Row by row.
+use Rattle.std.proofs.Common.{ℕ, Bor, Option, refl, arith}
+use Rattle.mi_schema.specs.declared.typed_rows.RemoveFileRow.{RemoveFileRow}
+use Rattle.mi_model.specs.Texts.{Text}
+use Rattle.mi_model.specs.World.{World, RowEffect}
+use Rattle.mi_model.specs.RemoveFiles.{removed_by_pattern}
+use Rattle.mi_steps.specs.Makes.{plan_machine}
+use Rattle.mi_steps.proofs.RowLemmas.{rows_started}
+use Rattle.mi_records.specs.Order.{as_numbered}
+use Rattle.mi_records.proofs.KeyLemmas.{keeps_not, keeps_on}
+use Rattle.mi_records.proofs.RowLemmas.{one_row, all_rows}
+use Rattle.mi_records.proofs.WriteLemmas.{rows_refused}
+use Rattle.mi_files.specs.Taking.{folder_touched}
+use Rattle.mi_files.proofs.TakeLemmas.{touched_none, touched_one, touched_all}
+use Rattle.mi_files.proofs.remove.remove_by_patterns.Goals as goal
+
+abbrev effect : World → ℕ × Bor RemoveFileRow → RowEffect
+effect w r = removed_by_pattern w (as_numbered r)
+
+abbrev tell : World → ℕ × Bor RemoveFileRow → Option Text
+tell w r = folder_touched w r.1.now
+
+pub loop-row-init : goal.loop-row-init
+loop-row-init g c = record {
+  rows = λ held files w asked guards. rows_started files (plan_machine held files c.args.plan.now) c.args.plan.now.script;
+  touched = λ w asked. touched_none (tell w) c.args.rows.now c.args.touched.now.items;
+  keeps = keeps_not c.args.plan.now;
+}
+
+pub loop-row-preserved : goal.loop-row-preserved
+loop-row-preserved g c = record {
+  rows = λ held files w asked guards.
+      let row = c.in-Ok.ensures.row held files w asked guards in
+      one_row (effect w) c.args.rows.now c.loop-row.row-index c.row-item.result c.loop-row-test.true c.row-item.is files (plan_machine held files c.args.plan.now) (plan_machine held files c.loop-row.plan) c.args.plan.now.script c.loop-row.plan.script (c.loop-row.invariant.rows held files w asked guards)
+      (plan_machine held files c.remove_by_pattern.new.plan) c.remove_by_pattern.new.plan.script row.touches row.gives row.makes;
+  touched = λ w asked. touched_one (tell w) c.args.rows.now c.args.touched.now.items c.loop-row.row-index c.row-item.result (tell w c.row-item.result) c.loop-row.touched.items c.remove_by_pattern.new.touched.items c.loop-row-test.true c.row-item.is refl (c.loop-row.invariant.touched w asked) (c.in-Ok.ensures.touched w asked);
+  keeps = keeps_on c.args.plan.now c.loop-row.plan c.remove_by_pattern.new.plan c.loop-row.invariant.keeps c.in-Ok.ensures.keeps;
+}
+
+pub returns-clause-rows : goal.returns-clause-rows
+returns-clause-rows g c = λ held files w asked guards.
+    all_rows (effect w) c.args.rows.now c.loop-row.row-index files (plan_machine held files c.args.plan.now) (plan_machine held files c.loop-row.plan) c.args.plan.now.script c.loop-row.plan.script
+    (omega (arith, c.loop-row-test.false)) (c.loop-row.invariant.rows held files w asked guards)
+
+pub returns-clause-touched : goal.returns-clause-touched
+returns-clause-touched g c = λ w asked. touched_all (tell w) c.args.rows.now c.args.touched.now.items c.loop-row.row-index c.loop-row.touched.items (omega (arith, c.loop-row-test.false)) (c.loop-row.invariant.touched w asked)
+
+pub returns-in-Err-clause-rows : goal.returns-in-Err-clause-rows
+returns-in-Err-clause-rows g c = λ held files w asked guards.
+    rows_refused held files c.args.plan.now c.loop-row.plan (Unit {0}) (Unit {0}) (effect w) c.args.rows.now c.loop-row.row-index c.row-item.result c.remove_by_pattern.new.plan c.in-Err.error c.loop-row-test.true c.row-item.is
+    (c.loop-row.invariant.rows held files w asked guards) (c.in-Err.ensures.row held files w asked guards)
+
+pub returns-in-Err-clause-keeps : goal.returns-in-Err-clause-keeps
+returns-in-Err-clause-keeps g c = keeps_on c.args.plan.now c.loop-row.plan c.remove_by_pattern.new.plan c.loop-row.invariant.keeps c.in-Err.ensures.keeps

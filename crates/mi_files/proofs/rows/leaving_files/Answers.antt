@@ -1,0 +1,18 @@
+-- The rows of the table, and those that are carried out.
+use Rattle.std.proofs.Common.{map, ap, ◌∙◌}
+use Rattle.std.specs.Prelude.{filter}
+use Rattle.mi_schema.specs.declared.package.Package.{Package}
+use Rattle.mi_schema.specs.declared.typed_rows.FileRow.{FileRow}
+use Rattle.mi_schema.specs.RowsOf.{rows_in}
+use Rattle.mi_schema.specs.TableRows.{in_key_order}
+use Rattle.mi_records.specs.Order.{as_numbered}
+use Rattle.mi_files.proofs.RemovalLemmas.{leaving_are}
+use Rattle.mi_files.proofs.rows.leaving_files.Goals as goal
+
+pub returns : goal.returns
+returns g c = λ w asked.
+    let L = g.E.Env.lookups c.args.seen.now in
+    let choices = g.E.Sees.choices c.args.seen.now in
+    ap (map as_numbered) (c.in_ok-taken.ensures ∙ ap (filter (λ r. choices.leaving r.1.now.component)) c.as_slice.ensures.value)
+    ∙ leaving_are L choices (g.E.Sees.rows c.args.seen.now) w asked c.in_ok-rows.rows.items
+    (c.in_ok-rows.ensures ∙ ap (λ (p : Package). in_key_order (λ (r : FileRow). r.file) (rows_in p).file) c.package.ensures)

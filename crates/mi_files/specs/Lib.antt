@@ -1,0 +1,5 @@
+pub mod Copies
+pub mod Folders
+pub mod Guarding
+pub mod Paths
+pub mod Taking
