@@ -1,3 +1,4 @@
+pub mod Entries
 pub mod Forms
 pub mod Lefts
 pub mod Sizes

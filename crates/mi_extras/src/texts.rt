@@ -1,7 +1,7 @@
 //! Columns of a row, expanded, or the row's refusal.
 
 ghost use Rattle.std.specs.Prelude.{◌≡◌};
-ghost use Rattle.mi_model.specs.Refusals.{expanded};
+ghost use Rattle.mi_model.specs.Refusals.{expanded, expanded_or_empty};
 ghost use Rattle.mi_records.specs.Stops.{Tells};
 
 use mi_base::Text;
@@ -23,5 +23,21 @@ pub fn expanded<E: BoundedEnv>(
     match whole_text(alloc, env, text) {
         Ok(text) => Ok(text),
         Err(stop) => Err(stop.error(alloc, table, number)),
+    }
+}
+
+/// The same of a column that may be null, which is no text.
+pub fn expanded_or_empty<E: BoundedEnv>(
+    alloc: Global,
+    env: &E,
+    table: &str,
+    number: u32,
+    text: &Option<Text>,
+) -> Result<Text, PlanError>
+    ensures { Tells (expanded_or_empty (E.lookups env.now) table.now number text.now) result }
+{
+    match text {
+        Some(text) => expanded(alloc, env, table, number, text.as_str()),
+        None => Ok(Text::new(alloc)),
     }
 }
