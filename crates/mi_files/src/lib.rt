@@ -19,6 +19,7 @@ mod uncopy;
 pub use duplicate::plan_duplicate;
 pub use folders::{plan_create_folders, plan_remove_folders};
 pub use parents::make_folders;
-pub use paths::row_path;
+pub use paths::{component_row, file_in, row_path};
+pub use prune::prune_folders;
 pub use remove::plan_remove_files;
 pub use uncopy::plan_remove_duplicate;

@@ -24,8 +24,8 @@ use std::alloc::Global;
 
 // ---- folders
 
-// The row of Component of a key.
-fn component_row<'a>(loaded: &'a Package, key: &Text) -> Option<&'a ComponentRow>
+/// The row of Component of a key (Component Table).
+pub fn component_row<'a>(loaded: &'a Package, key: &Text) -> Option<&'a ComponentRow>
     requires { IsLawful loaded.now }
     ensures { option_copied result ≡ component_row_of (rows_in loaded.now) key.now }
 {
@@ -68,8 +68,12 @@ pub fn named_folder<E: BoundedEnv>(
 
 // ---- files in folders
 
-// The file of a long name in a folder, and None where that is past the limits of paths.
-fn file_in(alloc: Global, folder: &PathText, file_name: &str) -> Result<Option<PathText>, NoMemory>
+/// The file of a long name in a folder, and None where that is past the limits of paths (Directory Table).
+pub fn file_in(
+    alloc: Global,
+    folder: &PathText,
+    file_name: &str,
+) -> Result<Option<PathText>, NoMemory>
     requires { IsFolder folder.now }
     ensures path { IfOk result (λ p. p ≡ result_ok (file_of folder.now (long_name file_name.now))) }
     ensures file { IfOk result (λ p. IfSome p (λ path. IsTrue (is_file_path path))) }

@@ -87,7 +87,7 @@ fn protected_places<E: Sees>(alloc: Global, seen: &E) -> Result<Vec<Bytes>, NoMe
 /// Prunes the folders that a phase touched, in folded bytes: those go that are left without use, with the folders above them. The
 /// drive, the folders that properties of the system name, and those that rows of CreateFolder of kept components name stay
 /// (RemoveFolders Action; CreateFolder table. The rule is this project's own). It costs a sort of what is held.
-pub(crate) fn prune_folders<E: Sees>(
+pub fn prune_folders<E: Sees>(
     alloc: Global,
     seen: &E,
     plan: &mut Plan,

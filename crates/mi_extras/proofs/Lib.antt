@@ -1,0 +1,10 @@
+pub mod ColumnLemmas
+pub mod ItemLemmas
+pub mod RowLemmas
+pub mod GuardLemmas
+pub mod ShortcutLemmas
+pub mod SizeLemmas
+pub mod TakeLemmas
+pub mod ValueLemmas
+pub mod VariableLemmas
+pub mod WriteLemmas
