@@ -6,7 +6,6 @@ mod EndLemmas
 mod BeforeLemmas
 mod QuietLemmas
 mod ReplyLemmas
-mod UnbuiltLemmas
 mod PackageLemmas
 mod WalkLemmas
 mod ServeLemmas

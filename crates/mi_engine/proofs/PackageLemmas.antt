@@ -28,7 +28,6 @@ use Rattle.mi_model.specs.Planning.{IsPlan}
 use Rattle.mi_model.specs.PackageOutcome.{Outcome, Refused, only, of_walk, of_given, of_loaded, given_of}
 use Rattle.mi_model.specs.Settings.{is_recorded}
 use Rattle.mi_engine.specs.StageOutcome.{of_package}
-use Rattle.mi_plan.specs.Unbuilt.{unbuilt}
 use Rattle.mi_engine.specs.declared.stop.Stop.{Stop}
 use Rattle.mi_engine.specs.declared.stop.Stop.TheVariants.{NoMemory, Refuse}
 use Rattle.mi_engine.specs.Calls.{CausedStop, FailsBy, IsOver, Judges, Prepares, Readies, Walks, first_cause, unknown_product}
@@ -48,17 +47,13 @@ AreFirst (Some cause) = IsFirst cause
 module _ (recorded : Bool) (g : Given) where
   -- what a package that is loaded comes to
   abbrev pub loaded_out : Outcome
-  loaded_out = of_loaded (unbuilt g.rows) (of_given None recorded g)
+  loaded_out = of_given None recorded g
 
   abbrev unrecorded : Bool
   unrecorded = recorded && not (is_recorded g.rows g.former)
 
   abbrev own_code : ℕ
   own_code = product_code g.rows
-
-  none_first : (o : Option Fault) (later : Option Cause) → (option_map Table o or_else later) ≡ None → (o ≡ None) × (later ≡ None)
-  none_first None later is = (refl, is)
-  none_first (Some fault) later is = absurd cc
 
   recorded_so : (b : Bool) (n : ℕ) → unknown_product b n ≡ None → b ≡ false
   recorded_so true n is = absurd cc
@@ -68,31 +63,21 @@ module _ (recorded : Bool) (g : Given) where
   of_product b is = ap (λ (x : Bool). if x then only (Refused (UnknownProduct (record { number = own_code }))) else of_walk None (walk g)) is
 
   pub walks_on : first_cause recorded g ≡ None → loaded_out ≡ of_walk None (walk g)
-  walks_on is =
-      let both = none_first (unbuilt g.rows) (unknown_product unrecorded own_code) is in
-      ap (λ (o : Option Fault). of_loaded o (of_given None recorded g)) both.0 ∙ of_product false (recorded_so unrecorded own_code both.1)
+  walks_on is = of_product false (recorded_so unrecorded own_code is)
 
   by_product : (b : Bool) (cause : Cause) → unrecorded ≡ b → unknown_product b own_code ≡ Some cause → of_given None recorded g ≡ only (Refused cause)
   by_product true cause is some = let same : UnknownProduct (record { number = own_code }) ≡ cause = cc in of_product true is ∙ ap (λ (c : Cause). only (Refused c)) same
   by_product false cause is some = absurd cc
 
-  by_fault : (o : Option Fault) (cause : Cause) → (option_map Table o or_else unknown_product unrecorded own_code) ≡ Some cause → of_loaded o (of_given None recorded g) ≡ only (Refused cause)
-  by_fault (Some fault) cause is = let same : Table fault ≡ cause = cc in ap (λ (c : Cause). only (Refused c)) same
-  by_fault None cause is = by_product unrecorded cause refl is
-
   pub refused_so : (cause : Cause) → first_cause recorded g ≡ Some cause → loaded_out ≡ only (Refused cause)
-  refused_so cause is = by_fault (unbuilt g.rows) cause is
+  refused_so cause is = by_product unrecorded cause refl is
 
   first_product : (b : Bool) (n : ℕ) → AreFirst (unknown_product b n)
   first_product true n = tt
   first_product false n = tt
 
-  first_fault_so : (o : Option Fault) → AreFirst (option_map Table o or_else unknown_product unrecorded own_code)
-  first_fault_so (Some fault) = tt
-  first_fault_so None = first_product unrecorded own_code
-
   pub is_first : (cause : Cause) → first_cause recorded g ≡ Some cause → IsFirst cause
-  is_first cause is = subst AreFirst is (first_fault_so (unbuilt g.rows))
+  is_first cause is = subst AreFirst is (first_product unrecorded own_code)
 
   -- ---- step by step
 
@@ -127,18 +112,15 @@ module _ (recorded : Bool) (g : Given) where
     abbrev unknown_of : Rows → Machine → Option Cause
     unknown_of x n = unknown_product (recorded && not (is_recorded x n)) (product_code x)
 
-    abbrev cause_of : Rows → Machine → Option Cause
-    cause_of x n = option_map Table (unbuilt x) or_else unknown_of x n
+    cause_is : unknown_of rows m ≡ first_cause recorded g
+    cause_is = ap (λ (x : Rows). unknown_of x m) same ∙ ap (λ (n : Machine). unknown_of g.rows n) former
 
-    cause_is : cause_of rows m ≡ first_cause recorded g
-    cause_is = ap (λ (x : Rows). cause_of x m) same ∙ ap (λ (n : Machine). cause_of g.rows n) former
+    pub none_so : unknown_of rows m ≡ None → first_cause recorded g ≡ None
+    none_so found = sym cause_is ∙ found
 
-    pub none_so : option_map Table (unbuilt rows) ≡ None → unknown_of rows m ≡ None → first_cause recorded g ≡ None
-    none_so built found = sym cause_is ∙ ap (λ (o : Option Cause). o or_else unknown_of rows m) built ∙ found
-
-    pub unknown_so : (e : Stop) → option_map Table (unbuilt rows) ≡ None → Judges {T = Unit {0}} (unknown_of rows m) (Err e) → Readies recorded g (Err e)
-    unknown_so NoMemory built is = tt
-    unknown_so (Refuse cause) built is = sym cause_is ∙ ap (λ (o : Option Cause). o or_else unknown_of rows m) built ∙ is
+    pub unknown_so : (e : Stop) → Judges {T = Unit {0}} (unknown_of rows m) (Err e) → Readies recorded g (Err e)
+    unknown_so NoMemory is = tt
+    unknown_so (Refuse cause) is = sym cause_is ∙ is
 
 -- ---- a product that has to be recorded
 
@@ -162,10 +144,6 @@ missing_so recorded rows m code o asks is at none =
     let here : is_some (product_at m (product_code rows)) ≡ false = ap (λ (n : ℕ). is_some (product_at m n)) (sym is) ∙ ap is_some (sym at) ∙ none in
     ap (λ (b : Bool). unknown_product b (product_code rows)) (and_true recorded (is_some (product_at m (product_code rows))) asks here)
     ∙ ap (λ (n : ℕ). unknown_product true n) (sym is)
-
-pub built_so : (o : Option Fault) → option_map Table o ≡ None → o ≡ None
-built_so None is = refl
-built_so (Some fault) is = absurd cc
 
 pub on_ok : {T E P : Type 0} (r : Result T E) → P → OnOk r P
 on_ok (Ok x) p = p

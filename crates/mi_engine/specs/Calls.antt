@@ -26,7 +26,6 @@ use Rattle.mi_props.specs.Props.{Values, all_names}
 use Rattle.mi_model.specs.Properties.{first_properties}
 use Rattle.mi_model.specs.Settings.{is_recorded}
 use Rattle.mi_schema.specs.TableRows.{product_code}
-use Rattle.mi_plan.specs.Unbuilt.{unbuilt}
 use Rattle.mi_engine.specs.declared.stop.Stop.{Stop}
 use Rattle.mi_engine.specs.declared.stop.Stop.TheVariants.{NoMemory, Refuse}
 
@@ -35,10 +34,6 @@ abbrev pub stop_of : LoadError → Stop
 stop_of load.NoMemory = NoMemory
 stop_of load.Source = Refuse SourceFault
 stop_of (load.Table fault) = Refuse (Table fault)
-
--- a table with so many rows, of which none is carried out
-abbrev pub counted_fault : Name × ℕ → Option Fault
-counted_fault t = if t.1 == 0 then None else Some (NotYet t.0 1)
 
 -- exactly this cause, or none; want of memory alone is free
 abbrev pub Judges : {T : Type 0} → Option Cause → Result T Stop → Type 0
@@ -97,7 +92,7 @@ Prepares told source volume_fails source_fails files g out (Err stop) = CausedSt
 
 -- why a package isn't walked over, in the order in which that is asked
 abbrev pub first_cause : Bool → Given → Option Cause
-first_cause recorded g = option_map Table (unbuilt g.rows) or_else unknown_product (recorded && not (is_recorded g.rows g.former)) (product_code g.rows)
+first_cause recorded g = unknown_product (recorded && not (is_recorded g.rows g.former)) (product_code g.rows)
 
 -- the properties before any action, or exactly that cause; want of memory alone is free
 abbrev pub Readies : Bool → Given → Result Values Stop → Type 0

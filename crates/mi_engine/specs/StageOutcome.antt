@@ -1,6 +1,5 @@
--- The outcome of a run that walks over its sequence, until all tables are built, `/selftest` is a command and the cost is known before
--- the first write. (Installation; the order of refusals is this project's own: words, settling, image, package, tables that aren't built,
--- product, walk.)
+-- The outcome of a run that walks over its sequence, until `/selftest` is a command and the cost is known before the first write.
+-- (Installation; the order of refusals is this project's own: words, settling, image, package, product, walk.)
 use Rattle.std.specs.Prelude.{◌≡◌, ℕ, Bool, false, List, [], ◌∷◌, codes, None, Result, Ok, Err, if◌then◌else◌}
 use Rattle.std.specs.Str.{bytes_eq}
 use Rattle.mi_text.specs.Fold.{folded}
@@ -12,7 +11,6 @@ use Rattle.mi_undo.specs.Short.{IsShort}
 use Rattle.mi_base.specs.Machine.{Machine, machine_of}
 use Rattle.mi_base.specs.declared.answers.Cause.TheVariants.{BadWords, BadRollback, RecoveryFull, BadImage}
 use Rattle.mi_schema.specs.Checks.{load_fault}
-use Rattle.mi_schema.specs.RowsOf.{folder_rows}
 use Rattle.mi_model.specs.Texts.{Text}
 use Rattle.mi_model.specs.Assignments.{Assigned, Placed, kept_words}
 use Rattle.mi_model.specs.Listings.{products_text_of, clients_text_of}
@@ -21,7 +19,6 @@ use Rattle.mi_model.specs.Words as words
 use Rattle.mi_model.specs.Words.{Command, Package, Selftest, Clients, Products, Recover}
 use Rattle.mi_model.specs.PackageOutcome.{Listed, Recovered, Refused, Outcome, only, of_loaded, of_given, given_of}
 use Rattle.mi_model.specs.Outcome.{Handed}
-use Rattle.mi_plan.specs.Unbuilt.{unbuilt}
 
 -- ---- the words
 
@@ -35,10 +32,10 @@ command_of asked = unless_test (kept_words asked) (words.command_of asked)
 
 -- ---- the package
 
--- a package with a fault, or with a row that isn't built, isn't walked over; the free room isn't asked for
+-- a package with a fault isn't walked over; the free room isn't asked for
 abbrev pub of_package : Files → ℕ → Machine → Bool → Name → Assigned → Outcome
 of_package files now m recorded folder sets =
-    of_loaded (load_fault files folder) (of_loaded (unbuilt (folder_rows files folder)) (of_given None recorded (given_of files folder sets m now)))
+    of_loaded (load_fault files folder) (of_given None recorded (given_of files folder sets m now))
 
 abbrev pub of_command : Handed → Machine → Command → Outcome
 of_command h m (Package recorded folder sets) = of_package h.files h.now m recorded folder sets

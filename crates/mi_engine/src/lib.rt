@@ -10,7 +10,6 @@ mod reply;
 mod serve;
 mod stop;
 mod top;
-mod unbuilt;
 mod walk;
 mod words;
 

@@ -15,7 +15,6 @@ ghost use Rattle.mi_model.specs.Planning.{IsPlan};
 ghost use Rattle.mi_model.specs.Properties.{first_properties};
 ghost use Rattle.mi_model.specs.Settings.{is_recorded};
 ghost use Rattle.mi_engine.specs.StageOutcome.{of_package};
-ghost use Rattle.mi_plan.specs.Unbuilt.{IsBuilt, unbuilt};
 ghost use Rattle.mi_model.specs.Walk.{walk};
 ghost use Rattle.mi_model.specs.World.{Given};
 ghost use Rattle.mi_engine.specs.Calls.{ArePublic, FailsBy, IsOver, Judges, Prepares, Readies, Walks, sets_of, unknown_product};
@@ -25,7 +24,6 @@ ghost use Rattle.mi_plan.specs.Made.{as_planned};
 ghost use Rattle.mi_world.specs.Seen.{Starts};
 
 use crate::stop::Stop;
-use crate::unbuilt::require_built;
 use mi_base::Cause;
 use mi_image::Image;
 use mi_plan::{WalkError, WalkPlan, plan_walk};
@@ -89,17 +87,15 @@ fn ready(
 ) -> Result<Properties, Stop>
     requires lawful { IsLawful loaded.now }
     requires public { ArePublic asked.now }
-    ensures readies { (held files : Map (List ℕ)) (g : Given) → IsOver g loaded.now (machine_over held files image.now) asked.now g.now → Readies asked.now.recorded g result }
-    ensures built { OnOk result (unbuilt (rows_in loaded.now) ≡ None) }
+    ensures { (held files : Map (List ℕ)) (g : Given) → IsOver g loaded.now (machine_over held files image.now) asked.now g.now → Readies asked.now.recorded g result }
 {
-    require_built(alloc, loaded)?;
     match require_product(loaded, image, asked.recorded) {
         Ok(()) => properties(alloc, loaded, image, asked),
         Err(stop) => Err(stop),
     }
 }
 
-/// Plans the walk of a package that is built.
+/// Plans the walk of a package.
 fn walk_over<S: Source, V: Volume>(
     alloc: Global,
     loaded: Package,
@@ -111,7 +107,6 @@ fn walk_over<S: Source, V: Volume>(
     vol: &mut V,
 ) -> Result<WalkPlan, Stop>
     requires lawful { IsLawful loaded }
-    requires built { IsBuilt (rows_in loaded) }
     ensures plan { (g : Given) → V.told → S.told → g.files ≡ (S.files src.old) → HasContents (V.state vol.old).held (S.files src.old) image → Starts g loaded first (machine_over (V.state vol.old).held (S.files src.old) image) now → folder.now ≡ g.folder
         → IfOk result (λ p. IsPlan (S.files src.old) (walk g) p.begun.items (map as_planned p.segments.items) p.refusal) }
     ensures lengths { S.told → IfOk result (λ p. AreThere (S.files src.old) p) }

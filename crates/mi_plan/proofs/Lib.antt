@@ -1,5 +1,4 @@
 mod NextLemmas
-mod PhaseLemmas
 mod StepLemmas
 mod StageLemmas
 mod ArmLemmas

@@ -4,7 +4,6 @@ pub mod Devices
 pub mod Phases
 pub mod Nexts
 pub mod Turns
-pub mod Unbuilt
 pub mod Lengths
 pub mod Stages
 pub mod Carried

@@ -9,7 +9,6 @@ use Rattle.mi_image.specs.Overlays.{former_items, present_items}
 use Rattle.mi_source.specs.Paths.{Files}
 use Rattle.mi_model.specs.World.{Given}
 use Rattle.mi_model.specs.Sequence.{is_costed}
-use Rattle.mi_plan.specs.Unbuilt.{IsBuilt}
 use Rattle.mi_seq.specs.declared.step.Step.{Step}
 use Rattle.mi_seq.specs.declared.step.Step.TheVariants as step
 use Rattle.mi_seq.specs.declared.walk.Walk.{Walk}
@@ -58,10 +57,9 @@ actions rows = map (λ (r : Row). r.action) rows
 abbrev pub costs : List Name → List Row → ℕ
 costs begun rows = how_many begun + how_many (actions rows)
 
--- the package is lawful, and its phases are built
+-- the package is lawful
 pub record IsRight (p : Package) : Type 0 where
   pub lawful : IsLawful p
-  pub built : IsBuilt (rows_in p)
 
 -- what is seen is of some walk
 abbrev pub IsOfSome : Seen → Type 0

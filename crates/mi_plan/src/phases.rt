@@ -19,6 +19,9 @@ ghost use Rattle.mi_plan.specs.Stages.{IsRight};
 
 use crate::copies::check_copies;
 use crate::error::PhaseError;
+use mi_extras::{
+    plan_create_shortcuts, plan_remove_environment, plan_remove_shortcuts, plan_write_environment,
+};
 use mi_files::{
     plan_create_folders, plan_duplicate, plan_remove_duplicate, plan_remove_files,
     plan_remove_folders,
@@ -35,7 +38,7 @@ use mi_volume::Volume;
 use mi_world::{Seen, phases_ask};
 use std::alloc::Global;
 
-/// Plans the rows of a phase that asks no device. The tables of the phases that aren't built have no rows.
+/// Plans the rows of a phase that asks no device.
 fn plan_rows(alloc: Global, seen: &Seen, plan: &mut Plan, phase: Phase) -> Result<(), PlanError>
     requires right { IsRight seen.now.loaded }
     requires costed { IsCosted seen.now }
@@ -49,17 +52,17 @@ fn plan_rows(alloc: Global, seen: &Seen, plan: &mut Plan, phase: Phase) -> Resul
     match phase {
         Phase::ProcessComponents => plan_process_components(alloc, seen, plan),
         Phase::RemoveRegistryValues => plan_remove_registry(alloc, seen, plan),
-        Phase::RemoveShortcuts => Ok(()),
-        Phase::RemoveEnvironmentStrings => Ok(()),
+        Phase::RemoveShortcuts => plan_remove_shortcuts(alloc, seen, plan),
+        Phase::RemoveEnvironmentStrings => plan_remove_environment(alloc, seen, plan),
         Phase::RemoveDuplicateFiles => plan_remove_duplicate(alloc, seen, plan),
         Phase::RemoveFiles => plan_remove_files(alloc, seen, plan),
         Phase::RemoveFolders => plan_remove_folders(alloc, seen, plan),
         Phase::CreateFolders => plan_create_folders(alloc, seen, plan),
         Phase::InstallFiles => unreachable!(),
         Phase::DuplicateFiles => plan_duplicate(alloc, seen, plan),
-        Phase::CreateShortcuts => Ok(()),
+        Phase::CreateShortcuts => plan_create_shortcuts(alloc, seen, plan),
         Phase::WriteRegistryValues => plan_write_registry(alloc, seen, plan),
-        Phase::WriteEnvironmentStrings => Ok(()),
+        Phase::WriteEnvironmentStrings => plan_write_environment(alloc, seen, plan),
         Phase::PublishProduct => plan_publish_product(alloc, seen, plan),
     }
 }

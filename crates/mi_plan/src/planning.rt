@@ -16,7 +16,6 @@ ghost use Rattle.mi_base.specs.declared.answers.Cause.TheVariants.{Table};
 ghost use Rattle.mi_model.specs.Sequence.{sequence};
 ghost use Rattle.mi_model.specs.Walk.{walk};
 ghost use Rattle.mi_model.specs.Planning.{IsPlan};
-ghost use Rattle.mi_plan.specs.Unbuilt.{IsBuilt};
 ghost use Rattle.mi_runner.specs.Records.{MayCarry, HasLength};
 ghost use Rattle.mi_script.specs.Scripts.{touched_names};
 ghost use Rattle.mi_undo.specs.Area.{AreOutside};
@@ -232,7 +231,6 @@ fn walked<S: Source, V: Volume>(
     vol: &mut V,
 ) -> Result<WalkPlan, WalkError>
     requires lawful { IsLawful loaded }
-    requires built { IsBuilt (rows_in loaded) }
     ensures plan { (g : Given) → V.told → S.told → g.files ≡ (S.files src.old) → AreThere (V.state vol.old).held (S.files src.old) image → Starts g loaded props (machine_over (V.state vol.old).held (S.files src.old) image) now → folder.now ≡ g.folder
         → IfOk result (λ p. IsPlan (S.files src.old) (walk g) p.begun.items (map as_planned p.segments.items) p.refusal) }
     ensures lengths { S.told → IfOk result (λ p. SegmentsHave (S.files src.old) p.segments.items) }
@@ -254,8 +252,8 @@ fn walked<S: Source, V: Volume>(
 
 /// Plans the whole walk over InstallExecuteSequence: the actions that it begins, a script for each segment that ends, and its refusal, if it
 /// is refused; what a phase planned before its refusal, and what stands behind the last end of a segment, is in no script. `folder` is the
-/// package's in the source, and `now` the moment that new files carry, in seconds. The package is lawful, and has no row in a table whose
-/// phases aren't built; the image is that of the volume. Each script changes names outside the rollback area alone, and may be carried out;
+/// package's in the source, and `now` the moment that new files carry, in seconds. The package is lawful, and the image
+/// is that of the volume. Each script changes names outside the rollback area alone, and may be carried out;
 /// each of its copies states how many bytes its file in the source has. The source and the volume are only read, where files are
 /// installed, and nothing is written. An error is want of memory, or the fault of a device, whose count has risen then (InstallExecuteSequence
 /// table; InstallExecute, InstallFinalize and InstallFiles actions).
@@ -270,7 +268,6 @@ pub fn plan_walk<S: Source, V: Volume>(
     vol: &mut V,
 ) -> Result<WalkPlan, WalkError>
     requires lawful { IsLawful loaded }
-    requires built { IsBuilt (rows_in loaded) }
     ensures plan { (g : Given) → V.told → S.told → g.files ≡ (S.files src.old) → AreThere (V.state vol.old).held (S.files src.old) image → Starts g loaded props (machine_over (V.state vol.old).held (S.files src.old) image) now → folder.now ≡ g.folder
         → IfOk result (λ p. IsPlan (S.files src.old) (walk g) p.begun.items (map as_planned p.segments.items) p.refusal) }
     ensures former { IfOk result (λ p. former_items p.overlay ≡ image) }
