@@ -1,7 +1,8 @@
 /* The plain loops that bench/machine_folder compares the program with.
    plain read FOLDER         lists the folder and reads each file in it, in the order of their names, and the same below it
    plain write FOLDER FROM   gives the files named on standard input, a path a line, below FOLDER the bytes that they have
-                             below FROM, in place; syncs each, and FOLDER; prints the seconds behind reading FROM */
+                             below FROM, in place; syncs each, and FOLDER; prints the seconds behind reading the first
+                             65,536 bytes of each in FROM: what is longer is copied piece by piece */
 #define _GNU_SOURCE
 #include <dirent.h>
 #include <fcntl.h>
@@ -50,6 +51,7 @@ static void read_folder(const char *folder) {
 
 struct change {
     char *path;
+    char *from;
     char *bytes;
     size_t count;
 };
@@ -70,19 +72,37 @@ static void load(const char *folder, const char *from) {
         change->bytes = malloc(change->count + 1);
         memcpy(change->bytes, piece, change->count);
         close(file);
+        change->from = strdup(path);
         snprintf(path, sizeof path, "%s/%s", folder, line);
         change->path = strdup(path);
     }
 }
 
+/* Writes what stands behind the first piece, and answers how many bytes that are. */
+static off_t write_rest(int file, const struct change *change) {
+    off_t written = 0;
+    ssize_t count;
+    int from = open(change->from, O_RDONLY);
+    must(from >= 0 && lseek(from, PIECE, SEEK_SET) == PIECE, change->from);
+    while ((count = read(from, piece, PIECE)) > 0) {
+        must(write(file, piece, count) == count, change->path);
+        written += count;
+    }
+    close(from);
+    return written;
+}
+
 static void write_file(const struct change *change) {
     struct stat found;
+    off_t size = change->count;
     int file = open(change->path, O_WRONLY | O_CREAT, 0666);
     must(file >= 0, change->path);
     must(fstat(file, &found) == 0, change->path);
     must(write(file, change->bytes, change->count) == (ssize_t)change->count, change->path);
-    if (found.st_size > (off_t)change->count)
-        must(ftruncate(file, change->count) == 0, change->path);
+    if (change->count == PIECE)
+        size += write_rest(file, change);
+    if (found.st_size > size)
+        must(ftruncate(file, size) == 0, change->path);
     close(file);
 }
 
