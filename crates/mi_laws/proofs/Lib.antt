@@ -1,3 +1,4 @@
 mod StandLemmas
 pub mod ValueLemmas
 pub mod ClientLemmas
+pub mod FileLemmas

@@ -1,2 +1,3 @@
 pub mod ValueLaws
 pub mod ClientLaws
+pub mod FileLaws

@@ -1,6 +1,7 @@
 //! The laws.
 
 ghost use Rattle.mi_laws.specs.ClientLaws.{ClientsGoByAbsence};
+ghost use Rattle.mi_laws.specs.FileLaws.{FilesGoByRows};
 ghost use Rattle.mi_laws.specs.ValueLaws.{ValuesGoByRows};
 
 /// A value of the registry that goes is named by a row of Registry of a component that leaves, and not guarded, or by a row of
@@ -13,4 +14,10 @@ pub fn values_go_by_rows()
 /// clients (ProcessComponents action).
 pub fn clients_go_by_absence()
     ensures { ClientsGoByAbsence }
+{}
+
+/// A file that goes is named by a row of File or DuplicateFile of a component that leaves, and not guarded, or by a row of RemoveFile in
+/// force; no other phase takes a file away (RemoveFiles and RemoveDuplicateFiles actions).
+pub fn files_go_by_rows()
+    ensures { FilesGoByRows }
 {}

@@ -4,4 +4,4 @@
 
 mod laws;
 
-pub use laws::{clients_go_by_absence, values_go_by_rows};
+pub use laws::{clients_go_by_absence, files_go_by_rows, values_go_by_rows};
