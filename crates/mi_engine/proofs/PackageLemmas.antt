@@ -1,6 +1,6 @@
 -- A package up to its walk.
 use Rattle.std.proofs.Common.{◌≡◌, ℕ, Bool, true, false, map, Option, Some, None, Result, Ok, Err, refl, sym, ap, ◌∙◌, subst}
-use Rattle.std.specs.Prelude.{◌&&◌, not, option_map, is_some, IfOk, IfErr, OnOk, if◌then◌else◌}
+use Rattle.std.specs.Prelude.{◌&&◌, not, is_some, IfOk, IfErr, OnOk, if◌then◌else◌}
 use Rattle.mi_text.specs.Maps.{Name, Map}
 use Rattle.std.specs.Prelude.{List}
 use Rattle.mi_image.specs.Items.{Items, machine_over, AreThere as HasContents}
@@ -13,7 +13,6 @@ use Rattle.mi_base.specs.declared.answers.Fault.{Fault}
 use Rattle.mi_base.specs.declared.answers.Cause.{Cause}
 use Rattle.mi_base.specs.declared.answers.Cause.TheVariants.{VolumeFault, SourceFault, Table, UnknownProduct}
 use Rattle.mi_schema.specs.Checks.{load_fault}
-use Rattle.mi_schema.specs.Rows.{◌or_else◌}
 use Rattle.mi_schema.specs.TableRows.{Rows, product_code}
 use Rattle.mi_plan.specs.declared.planned.WalkPlan.{WalkPlan}
 use Rattle.mi_plan.specs.Made.{as_planned}

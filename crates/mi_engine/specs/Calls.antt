@@ -1,16 +1,12 @@
 -- Why a package isn't walked over.
-use Rattle.std.specs.Prelude.{◌≡◌, ℕ, ◌==◌, Bool, true, false, not, ◌&&◌, ◌++◌, map, option_map, Option, None, Some, Result, Ok, Err, if◌then◌else◌}
-use Rattle.mi_text.specs.Maps.{Name}
+use Rattle.std.specs.Prelude.{◌≡◌, ℕ, Bool, true, false, not, ◌&&◌, ◌++◌, map, Option, None, Some, Result, Ok, Err}
 use Rattle.mi_source.specs.Paths.{Files}
-use Rattle.mi_base.specs.declared.answers.Fault.{Fault}
-use Rattle.mi_base.specs.declared.answers.Fault.TheVariants.{NotYet}
 use Rattle.mi_base.specs.declared.answers.Cause.{Cause}
 use Rattle.mi_base.specs.declared.answers.Cause.TheVariants.{VolumeFault, SourceFault, Table, UnknownProduct}
 use Rattle.mi_schema.specs.declared.error.LoadError.{LoadError}
 use Rattle.mi_schema.specs.declared.error.LoadError.TheVariants as load
 use Rattle.mi_plan.specs.declared.planned.WalkPlan.{WalkPlan}
 use Rattle.mi_plan.specs.Made.{as_planned}
-use Rattle.mi_schema.specs.Rows.{◌or_else◌}
 use Rattle.mi_model.specs.Planning.{IsPlan}
 use Rattle.mi_model.specs.World.{Given}
 use Rattle.mi_model.specs.Walk.{walk}
