@@ -1,6 +1,5 @@
 -- InstallFiles, which asks the devices, as a phase.
-use Rattle.std.proofs.Common.{◌≡◌, ℕ, true, false, List, Ok, Err, refl}
-use Rattle.std.specs.Prelude.{Result, IsErrOf}
+use Rattle.std.proofs.Common.{◌≡◌, ℕ, true, List, Err, refl}
 use Rattle.mi_text.specs.Maps.{Map}
 use Rattle.mi_source.specs.Paths.{Files}
 use Rattle.mi_volume.specs.State.{State}

@@ -3,7 +3,6 @@ use Rattle.std.specs.Prelude.{◌≡◌, ◌≤◌, ◌+◌, ℕ, Bool, true, fa
 use Rattle.mi_text.specs.Maps.{Name, Map, same_name, is_among}
 use Rattle.mi_schema.specs.declared.package.Package.{Package}
 use Rattle.mi_schema.specs.Lawful.{IsLawful}
-use Rattle.mi_schema.specs.RowsOf.{rows_in}
 use Rattle.mi_image.specs.Items.{AreThere}
 use Rattle.mi_image.specs.Overlays.{former_items, present_items}
 use Rattle.mi_source.specs.Paths.{Files}

@@ -1,11 +1,8 @@
 -- InstallFiles, by its plan call.
-use Rattle.std.proofs.Common.{◌≡◌, Err, refl, sym, subst}
-use Rattle.mi_volume.specs.State as volume
-use Rattle.mi_source.specs.Counts.{Rose}
+use Rattle.std.proofs.Common.{Err, refl, sym, subst}
 use Rattle.mi_model.specs.InstallFiles.{install_files}
 use Rattle.mi_world.specs.Seen.{world_over}
 use Rattle.mi_plan.specs.declared.error.PhaseError.{PhaseError}
-use Rattle.mi_plan.specs.Devices.{PhaseFailsOnly}
 use Rattle.mi_plan.specs.Phases.{IsPlannedPhase}
 use Rattle.mi_plan.proofs.InstallLemmas.{planned_as}
 use Rattle.mi_plan.proofs.phases.plan_install.Goals as goal
