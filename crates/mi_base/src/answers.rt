@@ -70,8 +70,6 @@ pub enum Cause {
 /// A fault of a package (Database Tables). Rows and columns count from 1, rows in file order; sizes are bytes.
 #[derive(Drop)]
 pub enum Fault {
-    /// This row of this table is more than what is built so far.
-    NotYet(Text, u32),
     /// A table that each package has is missing.
     MissingTable(Text),
     /// The text of this table can't be read.

@@ -65,7 +65,6 @@ fn one_field(name: &str, call: &mut Call<'_>) -> Option<Fault> {
 // A fault of a row of a table.
 fn row_fault(name: &str, table: Text, row: u32) -> Option<Fault> {
     match name {
-        "NotYet" => Some(Fault::NotYet(table, row)),
         "Cycle" => Some(Fault::Cycle(table, row)),
         "BadPath" => Some(Fault::BadPath(table, row)),
         "TooDeep" => Some(Fault::TooDeep(table, row)),

@@ -35,7 +35,6 @@ idt_words (idt.Integer row column) = codes "Integer" ∷ decimal row ∷ decimal
 idt_words (idt.TwoKeys row) = codes "TwoKeys" ∷ decimal row ∷ []
 
 abbrev pub fault_words : Fault → List (List ℕ)
-fault_words (fault.NotYet table row) = codes "NotYet" ∷ shown table ∷ decimal row ∷ []
 fault_words (fault.MissingTable table) = codes "MissingTable" ∷ shown table ∷ []
 fault_words (fault.Idt table f) = codes "Idt" ∷ shown table ∷ idt_words f
 fault_words (fault.Columns table) = codes "Columns" ∷ shown table ∷ []

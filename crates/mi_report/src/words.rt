@@ -176,7 +176,6 @@ fn fault_fields(fault: &Fault) -> (&'static str, Fields<'_>)
     ensures { result.0.now ∷ field_words result.1 ≡ fault_words fault.now }
 {
     match fault {
-        Fault::NotYet(table, row) => ("NotYet", Fields::Row(table.as_str(), u64::from(*row))),
         Fault::MissingTable(table) => ("MissingTable", Fields::Text(table.as_str())),
         Fault::Idt(table, nested) => ("Idt", Fields::Nested(table.as_str(), nested)),
         Fault::Columns(table) => ("Columns", Fields::Text(table.as_str())),
