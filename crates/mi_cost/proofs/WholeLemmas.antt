@@ -18,7 +18,8 @@ use Rattle.mi_model.specs.Cost.{record_at, size_at, note_size, touched_in, set_o
 use Rattle.mi_model.specs.Plans.{Planned, ArePlanned}
 use Rattle.mi_model_laws.proofs.SpellLemmas.{after_spells}
 use Rattle.mi_cost.specs.CostOfChanges.{Segment, all_changes, names_changed, greatest_size, cost_at, entries_of, cost_of_names, cost_of_changes, changes_of_scripts}
-use Rattle.mi_cost.specs.CostLaw.{ArePlain, CostsTheSame}
+use Rattle.mi_model.specs.Plain.{ArePlain}
+use Rattle.mi_cost.specs.CostLaw.{CostsTheSame}
 use Rattle.mi_cost.proofs.NameLemmas.{Alike, all_alike, keys_alike, sum_alike}
 use Rattle.mi_cost.proofs.RowLemmas.{row_changes, rows_append, rows_names, rows_sizes}
 

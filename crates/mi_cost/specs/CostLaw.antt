@@ -1,25 +1,12 @@
 -- The law of the cost: by the changes of scripts it is what the walk needs. (This project's own.)
-use Rattle.std.specs.Prelude.{◌≡◌, ℕ, ◌+◌, ◌-◌, ◌^◌, ◌≤◌, min, List, [], ◌∷◌, map, if◌then◌else◌}
-use Rattle.mi_text.specs.Maps.{Name, same_name}
+use Rattle.std.specs.Prelude.{◌≡◌, ℕ, ◌-◌, ◌^◌, min, List, map}
 use Rattle.mi_base.specs.Machine.{Machine, volume_of}
 use Rattle.mi_source.specs.Paths.{Files}
-use Rattle.mi_changes.specs.Touches.{after_touches}
-use Rattle.mi_changes.specs.Changes.{Change, changes}
-use Rattle.mi_model.specs.PhaseRows.{Touches}
 use Rattle.mi_model.specs.Walk.{Part}
+use Rattle.mi_model.specs.Plain.{ArePlain}
 use Rattle.mi_model.specs.Cost.{all_rows, need}
 use Rattle.mi_model.specs.Plans.{Planned, ArePlanned}
 use Rattle.mi_cost.specs.CostOfChanges.{cost_of_changes, changes_of_scripts}
-
--- how many changes name it
-abbrev pub times : {X : Type 0} → Name → List (Change X) → ℕ
-times q [] = 0
-times q (c ∷ cs) = if same_name q c.at then 1 + times q cs else times q cs
-
--- No row changes a name twice, each over the machine that those before it leave.
-abbrev pub ArePlain : Machine → List Touches → Type 0
-ArePlain m [] = Unit {0}
-ArePlain m (row ∷ rows) = ((q : Name) → times q (changes m row) ≤ 1) × ArePlain (after_touches m row) rows
 
 -- Where the rows of the parts are plain and plans spell them, the need of the parts is what the changes of the plans' scripts cost over
 -- the former map; the greatest count where that is more.

@@ -26,6 +26,7 @@ pub mod Parents
 pub mod Patterns
 pub mod PhaseRows
 pub mod Phases
+pub mod Plain
 pub mod Planning
 pub mod Plans
 pub mod ProcessComponents
