@@ -25,19 +25,19 @@ use Rattle.mi_model.specs.States.{features_of, is_present, is_present_by}
 use Rattle.mi_model.specs.Components as components
 use Rattle.mi_model.specs.Components.{owners_of, has_id, has_other_client}
 use Rattle.mi_model.specs.Selecting.{record_of_product, feature_request, is_feature_after, component_action}
-use Rattle.mi_select.specs.declared.choice.FeatureChoice.{FeatureChoice}
+use Rattle.mi_features.specs.declared.choice.FeatureChoice.{FeatureChoice}
 use Rattle.mi_select.specs.declared.component.Action.{Action}
 use Rattle.mi_select.specs.declared.component.Action.TheVariants as action
 use Rattle.mi_select.specs.declared.holders.Holders.{Holders}
-use Rattle.mi_select.specs.Choices as choices
+use Rattle.mi_features.specs.Choices as choices
 use Rattle.mi_select.specs.Actions.{told, action_kept, made, present_kept, choice_kept, component_choice}
 use Rattle.mi_select.specs.Holders as held
 use Rattle.mi_select.specs.Holders.{says, choice_named, held_at, said_in, any_says, all_say, AreHeld}
-use Rattle.mi_select.specs.Records.{recorded_in}
-use Rattle.mi_select.specs.Requests.{choice_to}
-use Rattle.mi_select.proofs.ChainLemmas.{HasOwnKeys, row_of-with, row_of-own}
-use Rattle.mi_select.proofs.RequestLemmas.{and_all, and_none}
-use Rattle.mi_select.proofs.LineLemmas.{same_tests, and_both, and_left, and_right, any_there, any_at}
+use Rattle.mi_features.specs.Records.{recorded_in}
+use Rattle.mi_features.specs.Requests.{choice_to}
+use Rattle.mi_features.proofs.ChainLemmas.{HasOwnKeys, row_of-with, row_of-own}
+use Rattle.mi_features.proofs.RequestLemmas.{and_all, and_none}
+use Rattle.mi_features.proofs.LineLemmas.{same_tests, and_both, and_left, and_right, any_there, any_at}
 
 -- ---- some item of a list
 

@@ -21,7 +21,7 @@ use Rattle.mi_schema.specs.Checks.{row_with}
 use Rattle.mi_model.specs.KeyPaths.{Value, key_path_text}
 use Rattle.mi_model.specs.RegistryRows.{RegistryPlace}
 use Rattle.mi_schema.specs.TableRows.{Numbered, numbered_from, row_of}
-use Rattle.mi_select.proofs.LineLemmas.{get_or_from}
+use Rattle.mi_features.proofs.LineLemmas.{get_or_from}
 
 -- ---- rows and their numbers
 

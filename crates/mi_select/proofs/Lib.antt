@@ -1,9 +1,3 @@
-pub mod MarkLemmas
-mod ChainLemmas
-mod RowLemmas
-mod LevelLemmas
-mod LineLemmas
-pub mod RequestLemmas
 mod HolderLemmas
 mod ActionLemmas
 mod KeyPathLemmas

@@ -1,17 +1,5 @@
 pub mod Actions
-pub mod Answers
-pub mod Brought
-pub mod Chains
-pub mod Choices
 pub mod Chosen
 pub mod Holders
-pub mod Kept
 pub mod KeyPaths
-pub mod Levels
-pub mod Lines
-pub mod Lists
-pub mod Marks
-pub mod Records
-pub mod Requests
 pub mod Selections
-pub mod Wishes

@@ -11,14 +11,12 @@ ghost use Rattle.mi_model.specs.World.{Given};
 ghost use Rattle.mi_model.specs.Components.{has_other_client};
 ghost use Rattle.mi_model.specs.Selecting.{record_of_product};
 ghost use Rattle.mi_select.specs.Actions.{present_kept, choice_kept, component_choice};
-ghost use Rattle.mi_select.specs.Requests.{choice_to};
+ghost use Rattle.mi_features.specs.Requests.{choice_to};
 
-use crate::asking::Asked;
 use crate::component::{ComponentChoice, action_of};
 use crate::holders::{Held, Holders, held_at, held_by};
-use crate::levels::holds;
-use crate::record::{product_code, record_of};
 use mi_base::{Client, Env, Guid, NoMemory};
+use mi_features::{Asked, holds, product_code, record_of};
 use mi_image::Image;
 use mi_schema::{ComponentRow, Package, keys_apart, keys_stand};
 use std::alloc::Global;

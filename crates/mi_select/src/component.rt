@@ -5,7 +5,7 @@ ghost use Rattle.mi_model.specs.Components.{is_coming};
 ghost use Rattle.mi_select.specs.Actions.{is_local, is_absent, action_kept, made, as_action};
 
 use crate::holders::Holders;
-use crate::own::has_attribute;
+use mi_features::has_attribute;
 use mi_schema::ComponentRow;
 
 /// What is done to a component (Component Table).

@@ -7,9 +7,8 @@ ghost use Rattle.mi_schema.specs.Lawful.{IsLawful};
 ghost use Rattle.mi_schema.specs.RowsOf.{rows_in};
 ghost use Rattle.mi_select.specs.Holders.{is_local, is_reinstall, nobody, both, says, choice_named, held_at, said_in, AreHeld};
 
-use crate::asking::Asked;
-use crate::choice::{FeatureChoice, Request};
 use mi_base::{NoMemory, Text};
+use mi_features::{Asked, FeatureChoice, Request};
 use mi_schema::{FeatureComponentsRow, Package, keys_stand};
 use std::alloc::Global;
 use std::collections::{BTreeMap, BTreeSet};

@@ -20,13 +20,12 @@ ghost use Rattle.mi_model.specs.KeyPaths.{key_path_text, is_there, value_row, fi
 ghost use Rattle.mi_model.specs.RegistryRows.{registry_place};
 ghost use Rattle.mi_records.specs.Meaning.{numbered};
 ghost use Rattle.mi_records.specs.Order.{as_numbered};
-ghost use Rattle.mi_select.specs.Answers.{Refuses, Gives};
+ghost use Rattle.mi_features.specs.Answers.{Refuses, Gives};
 ghost use Rattle.mi_select.specs.KeyPaths.{meant, of_value, registry_row_of, file_row_of};
 
-use crate::error::SelectError;
-use crate::own::has_attribute;
 use mi_base::{Fault, NoMemory, PathError, PathText, Text, long_name};
 use mi_dirs::Dirs;
+use mi_features::{SelectError, has_attribute};
 use mi_format::BoundedEnv;
 use mi_image::Image;
 use mi_records::{PlanError, RegistryPlace, Row, registry_place};

@@ -7,7 +7,7 @@ ghost use Rattle.mi_world.specs.declared.error.WorldError.TheVariants.{NoMemory 
 
 use mi_base::{Fault, NoMemory, Text};
 use mi_dirs::DirFault;
-use mi_select::SelectError;
+use mi_features::SelectError;
 use std::alloc::Global;
 
 /// Want of memory, or why CostFinalize or an action of type 35 is refused.

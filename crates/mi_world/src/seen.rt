@@ -5,7 +5,7 @@ ghost use Rattle.mi_dirs.specs.Places.{row_of};
 ghost use Rattle.mi_schema.specs.RowsOf.{rows_in};
 ghost use Rattle.mi_model.specs.States.{action_state, request_state, installed_state};
 ghost use Rattle.mi_select.specs.Actions.{action_to};
-ghost use Rattle.mi_select.specs.Choices.{request_to};
+ghost use Rattle.mi_features.specs.Choices.{request_to};
 ghost use Rattle.mi_world.specs.Places.{AreKeptPaths};
 ghost use Rattle.mi_world.specs.Seen.{seen_lookups, kept_state, dirs_in, with_target, AreMoved, HaveMoved, IsRow};
 ghost use Rattle.mi_world.specs.declared.placed.Placed as placed;
@@ -18,9 +18,10 @@ use crate::properties::Properties;
 use crate::table::Table;
 use mi_base::{Env, Sign};
 use mi_dirs::{DirError, Dirs};
+use mi_features::Request;
 use mi_format::BoundedEnv;
 use mi_schema::Package;
-use mi_select::{Action, Request, Selection};
+use mi_select::{Action, Selection};
 use std::alloc::Global;
 
 /// What an action sees: the package, its properties and the former machine's variables, and from CostFinalize on the

@@ -8,7 +8,7 @@ use Rattle.mi_text.specs.Maps.{Name, same_name}
 use Rattle.mi_select.specs.declared.holders.Holders.{Holders}
 use Rattle.mi_select.specs.Holders.{nobody}
 use Rattle.mi_select.proofs.HolderLemmas.{put_at}
-use Rattle.mi_select.proofs.RowLemmas.{updated_at}
+use Rattle.mi_features.proofs.RowLemmas.{updated_at}
 use Rattle.mi_select.proofs.holders.put.Goals as goal
 
 pub returns : goal.returns

@@ -2,8 +2,8 @@
 use Rattle.std.proofs.lemmas.Result.{err_from_is_err_and}
 use Rattle.mi_image.specs.Items.{machine_over}
 use Rattle.mi_schema.specs.RowsOf.{rows_in}
-use Rattle.mi_select.specs.Records.{recorded_in}
-use Rattle.mi_select.specs.Requests.{shown}
+use Rattle.mi_features.specs.Records.{recorded_in}
+use Rattle.mi_features.specs.Requests.{shown}
 use Rattle.mi_select.proofs.SelectLemmas.{asked_refused}
 use Rattle.mi_select.proofs.selecting.select.Goals as goal
 

@@ -5,7 +5,7 @@ use Rattle.std.proofs.lemmas.Result.{err_from_is_err_and}
 use Rattle.mi_image.specs.Items.{machine_over}
 use Rattle.mi_schema.specs.RowsOf.{rows_in}
 use Rattle.mi_select.specs.Selections.{as_named}
-use Rattle.mi_select.specs.Records.{recorded_in}
+use Rattle.mi_features.specs.Records.{recorded_in}
 use Rattle.mi_select.proofs.SelectLemmas.{features_length, choices_length, selection_made, paths_refused}
 use Rattle.mi_select.proofs.selecting.selection_by.Goals as goal
 
