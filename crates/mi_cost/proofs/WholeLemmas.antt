@@ -40,14 +40,13 @@ they_state : (files : Files) (m : Machine) (parts : List Part) (plans : List Pla
 they_state files m [] [] are have = tt
 they_state files m [] (x ∷ plans) are have = absurd are
 they_state files m (p ∷ parts) [] are have = absurd are
-they_state files m (p ∷ parts) (x ∷ plans) are have =
-    (
-      record {
-        names = ap names_changed (sym are.0.spells.is) ∙ script_names files (volume_of m) x.records;
-        sizes = ap (map size_after) (sym are.0.spells.is) ∙ are.0.spells.sizes (All-head (λ (p : Planned). All (HasCopied files) p.records) x plans have);
-      },
-      they_state files (after_rows m p.rows) parts plans are.1 (All-tail (λ (p : Planned). All (HasCopied files) p.records) x plans have)
-    )
+they_state files m (p ∷ parts) (x ∷ plans) are have = (
+  record {
+    names = ap names_changed (sym are.0.spells.is) ∙ script_names files (volume_of m) x.records;
+    sizes = ap (map size_after) (sym are.0.spells.is) ∙ are.0.spells.sizes (All-head (λ (p : Planned). All (HasCopied files) p.records) x plans have);
+  },
+  they_state files (after_rows m p.rows) parts plans are.1 (All-tail (λ (p : Planned). All (HasCopied files) p.records) x plans have),
+)
 
 all_are : (m : Machine) (parts : List Part) → all_changes (segments_of m parts) ≡ row_changes m (all_rows parts)
 all_are m [] = refl

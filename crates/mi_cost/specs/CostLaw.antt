@@ -1,5 +1,5 @@
 -- The law of the cost: by what planned scripts state it is what the walk needs. (This project's own.)
-use Rattle.std.specs.Prelude.{◌≡◌, ℕ, ◌-◌, ◌^◌, min, List, map}
+use Rattle.std.specs.Prelude.{◌≡◌, ◌-◌, ◌^◌, min, List, map}
 use Rattle.std.specs.List.{All}
 use Rattle.mi_base.specs.Machine.{Machine, volume_of}
 use Rattle.mi_source.specs.Paths.{Files}
