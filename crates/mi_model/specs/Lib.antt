@@ -46,6 +46,7 @@ pub mod Selftest
 pub mod Sequence
 pub mod Settings
 pub mod Shortcuts
+pub mod StatedSizes
 pub mod States
 pub mod Steps
 pub mod Texts

@@ -12,14 +12,16 @@ use Rattle.mi_script.specs.Spelled.{spelled_changes}
 use Rattle.mi_model.specs.World.{World, Effect}
 use Rattle.mi_model.specs.PhaseRows.{Touches, phase_rows, after_rows}
 use Rattle.mi_model.specs.Walk.{Part}
+use Rattle.mi_model.specs.StatedSizes.{StateSizes}
 
 -- the touches of rows, in order
 abbrev pub all_touches : List Touches → List (Touch Entry)
 all_touches rows = flat_map (λ (row : Touches). row) rows
 
--- The records spell what the rows change over this machine, with this source.
+-- The records spell what the rows change over this machine, with this source, and state the sizes that this gives.
 pub record Spells (files : Files) (m : Machine) (rows : List Touches) (records : List Rec) : Type 0 where
   pub is : script_changes files (volume_of m) records ≡ spelled_changes (volume_of m) (changes m (all_touches rows))
+  pub sizes : StateSizes files (volume_of m) records
 
 -- ---- one plan call
 
