@@ -16,7 +16,8 @@ use Rattle.mi_model.specs.World.{World, Action, MakeLocal, MakeAbsent}
 use Rattle.mi_model.specs.Conditions.{has}
 use Rattle.mi_model.specs.ComponentRows.{action_in}
 use Rattle.mi_model.specs.Components.{is_made_absent}
-use Rattle.mi_model.specs.ProcessComponents.{recorded_path, the_system, client, process_components}
+use Rattle.mi_model.specs.ClientRows.{recorded_path, the_system, client}
+use Rattle.mi_model.specs.ProcessComponents.{process_components}
 use Rattle.mi_model_laws.specs.PhaseLaws.{in_turn}
 use Rattle.mi_model_laws.specs.RecordLaws.{client_made, client_after, client_by, component_rows}
 use Rattle.mi_model_laws.proofs.ClientLemmas.{clients_are_processed}

@@ -18,7 +18,8 @@ use Rattle.mi_model.specs.Asked.{chosen}
 use Rattle.mi_model.specs.Conditions.{has}
 use Rattle.mi_model.specs.ComponentRows.{action_in}
 use Rattle.mi_model.specs.PhaseRows.{Touches}
-use Rattle.mi_model.specs.ProcessComponents.{recorded_path, the_system, client, client_touch, client_touches, of_id, component_touches, process_components}
+use Rattle.mi_model.specs.ClientRows.{recorded_path, the_system, client, client_touch, client_touches, of_id, component_touches}
+use Rattle.mi_model.specs.ProcessComponents.{process_components}
 use Rattle.mi_model.specs.PublishProduct.{product_after, publish_product}
 use Rattle.mi_model_laws.specs.PhaseLaws.{IsAfter, in_turn}
 use Rattle.mi_model_laws.specs.RecordLaws.{client_made, client_after, client_by, component_rows}

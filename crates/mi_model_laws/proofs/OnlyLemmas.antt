@@ -60,7 +60,8 @@ use Rattle.mi_model.specs.Patterns.{has_pattern}
 use Rattle.mi_text.specs.declared.guid.Guid.{Guid}
 use Rattle.mi_schema.specs.declared.typed_rows.ComponentRow.{ComponentRow}
 use Rattle.mi_model.specs.Conditions.{has}
-use Rattle.mi_model.specs.ProcessComponents.{recorded_path, the_system, process_components}
+use Rattle.mi_model.specs.ClientRows.{recorded_path, the_system}
+use Rattle.mi_model.specs.ProcessComponents.{process_components}
 use Rattle.mi_model.specs.PublishProduct.{publish_product}
 use Rattle.mi_model.specs.EnvironmentRows.{named_variable}
 use Rattle.mi_model.specs.WriteEnvironmentStrings.{write_environment_strings}

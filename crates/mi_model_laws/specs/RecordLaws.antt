@@ -22,7 +22,8 @@ use Rattle.mi_model.specs.Asked.{chosen, comes, leaves, lookups}
 use Rattle.mi_model.specs.Conditions.{has}
 use Rattle.mi_model.specs.ComponentRows.{action_in, rows_that}
 use Rattle.mi_model.specs.Parents.{folders_down_to}
-use Rattle.mi_model.specs.ProcessComponents.{recorded_path, the_system, client, process_components}
+use Rattle.mi_model.specs.ClientRows.{recorded_path, the_system, client}
+use Rattle.mi_model.specs.ProcessComponents.{process_components}
 use Rattle.mi_model.specs.PublishProduct.{product_after, publish_product}
 use Rattle.mi_model.specs.Shortcuts.{shortcut_path, shortcut_entry, target_text, is_guarded_shortcut, shortcut_named, leaving_shortcuts, create_shortcuts, remove_shortcuts, shortcut_table}
 use Rattle.mi_model.specs.Refusals.{expanded_or_empty}
