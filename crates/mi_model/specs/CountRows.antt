@@ -48,4 +48,4 @@ count_touches w c path MakeAbsent = if leaves w c.component then takes_count w p
 
 abbrev pub counted_by : World → ComponentRow → Option Action → Result (List (Touch Entry)) Fault
 counted_by w c None = Ok []
-counted_by w c (Some action) = if is_counted w.given.rows c then recorded_path w c >>= λ path. Ok (count_touches w c path action) else Ok []
+counted_by w c (Some action) = if is_counted w.given.rows c then (recorded_path w c >>= λ path. Ok (count_touches w c path action)) else Ok []
