@@ -4,6 +4,7 @@ pub mod Brought
 pub mod Chains
 pub mod Choices
 pub mod Chosen
+pub mod Counts
 pub mod Holders
 pub mod Kept
 pub mod KeyPaths

@@ -8,6 +8,7 @@ mod brought;
 mod chain;
 mod choice;
 mod component;
+mod counts;
 mod error;
 mod holders;
 mod key_path;
