@@ -40,7 +40,7 @@ use Rattle.mi_model.specs.World.{World, RowEffect}
 use Rattle.mi_model.specs.Asked.{comes, leaves, lookups}
 use Rattle.mi_model.specs.ComponentRows.{rows_that}
 use Rattle.mi_model.specs.Refusals.{◌>>=◌, expanded, expanded_or_empty, unless}
-use Rattle.mi_model.specs.ProcessComponents.{recorded_path}
+use Rattle.mi_model.specs.ClientRows.{recorded_path}
 use Rattle.mi_model.specs.Shortcuts.{shortcut_table, shortcut_path, path_or_refused, target_text, shortcut_entry, shortcut_touches, created_touches, create_shortcuts, removed_shortcut, without_shortcut, leaving_shortcuts, touched_folders, remove_shortcuts, is_guarded_shortcut}
 use Rattle.mi_model.specs.Prune.{prune_folders}
 use Rattle.mi_steps.specs.declared.plan.Plan.{Plan}

@@ -3,7 +3,7 @@
 ghost use Rattle.std.specs.Prelude.{◌≡◌, [], Ok, is_some};
 ghost use Rattle.std.specs.Option.{option_map_or};
 ghost use Rattle.mi_model.specs.World.{World};
-ghost use Rattle.mi_model.specs.ProcessComponents.{recorded_path};
+ghost use Rattle.mi_model.specs.ClientRows.{recorded_path};
 ghost use Rattle.mi_model.specs.Shortcuts.{target_text};
 ghost use Rattle.mi_schema.specs.Lawful.{IsLawful};
 ghost use Rattle.mi_schema.specs.RowsOf.{rows_in};

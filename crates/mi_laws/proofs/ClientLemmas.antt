@@ -1,9 +1,8 @@
 -- Client rows go by components that are made Absent alone.
-use Rattle.std.proofs.Common.{◌≡◌, ℕ, Bool, true, false, cond, List, [], ◌∷◌, Option, Some, None, refl, sym, ap, subst, ◌∙◌}
-use Rattle.std.specs.Prelude.{◌&&◌, codes, Result, Ok, Err}
-use Rattle.std.specs.List.{list_any, AllByRecursion}
+use Rattle.std.proofs.Common.{◌≡◌, Bool, true, false, cond, [], ◌∷◌, Option, Some, None, refl, sym, ap, subst, ◌∙◌}
+use Rattle.std.specs.Prelude.{◌&&◌, nat_eq, codes, Result, Ok, Err}
+use Rattle.std.specs.List.{starts_with, AllByRecursion}
 use Rattle.std.specs.Option.{option_map_or}
-use Rattle.std.specs.FinMap.{get}
 use Rattle.mi_text.specs.Maps.{Name, same_name}
 use Rattle.mi_text.specs.declared.guid.Guid.{Guid}
 use Rattle.mi_base.specs.declared.answers.Fault.{Fault}
@@ -16,10 +15,11 @@ use Rattle.mi_model.specs.World.{World, Action, MakeLocal, MakeAbsent}
 use Rattle.mi_model.specs.Conditions.{has}
 use Rattle.mi_model.specs.ComponentRows.{action_in}
 use Rattle.mi_model.specs.Components.{is_made_absent}
-use Rattle.mi_model.specs.ProcessComponents.{recorded_path, the_system, client, process_components}
+use Rattle.mi_model.specs.ClientRows.{recorded_path, the_system, client}
+use Rattle.mi_model.specs.ProcessComponents.{process_components}
 use Rattle.mi_model_laws.specs.PhaseLaws.{in_turn}
 use Rattle.mi_model_laws.specs.RecordLaws.{client_made, client_after, client_by, component_rows}
-use Rattle.mi_model_laws.proofs.ClientLemmas.{clients_are_processed}
+use Rattle.mi_model_laws.proofs.CountLemmas.{clients_are_processed, others_are_kept}
 use Rattle.mi_model_laws.proofs.OnlyLemmas.{phases_change_only}
 use Rattle.mi_model_laws.specs.OnlyLaws.{files_and_folders, shortcuts_and_folders}
 use Rattle.mi_laws.specs.ValueLaws.{Goes}
@@ -52,9 +52,9 @@ id_stands : (w : World) (c : ComponentRow) (q : Name) (id : Option Guid) (e : En
 id_stands w c q (Some id) e none = after_stands w c id q (action_in w c.component) e none
 id_stands w c q None e none = tt
 
-removed_by_absence : (w : World) (q : Name) → Goes process_components w q → is_client_of_absent w q ≡ true
-removed_by_absence w q g =
-    let gone : in_turn (client_by w q) (component_rows w) (Some g.entry) ≡ None = ap (in_turn (client_by w q) (component_rows w)) (sym g.stood) ∙ sym (clients_are_processed w g.machine g.after q) ∙ g.gone in
+removed_by_absence : (w : World) (q : Name) → starts_with nat_eq q (codes "c/") ≡ true → Goes process_components w q → is_client_of_absent w q ≡ true
+removed_by_absence w q begins g =
+    let gone : in_turn (client_by w q) (component_rows w) (Some g.entry) ≡ None = ap (in_turn (client_by w q) (component_rows w)) (sym g.stood) ∙ sym (clients_are_processed w g.machine g.after q begins) ∙ g.gone in
     else_true (is_client_of_absent w q) (λ none. subst Stands gone
     (stays (client_by w q) (is_client_of w q) (λ (c : Numbered ComponentRow) n e. id_stands w c.row q c.row.component_id e n) (component_rows w) (Some g.entry) tt none))
 
@@ -101,4 +101,4 @@ others_keep = (
 )
 
 pub clients_go_by_absence : ClientsGoByAbsence
-clients_go_by_absence = record { removed = removed_by_absence; others = others_keep }
+clients_go_by_absence = record { removed = removed_by_absence; beside = others_are_kept; others = others_keep }

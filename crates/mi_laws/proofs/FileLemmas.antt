@@ -1,12 +1,11 @@
 -- Files go by rows alone.
 use Rattle.std.proofs.Common.{◌≡◌, Bool, true, false, cond, List, [], ◌∷◌, map, Option, Some, None, refl, sym, ap, subst, ◌∙◌}
-use Rattle.std.specs.Prelude.{◌&&◌, not, nat_eq, codes, option_map, Result, Ok}
+use Rattle.std.specs.Prelude.{◌&&◌, not, nat_eq, codes, option_map, Ok}
 use Rattle.std.specs.List.{list_any, starts_with, AllByRecursion}
 use Rattle.std.specs.Option.{option_or, option_flatten}
 use Rattle.std.specs.FinMap.{get}
 use Rattle.mi_text.specs.Maps.{Name, same_name}
 use Rattle.mi_text.specs.Fold.{folded}
-use Rattle.mi_base.specs.declared.answers.Fault.{Fault}
 use Rattle.mi_base.specs.declared.entry.Entry.{Entry}
 use Rattle.mi_base.specs.declared.entry.Entry.TheVariants as entry
 use Rattle.mi_base.specs.declared.entry.FileEntry.{FileEntry}
@@ -26,10 +25,10 @@ use Rattle.mi_model.specs.FileVersions.{is_written}
 use Rattle.mi_model.specs.InstallFiles.{Placed, all_placed, source_bytes, installed_file, installed_row, installed_rows, file_with_parents, install_files}
 use Rattle.mi_model.specs.DuplicateFiles.{copy_rows, duplicate_files, remove_duplicate_files}
 use Rattle.mi_model.specs.RemoveFiles.{remove_files}
-use Rattle.mi_model_laws.specs.PhaseLaws.{IsAfter, ChangesOnly}
+use Rattle.mi_model_laws.specs.PhaseLaws.{ChangesOnly}
 use Rattle.mi_model_laws.specs.FileLaws.{is_removed}
 use Rattle.mi_model_laws.specs.CopyLaws.{copied_entry, copied_to, AreCopiedBy, is_copy_of_leaving}
-use Rattle.mi_model_laws.specs.OnlyLaws.{shortcuts_and_folders}
+use Rattle.mi_model_laws.specs.OnlyLaws.{clients_and_counts, shortcuts_and_folders}
 use Rattle.mi_model_laws.proofs.OnlyLemmas.{phases_change_only}
 use Rattle.mi_model_laws.proofs.RowLemmas.{from_ok, bound, behind, with_first, unless_taken}
 use Rattle.mi_model_laws.proofs.RemoveLemmas.{entry_after_remove}
@@ -131,7 +130,7 @@ no_file_in fronts effect only none w m after path = only w m after (file_name pa
 others_keep : AllByRecursion KeepsFiles phases_but_files
 unfolding file_name
 others_keep = (
-  no_file_in (codes "c/" ∷ []) _ phases_change_only.clients (λ path. refl),
+  no_file_in clients_and_counts _ phases_change_only.clients_and_counts (λ path. refl),
   (
     no_file_in (codes "v" ∷ codes "k" ∷ []) _ phases_change_only.removed_values (λ path. refl),
     (

@@ -2,15 +2,13 @@
 use Rattle.std.proofs.Common.{◌≡◌, ℕ, Bool, true, false, ◌||◌, List, [], ◌∷◌, Option, Some, None, refl, sym, ap, ◌∙◌}
 use Rattle.std.specs.Prelude.{◌&&◌, nat_eq, codes}
 use Rattle.std.specs.List.{list_any, starts_with}
-use Rattle.std.specs.FinMap.{get}
 use Rattle.std.proofs.lemmas.Bool.{eqb-true}
 use Rattle.mi_text.specs.Maps.{Name}
 use Rattle.mi_base.specs.declared.entry.Entry.{Entry}
-use Rattle.mi_base.specs.Machine.{Machine}
 use Rattle.mi_base.specs.Names.{value_name}
 use Rattle.mi_model.specs.Texts.{Text}
-use Rattle.mi_model.specs.World.{World, Effect}
-use Rattle.mi_model_laws.specs.PhaseLaws.{IsAfter, in_turn, ChangesOnly}
+use Rattle.mi_model.specs.World.{Effect}
+use Rattle.mi_model_laws.specs.PhaseLaws.{in_turn, ChangesOnly}
 use Rattle.mi_laws.specs.ValueLaws.{KeepsValues}
 use Rattle.mi_laws.specs.ClientLaws.{KeepsClients}
 

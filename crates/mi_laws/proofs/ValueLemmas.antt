@@ -1,7 +1,8 @@
 -- Values go by rows alone.
 use Rattle.std.proofs.Common.{◌≡◌, ℕ, Bool, true, false, cond, ◌||◌, List, [], ◌∷◌, map, Option, Some, None, refl, sym, ap, subst, ◌∙◌}
-use Rattle.std.specs.Prelude.{◌&&◌, not, nat_eq, codes, option_map, Result, Ok, Err}
-use Rattle.std.specs.List.{list_any, starts_with, AllByRecursion}
+use Rattle.std.specs.Prelude.{◌+◌, ◌&&◌, not, min, nat_eq, codes, option_map, Result, Ok, Err}
+use Rattle.std.specs.Option.{option_map_or}
+use Rattle.std.specs.List.{starts_with, AllByRecursion}
 use Rattle.std.specs.Result.{result_ok}
 use Rattle.std.specs.Str.{bytes_eq}
 use Rattle.std.specs.FinMap.{get}
@@ -9,32 +10,45 @@ use Rattle.mi_text.specs.Maps.{Name, same_name}
 use Rattle.mi_text.proofs.MapLemmas.{from_same}
 use Rattle.mi_base.specs.declared.answers.Fault.{Fault}
 use Rattle.mi_base.specs.declared.entry.Entry.{Entry}
+use Rattle.mi_base.specs.declared.entry.Entry.TheVariants as entry
 use Rattle.mi_base.specs.declared.entry.RegValue.{RegValue}
+use Rattle.mi_base.specs.declared.entry.RegValue.TheVariants as value
 use Rattle.mi_base.specs.Machine.{Machine}
 use Rattle.mi_base.specs.Names.{value_name}
 use Rattle.mi_regval.specs.declared.error.ValueFault.{ValueFault}
 use Rattle.mi_regval.specs.Values.{value_of}
 use Rattle.mi_schema.specs.TableRows.{Numbered}
+use Rattle.mi_schema.specs.declared.typed_rows.ComponentRow.{ComponentRow}
 use Rattle.mi_schema.specs.declared.typed_rows.RegistryRow.{RegistryRow}
 use Rattle.mi_schema.specs.declared.typed_rows.RemoveRegistryRow.{RemoveRegistryRow}
 use Rattle.mi_changes.specs.Touches.{Touch, left_at, after_touches}
 use Rattle.mi_changes.proofs.TouchLemmas.{get-after_touches}
 use Rattle.mi_model.specs.Texts.{Text}
-use Rattle.mi_model.specs.World.{World}
-use Rattle.mi_model.specs.Asked.{lookups}
+use Rattle.mi_model.specs.World.{World, Action, MakeLocal, MakeAbsent}
+use Rattle.mi_model.specs.Asked.{leaves, lookups}
+use Rattle.mi_model.specs.States.{is_present}
+use Rattle.mi_model.specs.ComponentRows.{action_in}
+use Rattle.mi_model.specs.ClientRows.{recorded_path}
+use Rattle.mi_model.specs.SharedCounts.{count_name, count_entry, count_in, lowered}
+use Rattle.mi_model.specs.ProcessComponents.{process_components}
+use Rattle.mi_model.specs.Prune.{key_seat}
 use Rattle.mi_model.specs.Refusals.{unless}
 use Rattle.mi_model.specs.PhaseRows.{Touches, after_rows, by_rows}
 use Rattle.mi_model.specs.RegistryRows.{RegistryPlace, RegistryMeaning, Says, KeyAlone, Makes, Removes, MakesAndRemoves, Writes, name_of_value, removal_place, registry_meaning}
-use Rattle.mi_model.specs.RegistryGuards.{is_guarded_value, unguarded}
+use Rattle.mi_model.specs.RegistryGuards.{unguarded}
+use Rattle.mi_model.specs.CountRows.{is_guarded}
 use Rattle.mi_model.specs.WriteRegistryValues.{written_rows, old_value, value_entry, value_after, read_fault, written_fault, meaning_touches, value_fault, write_row, write_registry_values}
 use Rattle.mi_model.specs.RemoveRegistryValues.{leaving_rows, removal_rows, value_less, remove_registry_values}
+use Rattle.mi_model_laws.specs.PhaseLaws.{IsAfter, in_turn}
+use Rattle.mi_model_laws.specs.RecordLaws.{counted_components, count_of, count_by, is_count, leads_to_counts}
 use Rattle.mi_model_laws.specs.RegistryLaws.{goes_with, says_removed, removed_by, taken_by, says_written, written_by, values_after_remove}
 use Rattle.mi_model_laws.proofs.OnlyLemmas.{phases_change_only}
 use Rattle.mi_model_laws.specs.OnlyLaws.{files_and_folders, shortcuts_and_folders}
 use Rattle.mi_model_laws.proofs.RowLemmas.{from_ok, bound, unrefused, behind, with_first}
+use Rattle.mi_model_laws.proofs.CountLemmas.{counts_are_kept, others_are_kept}
 use Rattle.mi_model_laws.proofs.RemovalLemmas.{values_are_removed}
 use Rattle.mi_model_laws.proofs.WriteLemmas.{value_acts}
-use Rattle.mi_laws.specs.ValueLaws.{says_taken, is_taken_by, is_named_by_leaving, is_removed_by, is_named_by_removal, Goes, KeepsValues, other_phases, ValuesGoByRows}
+use Rattle.mi_laws.specs.ValueLaws.{says_taken, is_taken_by, is_named_by_leaving, is_removed_by, is_named_by_removal, Goes, KeepsValues, other_phases, is_count_of_leaving, ValuesGoByRows}
 use Rattle.mi_laws.proofs.StandLemmas.{Stands, what_stands, left_none, right_none, else_true, stays, no_value_in}
 
 -- ---- RemoveRegistryValues
@@ -72,7 +86,7 @@ unnamed_stands : (w : World) (q : Name) (e : Entry) → (is_named_by_leaving w q
 unnamed_stands w q e none =
     stays (λ (r : Numbered RemoveRegistryRow). taken_by q (removal_place (lookups w) r)) (λ r. is_removed_by q (removal_place (lookups w) r)) (λ r. removal_stands q (removal_place (lookups w) r))
     (removal_rows w) _
-    (stays (λ (r : Numbered RegistryRow). removed_by (is_guarded_value w) q (registry_meaning (lookups w) r)) (λ r. is_taken_by (is_guarded_value w) q (registry_meaning (lookups w) r)) (λ r. row_stands (is_guarded_value w) q (registry_meaning (lookups w) r))
+    (stays (λ (r : Numbered RegistryRow). removed_by (is_guarded w) q (registry_meaning (lookups w) r)) (λ r. is_taken_by (is_guarded w) q (registry_meaning (lookups w) r)) (λ r. row_stands (is_guarded w) q (registry_meaning (lookups w) r))
     (leaving_rows w) (Some e) tt (left_none (is_named_by_leaving w q) (is_named_by_removal w q) none))
     (right_none (is_named_by_leaving w q) (is_named_by_removal w q) none)
 
@@ -131,36 +145,97 @@ none_is_written_away w root key name g =
     subst Stands (ap (λ (m : Machine). get m q) (sym g.after.machine) ∙ g.gone)
     (rows_keep w root key name (written_rows w) w.machine g.after.rows g.after.touched (subst Stands (sym g.stood) tt))
 
+-- ---- ProcessComponents
+
+-- a value that is lowered stands
+lowered_stands : (e : Entry) → Stands (lowered (Some e))
+lowered_stands (entry.File f) = tt
+lowered_stands (entry.Folder path) = tt
+lowered_stands (entry.Value key (value.Text t)) = tt
+lowered_stands (entry.Value key (value.Expand t)) = tt
+lowered_stands (entry.Value key (value.Int n)) = tt
+lowered_stands (entry.Value key (value.Binary b)) = tt
+lowered_stands (entry.Value key (value.List items)) = tt
+lowered_stands (entry.Key root key) = tt
+lowered_stands (entry.Shortcut s) = tt
+lowered_stands (entry.Variable v) = tt
+lowered_stands (entry.Client c) = tt
+lowered_stands (entry.Product p) = tt
+lowered_stands (entry.System property value) = tt
+
+taken_stands : (w : World) (q : Name) (path : Text) (leaving : Bool) (e : Entry) → (leaving && same_name q (count_name path) && not (is_guarded w q)) ≡ false
+    → Stands (cond (same_name q (count_name path)) (cond leaving (cond (is_guarded w (count_name path)) (Some e) None) (lowered (Some e))) (Some e))
+taken_stands w q path leaving e none = elim (same_name q (count_name path)) as (λ b. same_name q (count_name path) ≡ b → (leaving && b && not (is_guarded w q)) ≡ false
+    → Stands (cond b (cond leaving (cond (is_guarded w (count_name path)) (Some e) None) (lowered (Some e))) (Some e))) [
+      | true ↦ λ same none. by leaving (is_guarded w (count_name path)) (ap (λ (n : Name). leaving && true && not (is_guarded w n)) (sym (from_same q (count_name path) same)) ∙ none)
+      | false ↦ λ same none. tt
+    ] refl none
+  where
+    by : (l g : Bool) → (l && true && not g) ≡ false → Stands (cond l (cond g (Some e) None) (lowered (Some e)))
+    by true true none = tt
+    by true false none = cc
+    by false g none = lowered_stands e
+
+raised_stands : (same present : Bool) (x e : Entry) → Stands (cond same (cond present (Some e) (Some x)) (Some e))
+raised_stands true true x e = tt
+raised_stands true false x e = tt
+raised_stands false present x e = tt
+
+count_stands : (w : World) (q : Name) (c : ComponentRow) (r : Result Text Fault) (action : Option Action) (e : Entry)
+    → (leaves w c.component && option_map_or (λ path. same_name q (count_name path)) (result_ok r) false && not (is_guarded w q)) ≡ false
+    → Stands (option_map_or (λ (a : Action). count_of w c q a r (Some e)) action (Some e))
+count_stands w q c r None e none = tt
+count_stands w q c (Err fault) (Some a) e none = tt
+count_stands w q c (Ok path) (Some MakeLocal) e none = raised_stands (same_name q (count_name path)) (is_present w.given c) (count_entry path (min (count_in (Some e) + 1) 4294967295)) e
+count_stands w q c (Ok path) (Some MakeAbsent) e none = taken_stands w q path (leaves w c.component) e none
+
+counted_by_leaving : (w : World) (root : ℕ) (key name : Text) → Goes process_components w (value_name root key name) → is_count_of_leaving w (value_name root key name) ≡ true
+counted_by_leaving w root key name g =
+    let q = value_name root key name in
+    let gone : in_turn (count_by w q) (counted_components w) (Some g.entry) ≡ None =
+    ap (in_turn (count_by w q) (counted_components w)) (sym g.stood) ∙ sym (counts_are_kept w g.machine g.after root key name) ∙ g.gone in
+    else_true (is_count_of_leaving w q) (λ none. subst Stands gone
+    (stays (count_by w q) (λ (c : Numbered ComponentRow). leaves w c.row.component && option_map_or (λ path. same_name q (count_name path)) (result_ok (recorded_path w c.row)) false && not (is_guarded w q))
+    (λ (c : Numbered ComponentRow) n e. count_stands w q c.row (recorded_path w c.row) (action_in w c.row.component) e n) (counted_components w) (Some g.entry) tt none))
+
+value_is_no_client : (root : ℕ) (key name : Text) → starts_with nat_eq (value_name root key name) (codes "c/") ≡ false
+unfolding value_name
+value_is_no_client root key name = refl
+
+leads_nowhere : (root : ℕ) (key name : Text) → leads_to_counts (key_seat (value_name root key name)) ≡ false
+unfolding value_name
+leads_nowhere root key name = refl
+
+uncounted_stays : (w : World) (m : Machine) → IsAfter process_components w m → (root : ℕ) (key name : Text) → is_count w (value_name root key name) ≡ false → get m (value_name root key name) ≡ get w.machine (value_name root key name)
+uncounted_stays w m after root key name none = others_are_kept w m after (value_name root key name) (value_is_no_client root key name) none (leads_nowhere root key name)
+
 -- ---- the other phases
 
 others_keep : AllByRecursion KeepsValues other_phases
 unfolding value_name
 others_keep = (
-  no_value_in (codes "c/" ∷ []) _ phases_change_only.clients (λ root key name. refl),
+  no_value_in shortcuts_and_folders _ phases_change_only.removed_shortcuts (λ root key name. refl),
   (
-    no_value_in shortcuts_and_folders _ phases_change_only.removed_shortcuts (λ root key name. refl),
+    no_value_in (codes "n/" ∷ []) _ phases_change_only.removed_variables (λ root key name. refl),
     (
-      no_value_in (codes "n/" ∷ []) _ phases_change_only.removed_variables (λ root key name. refl),
+      no_value_in files_and_folders _ phases_change_only.removed_copies (λ root key name. refl),
       (
-        no_value_in files_and_folders _ phases_change_only.removed_copies (λ root key name. refl),
+        no_value_in files_and_folders _ phases_change_only.removed_files (λ root key name. refl),
         (
-          no_value_in files_and_folders _ phases_change_only.removed_files (λ root key name. refl),
+          no_value_in (codes "d/" ∷ []) _ phases_change_only.removed_folders (λ root key name. refl),
           (
-            no_value_in (codes "d/" ∷ []) _ phases_change_only.removed_folders (λ root key name. refl),
+            no_value_in (codes "d/" ∷ []) _ phases_change_only.created_folders (λ root key name. refl),
             (
-              no_value_in (codes "d/" ∷ []) _ phases_change_only.created_folders (λ root key name. refl),
+              no_value_in files_and_folders _ phases_change_only.installed_files (λ root key name. refl),
               (
-                no_value_in files_and_folders _ phases_change_only.installed_files (λ root key name. refl),
+                no_value_in files_and_folders _ phases_change_only.copied_files (λ root key name. refl),
                 (
-                  no_value_in files_and_folders _ phases_change_only.copied_files (λ root key name. refl),
+                  no_value_in shortcuts_and_folders _ phases_change_only.created_shortcuts (λ root key name. refl),
                   (
-                    no_value_in shortcuts_and_folders _ phases_change_only.created_shortcuts (λ root key name. refl),
+                    no_value_in (codes "n/" ∷ []) _ phases_change_only.written_variables (λ root key name. refl),
                     (
-                      no_value_in (codes "n/" ∷ []) _ phases_change_only.written_variables (λ root key name. refl),
-                      (
-                        no_value_in (codes "p/" ∷ []) _ phases_change_only.product (λ root key name. refl),
-                        tt,
-                      ),
+                      no_value_in (codes "p/" ∷ []) _ phases_change_only.product (λ root key name. refl),
+                      tt,
                     ),
                   ),
                 ),
@@ -174,4 +249,4 @@ others_keep = (
 )
 
 pub values_go_by_rows : ValuesGoByRows
-values_go_by_rows = record { removed = removed_by_rows; written = none_is_written_away; others = others_keep }
+values_go_by_rows = record { removed = removed_by_rows; written = none_is_written_away; counted = counted_by_leaving; uncounted = uncounted_stays; others = others_keep }

@@ -1,5 +1,5 @@
 -- Which client rows go, and by which components. (ProcessComponents Action; Component Table.)
-use Rattle.std.specs.Prelude.{◌≡◌, ◌&&◌, not, Bool, true, false, List, [], ◌∷◌, nat_eq, codes, Option, Some, None}
+use Rattle.std.specs.Prelude.{◌≡◌, ◌&&◌, Bool, true, false, List, [], ◌∷◌, nat_eq, codes}
 use Rattle.std.specs.List.{list_any, starts_with, AllByRecursion}
 use Rattle.std.specs.Option.{option_map_or}
 use Rattle.std.specs.FinMap.{get}
@@ -9,9 +9,10 @@ use Rattle.mi_base.specs.Machine.{Machine}
 use Rattle.mi_base.specs.Names.{client_name}
 use Rattle.mi_schema.specs.TableRows.{Numbered, product_code}
 use Rattle.mi_schema.specs.declared.typed_rows.ComponentRow.{ComponentRow}
-use Rattle.mi_model.specs.World.{World, Effect, Action, MakeLocal, MakeAbsent}
+use Rattle.mi_model.specs.World.{World, Effect}
 use Rattle.mi_model.specs.ComponentRows.{action_in}
 use Rattle.mi_model.specs.Components.{is_made_absent}
+use Rattle.mi_model.specs.Prune.{key_seat}
 use Rattle.mi_model.specs.ProcessComponents.{process_components}
 use Rattle.mi_model.specs.WriteRegistryValues.{write_registry_values}
 use Rattle.mi_model.specs.RemoveRegistryValues.{remove_registry_values}
@@ -24,7 +25,7 @@ use Rattle.mi_model.specs.InstallFiles.{install_files}
 use Rattle.mi_model.specs.WriteEnvironmentStrings.{write_environment_strings}
 use Rattle.mi_model.specs.PublishProduct.{publish_product}
 use Rattle.mi_model_laws.specs.PhaseLaws.{IsAfter}
-use Rattle.mi_model_laws.specs.RecordLaws.{component_rows}
+use Rattle.mi_model_laws.specs.RecordLaws.{component_rows, is_count, leads_to_counts}
 use Rattle.mi_laws.specs.ValueLaws.{Goes}
 
 -- the row of this product for the id of a component that is made Absent
@@ -56,6 +57,8 @@ phases_but_clients =
     ∷ []
 
 pub record ClientsGoByAbsence : Type 0 where
-  -- what ProcessComponents takes away is the row of this product for a component that is made Absent
-  pub removed : (w : World) (q : Name) → Goes process_components w q → is_client_of_absent w q ≡ true
+  -- a client row that ProcessComponents takes away is the one of this product for a component that is made Absent
+  pub removed : (w : World) (q : Name) → starts_with nat_eq q (codes "c/") ≡ true → Goes process_components w q → is_client_of_absent w q ≡ true
+  -- beside rows of clients it changes counts of components, and keys on the way to the counts
+  pub beside : (w : World) (m : Machine) → IsAfter process_components w m → (q : Name) → starts_with nat_eq q (codes "c/") ≡ false → is_count w q ≡ false → leads_to_counts (key_seat q) ≡ false → get m q ≡ get w.machine q
   pub others : AllByRecursion KeepsClients phases_but_clients

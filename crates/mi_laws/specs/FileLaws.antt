@@ -1,5 +1,5 @@
 -- Which files go, and by which rows. (RemoveFiles Action; File Table; RemoveFile Table; RemoveDuplicateFiles Action; DuplicateFile Table.)
-use Rattle.std.specs.Prelude.{◌≡◌, ◌&&◌, not, Bool, true, List, [], ◌∷◌}
+use Rattle.std.specs.Prelude.{◌≡◌, ◌&&◌, not, true, List, [], ◌∷◌}
 use Rattle.std.specs.List.{AllByRecursion}
 use Rattle.std.specs.FinMap.{get}
 use Rattle.mi_base.specs.Machine.{Machine}

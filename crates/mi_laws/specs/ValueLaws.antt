@@ -1,6 +1,9 @@
--- Which values of the registry go, and by which rows. (RemoveRegistryValues Action; Registry Table; RemoveRegistry Table.)
-use Rattle.std.specs.Prelude.{◌≡◌, ℕ, Bool, true, false, not, ◌&&◌, ◌||◌, if◌then◌else◌, List, [], ◌∷◌, codes, Option, Some, None, Result, Ok, Err}
+-- Which values of the registry go, and by which rows. (RemoveRegistryValues Action; Registry Table; RemoveRegistry Table;
+-- ProcessComponents Action; Component Table, Attributes, msidbComponentAttributesSharedDllRefCount.)
+use Rattle.std.specs.Prelude.{◌≡◌, ℕ, Bool, true, false, not, ◌&&◌, ◌||◌, if◌then◌else◌, List, [], ◌∷◌, codes, Some, None, Result, Ok, Err}
 use Rattle.std.specs.List.{list_any, AllByRecursion}
+use Rattle.std.specs.Option.{option_map_or}
+use Rattle.std.specs.Result.{result_ok}
 use Rattle.std.specs.Str.{bytes_eq}
 use Rattle.std.specs.FinMap.{get}
 use Rattle.mi_text.specs.Maps.{Name, same_name}
@@ -8,11 +11,16 @@ use Rattle.mi_base.specs.declared.entry.Entry.{Entry}
 use Rattle.mi_base.specs.declared.answers.Fault.{Fault}
 use Rattle.mi_base.specs.Machine.{Machine}
 use Rattle.mi_base.specs.Names.{value_name}
+use Rattle.mi_schema.specs.TableRows.{Numbered}
+use Rattle.mi_schema.specs.declared.typed_rows.ComponentRow.{ComponentRow}
 use Rattle.mi_model.specs.Texts.{Text}
 use Rattle.mi_model.specs.World.{World, Effect}
-use Rattle.mi_model.specs.Asked.{lookups}
+use Rattle.mi_model.specs.Asked.{leaves, lookups}
+use Rattle.mi_model.specs.ClientRows.{recorded_path}
+use Rattle.mi_model.specs.SharedCounts.{count_name}
 use Rattle.mi_model.specs.RegistryRows.{RegistryPlace, RegistryMeaning, Says, KeyAlone, Makes, Removes, MakesAndRemoves, Writes, name_of_value, removal_place, registry_meaning}
-use Rattle.mi_model.specs.RegistryGuards.{is_guarded_value, unguarded}
+use Rattle.mi_model.specs.RegistryGuards.{unguarded}
+use Rattle.mi_model.specs.CountRows.{is_guarded}
 use Rattle.mi_model.specs.WriteRegistryValues.{write_registry_values}
 use Rattle.mi_model.specs.RemoveRegistryValues.{leaving_rows, removal_rows, remove_registry_values}
 use Rattle.mi_model.specs.ProcessComponents.{process_components}
@@ -26,6 +34,7 @@ use Rattle.mi_model.specs.WriteEnvironmentStrings.{write_environment_strings}
 use Rattle.mi_model.specs.PublishProduct.{publish_product}
 use Rattle.mi_model_laws.specs.PhaseLaws.{IsAfter}
 use Rattle.mi_model_laws.specs.RegistryLaws.{goes_with}
+use Rattle.mi_model_laws.specs.RecordLaws.{counted_components, is_count}
 
 -- ---- rows that name a value
 
@@ -43,7 +52,7 @@ is_taken_by guarded q (Err fault) = false
 
 -- a row of Registry of a leaving component names it
 abbrev pub is_named_by_leaving : World → Name → Bool
-is_named_by_leaving w q = list_any (λ r. is_taken_by (is_guarded_value w) q (registry_meaning (lookups w) r)) (leaving_rows w)
+is_named_by_leaving w q = list_any (λ r. is_taken_by (is_guarded w) q (registry_meaning (lookups w) r)) (leaving_rows w)
 
 abbrev pub is_removed_by : Name → Result RegistryPlace Fault → Bool
 is_removed_by q (Ok p) = if bytes_eq p.name (codes "-") then goes_with unguarded p q else same_name q (name_of_value p)
@@ -52,6 +61,13 @@ is_removed_by q (Err fault) = false
 -- a row of RemoveRegistry of a component that is made local names it
 abbrev pub is_named_by_removal : World → Name → Bool
 is_named_by_removal w q = list_any (λ r. is_removed_by q (removal_place (lookups w) r)) (removal_rows w)
+
+-- ---- counts
+
+-- the count of a component's file is a row of it: one that leaves takes it, where nothing guards it
+abbrev pub is_count_of_leaving : World → Name → Bool
+is_count_of_leaving w q =
+    list_any (λ (c : Numbered ComponentRow). leaves w c.row.component && option_map_or (λ path. same_name q (count_name path)) (result_ok (recorded_path w c.row)) false && not (is_guarded w q)) (counted_components w)
 
 -- ---- the law
 
@@ -67,11 +83,10 @@ pub record Goes (effect : Effect) (w : World) (q : Name) : Type 0 where
 abbrev pub KeepsValues : Effect → Type 0
 KeepsValues effect = (w : World) (m : Machine) → IsAfter effect w m → (root : ℕ) (key name : Text) → get m (value_name root key name) ≡ get w.machine (value_name root key name)
 
--- the phases but those of the registry
+-- the phases but those of the registry and ProcessComponents
 abbrev pub other_phases : List Effect
 other_phases =
-    process_components
-    ∷ remove_shortcuts
+    remove_shortcuts
     ∷ remove_environment_strings
     ∷ remove_duplicate_files
     ∷ remove_files
@@ -89,4 +104,8 @@ pub record ValuesGoByRows : Type 0 where
   pub removed : (w : World) (root : ℕ) (key name : Text) → Goes remove_registry_values w (value_name root key name) → (is_named_by_leaving w (value_name root key name) || is_named_by_removal w (value_name root key name)) ≡ true
   -- WriteRegistryValues takes none
   pub written : (w : World) (root : ℕ) (key name : Text) → ¬ Goes write_registry_values w (value_name root key name)
+  -- one that ProcessComponents takes is the count of a leaving component
+  pub counted : (w : World) (root : ℕ) (key name : Text) → Goes process_components w (value_name root key name) → is_count_of_leaving w (value_name root key name) ≡ true
+  -- and it leaves as it was what is the count of no component
+  pub uncounted : (w : World) (m : Machine) → IsAfter process_components w m → (root : ℕ) (key name : Text) → is_count w (value_name root key name) ≡ false → get m (value_name root key name) ≡ get w.machine (value_name root key name)
   pub others : AllByRecursion KeepsValues other_phases

@@ -63,9 +63,10 @@ is_made_absent other = false
 abbrev pub is_coming : ComponentRow → Option Action → Bool → Bool
 is_coming c action key_path_there = is_made_local action && not (has 128 c.attributes && key_path_there)
 
--- what it brought is taken away: it is absent, isn't permanent (attribute 16), and no other product and not the system is its client
-abbrev pub is_leaving : ComponentRow → Option Action → Bool → Bool
-is_leaving c action other_client = is_made_absent action && not (has 16 c.attributes) && not other_client
+-- what it brought is taken away: it is absent, isn't permanent (attribute 16), no other product and not the system is its client, and
+-- by its count no others hold its file
+abbrev pub is_leaving : ComponentRow → Option Action → Bool → Bool → Bool
+is_leaving c action other_client other_count = is_made_absent action && not (has 16 c.attributes) && not other_client && not other_count
 
 -- what it brought stays: it is local, or there and not leaving
 abbrev pub is_kept : Option Action → Bool → Bool → Bool

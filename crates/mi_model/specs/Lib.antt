@@ -1,10 +1,12 @@
 pub mod Asked
 pub mod Assignments
 pub mod Causes
+pub mod ClientRows
 pub mod ComponentRows
 pub mod Components
 pub mod Conditions
 pub mod Cost
+pub mod CountRows
 pub mod DuplicateFiles
 pub mod EnvironmentRows
 pub mod FeatureLists
@@ -45,6 +47,7 @@ pub mod Selecting
 pub mod Selftest
 pub mod Sequence
 pub mod Settings
+pub mod SharedCounts
 pub mod Shortcuts
 pub mod StatedSizes
 pub mod States

@@ -20,7 +20,8 @@ use Rattle.mi_changes.specs.Touches.{Touch, Set}
 use Rattle.mi_model.specs.Asked.{leaves, lookups}
 use Rattle.mi_model.specs.Refusals.{◌>>=◌}
 use Rattle.mi_model.specs.RegistryRows.{RegistryPlace, RegistryMeaning, Says, KeyAlone, Makes, Removes, MakesAndRemoves, Writes, name_of_value, registry_place, removal_place, registry_meaning}
-use Rattle.mi_model.specs.RegistryGuards.{is_guarded_value, unguarded, takes_key, place_of_key, prune_keys}
+use Rattle.mi_model.specs.RegistryGuards.{unguarded, takes_key, place_of_key, prune_keys}
+use Rattle.mi_model.specs.CountRows.{is_guarded}
 use Rattle.mi_model.specs.ComponentRows.{is_local, rows_that}
 use Rattle.mi_regval.specs.ListTexts.{added_items}
 use Rattle.mi_model.specs.ListItems.{without_items}
@@ -63,7 +64,7 @@ abbrev pub removed_touches : (Name → Bool) → RegistryMeaning → List Name �
 removed_touches guarded r held = taken_at guarded r.place held r.says
 
 unfoldable pub remove_row : World → Numbered RegistryRow → RowEffect
-remove_row w r m = registry_meaning (lookups w) r >>= λ meaning. Ok (removed_touches (is_guarded_value w) meaning (keys m))
+remove_row w r m = registry_meaning (lookups w) r >>= λ meaning. Ok (removed_touches (is_guarded w) meaning (keys m))
 
 -- ---- the rows of RemoveRegistry of local components, which nothing guards
 

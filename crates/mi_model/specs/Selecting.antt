@@ -24,6 +24,7 @@ use Rattle.mi_model.specs.FeatureLists.{lists_fault}
 use Rattle.mi_model.specs.Features.{request_of, is_local_after}
 use Rattle.mi_model.specs.KeyPaths.{KeyPath, key_path_text, is_there, key_path_of}
 use Rattle.mi_model.specs.Components.{action_of, has_other_client, is_coming, is_leaving, is_kept}
+use Rattle.mi_model.specs.SharedCounts.{has_other_count}
 
 -- ---- the settings
 
@@ -76,7 +77,7 @@ module _ (g : Given) (L : Lookups) (dirs : List Place) where
   comes_in level c = is_coming c (component_action level c) (holds_there (key_path c))
 
   abbrev pub leaves_in : ℕ → ComponentRow → Bool
-  leaves_in level c = is_leaving c (component_action level c) (has_other_client g.former (product_code g.rows) c.component_id)
+  leaves_in level c = is_leaving c (component_action level c) (has_other_client g.former (product_code g.rows) c.component_id) (has_other_count g.rows g.former c (key_path c))
 
   abbrev pub keeps_in : ℕ → ComponentRow → Bool
   keeps_in level c = is_kept (component_action level c) (is_present g c) (leaves_in level c)

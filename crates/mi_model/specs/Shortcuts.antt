@@ -22,7 +22,7 @@ use Rattle.mi_text.specs.FileNames.{long_name}
 use Rattle.mi_model.specs.Refusals.{◌>>=◌, expanded, expanded_or_empty, size_fault, unless}
 use Rattle.mi_model.specs.Parents.{parents_of_path}
 use Rattle.mi_model.specs.ComponentRows.{rows_that, is_guarded_by}
-use Rattle.mi_model.specs.ProcessComponents.{recorded_path}
+use Rattle.mi_model.specs.ClientRows.{recorded_path}
 use Rattle.mi_model.specs.Prune.{prune_folders}
 
 abbrev pub shortcut_table : Text

@@ -1,12 +1,14 @@
--- The clients that ProcessComponents leaves, and the product that PublishProduct leaves.
-use Rattle.std.proofs.Common.{◌≡◌, true, false, cond, List, [], ◌∷◌, map, Option, Some, None, refl, sym, ap, ◌∙◌}
-use Rattle.std.specs.Prelude.{◌&&◌, Ok}
+-- What a component makes of clients, and the product that PublishProduct leaves.
+use Rattle.std.proofs.Common.{◌≡◌, Bool, true, false, cond, List, [], ◌∷◌, map, Option, Some, None, refl, sym, ap, ◌∙◌}
+use Rattle.std.specs.Prelude.{◌&&◌, nat_eq, codes, Result, Ok, Err}
+use Rattle.std.specs.List.{starts_with}
 use Rattle.std.specs.Option.{option_map_or}
 use Rattle.std.specs.FinMap.{get}
 use Rattle.mi_text.specs.Maps.{Name, same_name}
 use Rattle.mi_text.proofs.MapLemmas.{same_itself}
 use Rattle.mi_text.specs.declared.guid.Guid.{Guid}
 use Rattle.mi_base.specs.declared.entry.Entry.{Entry}
+use Rattle.mi_base.specs.declared.answers.Fault.{Fault}
 use Rattle.mi_base.specs.Machine.{Machine}
 use Rattle.mi_base.specs.Names.{client_name, product_name}
 use Rattle.mi_schema.specs.TableRows.{Numbered, product_code}
@@ -18,11 +20,12 @@ use Rattle.mi_model.specs.Asked.{chosen}
 use Rattle.mi_model.specs.Conditions.{has}
 use Rattle.mi_model.specs.ComponentRows.{action_in}
 use Rattle.mi_model.specs.PhaseRows.{Touches}
-use Rattle.mi_model.specs.ProcessComponents.{recorded_path, the_system, client, client_touch, client_touches, of_id, component_touches, process_components}
+use Rattle.mi_model.specs.ClientRows.{recorded_path, the_system, client, client_touch, client_touches, of_id, component_touches}
 use Rattle.mi_model.specs.PublishProduct.{product_after, publish_product}
-use Rattle.mi_model_laws.specs.PhaseLaws.{IsAfter, in_turn}
-use Rattle.mi_model_laws.specs.RecordLaws.{client_made, client_after, client_by, component_rows}
-use Rattle.mi_model_laws.proofs.RowLemmas.{from_ok, bound, Acts, get-in_turn, get-after_rows, left_by_rows}
+use Rattle.mi_model_laws.specs.PhaseLaws.{IsAfter}
+use Rattle.mi_model_laws.specs.RecordLaws.{client_made, client_after, client_by}
+use Rattle.mi_model_laws.proofs.RowLemmas.{from_ok, bound, Acts, get-after_rows, left_by_rows}
+use Rattle.mi_model_laws.proofs.NameLemmas.{no_client, unless_named}
 
 -- ---- clients
 
@@ -51,14 +54,31 @@ by_id : (w : World) (c : ComponentRow) (q : Name) (id : Option Guid) (ts : List 
 by_id w c q None ts old e = ap (λ (ts : List (Touch Entry)). left_at q ts old) (sym (from_ok [] ts e))
 by_id w c q (Some id) ts old e = by_action w c id q (action_in w c.component) ts old e
 
-component_acts : (w : World) (q : Name) (c : Numbered ComponentRow) → Acts q (λ m. component_touches w c.row) (client_by w q c)
+pub component_acts : (w : World) (q : Name) (c : Numbered ComponentRow) → Acts q (λ m. component_touches w c.row) (client_by w q c)
 unfolding component_touches
 component_acts w q c m ts e old = by_id w c.row q c.row.component_id ts old e
 
-pub clients_are_processed : (w : World) (m : Machine) → IsAfter process_components w m → (q : Name) → get m q ≡ in_turn (client_by w q) (component_rows w) (get w.machine q)
-unfolding process_components
-clients_are_processed w m after q =
-    ap (λ n. get n q) after.machine ∙ get-in_turn q (λ c m. component_touches w c.row) (client_by w q) (component_rows w) w.machine after.rows (component_acts w q) after.touched
+pub client_elsewhere : (w : World) (q : Name) → starts_with nat_eq q (codes "c/") ≡ false → (c : Numbered ComponentRow) (old : Option Entry) → client_by w q c old ≡ old
+client_elsewhere w q isnt c old = by_id c.row.component_id
+  where
+    by_path : (id : Guid) (r : Result Text Fault) → client_made w c.row id q r old ≡ old
+    by_path id (Err fault) = refl
+    by_path id (Ok path) =
+        unless_named (has 16 c.row.attributes && same_name q (client_name id.number the_system)) _ _ (none_of (has 16 c.row.attributes) (same_name q (client_name id.number the_system)) (no_client q isnt id.number the_system))
+        ∙ unless_named (same_name q (client_name id.number (product_code w.given.rows))) old _ (no_client q isnt id.number (product_code w.given.rows))
+      where
+        none_of : (a b : Bool) → b ≡ false → (a && b) ≡ false
+        none_of true b e = e
+        none_of false b e = refl
+
+    by_action : (id : Guid) (action : Option Action) → client_after w c.row id q action old ≡ old
+    by_action id (Some MakeLocal) = by_path id (recorded_path w c.row)
+    by_action id (Some MakeAbsent) = unless_named (same_name q (client_name id.number (product_code w.given.rows))) old None (no_client q isnt id.number (product_code w.given.rows))
+    by_action id None = refl
+
+    by_id : (id : Option Guid) → option_map_or (λ (id : Guid). client_after w c.row id q (action_in w c.row.component) old) id old ≡ old
+    by_id None = refl
+    by_id (Some id) = by_action id (action_in w c.row.component)
 
 -- ---- the product
 

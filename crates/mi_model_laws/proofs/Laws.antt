@@ -9,7 +9,8 @@ use Rattle.mi_model_laws.specs.WalkLaws.{WalkTouches}
 use Rattle.mi_model_laws.proofs.WalkLemmas.{walks_over, touches_are_left, refused_on}
 use Rattle.mi_model_laws.proofs.WriteLemmas.{values_are_written, keys_are_made}
 use Rattle.mi_model_laws.proofs.RemovalLemmas.{values_are_removed, keys_are_pruned}
-use Rattle.mi_model_laws.proofs.ClientLemmas.{clients_are_processed, product_is_published, others_stay}
+use Rattle.mi_model_laws.proofs.ClientLemmas.{product_is_published, others_stay}
+use Rattle.mi_model_laws.proofs.CountLemmas.{clients_are_processed, counts_are_kept, keys_are_made_and_pruned, others_are_kept, nothing_is_counted}
 use Rattle.mi_model_laws.proofs.ShortcutLemmas as shortcut
 use Rattle.mi_model_laws.proofs.ShortcutLemmas.{shortcuts_are_created, shortcuts_are_removed}
 use Rattle.mi_model_laws.proofs.VariableLemmas.{variables_are_written, variables_are_removed}
@@ -28,7 +29,7 @@ pub remove_registry_values : RemovesValues
 remove_registry_values = record { values = values_are_removed; keys = keys_are_pruned }
 
 pub process_components : ProcessesComponents
-process_components = record { clients = clients_are_processed }
+process_components = record { clients = clients_are_processed; counts = counts_are_kept; keys = keys_are_made_and_pruned; others = others_are_kept; uncounted = nothing_is_counted }
 
 pub publish_product : PublishesProduct
 publish_product = record { product = product_is_published; others = others_stay }

@@ -1,9 +1,11 @@
 pub mod ClientLemmas
 pub mod CompanionLemmas
 pub mod CopyLemmas
+pub mod CountLemmas
 pub mod FolderLemmas
 pub mod InstallLemmas
 pub mod Laws
+pub mod NameLemmas
 pub mod OnlyLemmas
 pub mod OutcomeLemmas
 pub mod ParentLemmas

@@ -1,33 +1,32 @@
 -- Which names a phase changes: all others are as before.
 use Rattle.std.proofs.Common.{Some, ◌≡◌, Bool, true, false, cond, ◌||◌, List, [], ◌∷◌, Option, None, refl, sym, ap, ◌∙◌, map, ◌++◌}
-use Rattle.std.proofs.lemmas.Bool.{eq-eqb, eqb-true}
-use Rattle.std.specs.Prelude.{drop, ℕ, ◌&&◌, nat_eq, codes, Ok, Err, not, option_map, Result}
+use Rattle.std.specs.Prelude.{drop, ◌&&◌, nat_eq, codes, Ok, Err, not, option_map, Result}
 use Rattle.std.specs.List.{starts_with}
 use Rattle.std.specs.Str.{bytes_eq}
 use Rattle.std.specs.FinMap.{get, keys}
 use Rattle.mi_text.specs.Maps.{Name, same_name}
-use Rattle.mi_text.proofs.MapLemmas.{from_same}
 use Rattle.mi_base.specs.declared.entry.Entry.{Entry}
-use Rattle.mi_base.specs.Names.{folder_name, key_name, value_name, file_name, shortcut_name, client_name, product_name, variable_name}
+use Rattle.mi_base.specs.Names.{file_name, shortcut_name, product_name, variable_name}
 use Rattle.mi_schema.specs.TableRows.{Numbered, product_code}
 use Rattle.mi_schema.specs.declared.typed_rows.RegistryRow.{RegistryRow}
 use Rattle.mi_schema.specs.declared.typed_rows.RemoveRegistryRow.{RemoveRegistryRow}
 use Rattle.mi_changes.specs.Touches.{Touch, Set, Clear, left_at}
 use Rattle.mi_model.specs.Texts.{Text}
-use Rattle.mi_model.specs.World.{World, RowEffect, Action, MakeLocal, MakeAbsent}
+use Rattle.mi_model.specs.World.{World, RowEffect}
 use Rattle.mi_model.specs.Asked.{lookups, leaves, comes}
 use Rattle.mi_model.specs.Refusals.{unless, ◌>>=◌}
 use Rattle.mi_model.specs.PhaseRows.{after_rows, Touches, by_rows}
-use Rattle.mi_model.specs.Prune.{Path, Seat, Apart, goes, seat_goes, key_seat, prune_folders}
+use Rattle.mi_model.specs.Prune.{Path, Apart, goes, key_seat, prune_folders}
 use Rattle.mi_model.specs.RegistryRows.{RegistryPlace, Says, KeyAlone, Makes, Removes, MakesAndRemoves, Writes, name_of_value, removal_place, registry_meaning}
-use Rattle.mi_model.specs.RegistryGuards.{is_guarded_value, unguarded, seat_goes_with_key, goes_with_key, place_of_key, kept_keys}
+use Rattle.mi_model.specs.RegistryGuards.{unguarded, seat_goes_with_key, goes_with_key, place_of_key, kept_keys}
 use Rattle.mi_model.specs.WriteRegistryValues.{written_rows, value_after, place_touches, meaning_touches, value_fault, write_row, write_registry_values}
+use Rattle.mi_model.specs.CountRows.{is_guarded}
 use Rattle.mi_model.specs.RemoveRegistryValues.{leaving_rows, removal_rows, value_less, taken_at, removed_touches, removal_touches, touched_keys, remove_row, removal_row, remove_registry_values}
 use Rattle.mi_text.specs.Fold.{folded}
 use Rattle.mi_base.specs.Machine.{Machine, file_at}
 use Rattle.mi_schema.specs.declared.typed_rows.DuplicateFileRow.{DuplicateFileRow}
 use Rattle.mi_schema.specs.declared.typed_rows.RemoveFileRow.{RemoveFileRow}
-use Rattle.mi_model.specs.ComponentRows.{is_local, action_in}
+use Rattle.mi_model.specs.ComponentRows.{is_local}
 use Rattle.mi_model.specs.Shortcuts.{shortcut_path, created_touches, create_shortcuts, is_guarded_shortcut, removed_shortcut, leaving_shortcuts, remove_shortcuts}
 use Rattle.mi_model.specs.FilePaths.{path_of_row, right_path, is_guarded_file, copy_path, original_path}
 use Rattle.mi_model.specs.RemoveFiles.{folder_of_row as folder_of_file_row, lies_in, leaving_files, rows_in_force, remove_files}
@@ -35,11 +34,11 @@ use Rattle.mi_model.specs.FileVersions.{is_written}
 use Rattle.mi_model.specs.InstallFiles.{Placed, all_placed, installed_row, installed_rows, installed_file, source_bytes, file_with_parents, install_files}
 use Rattle.mi_model.specs.DuplicateFiles.{copy_rows, with_path, copied_row, copies, copied_file, duplicate_files, removed_copy, remove_duplicate_files}
 use Rattle.mi_model_laws.specs.PhaseLaws.{in_turn, ChangesOnly}
-use Rattle.mi_model_laws.specs.RecordLaws.{coming_shortcuts, client_made, client_after, client_by, component_rows, variable_by, coming_variables, variable_less_by}
+use Rattle.mi_model_laws.specs.RecordLaws.{coming_shortcuts, variable_by, coming_variables, variable_less_by}
 use Rattle.mi_model_laws.specs.FileLaws.{is_matched_by}
 use Rattle.mi_model_laws.specs.FolderLaws.{leaving_folders}
 use Rattle.mi_model_laws.proofs.RowLemmas.{unless_taken, from_ok, bound, unrefused, Acts, get-in_turn, alone, unless_guarded, pruned_last}
-use Rattle.mi_model_laws.proofs.ParentLemmas.{set_in_folder, IsNoFolder, IsNoKey, keys_elsewhere, set_in_key, folders_elsewhere}
+use Rattle.mi_model_laws.proofs.ParentLemmas.{set_in_folder, IsNoKey, keys_elsewhere, set_in_key, folders_elsewhere}
 use Rattle.mi_model_laws.proofs.FolderLemmas.{what_prunes, pruning_stays}
 use Rattle.mi_model_laws.proofs.ShortcutLemmas.{made_of, taken, removed_at}
 use Rattle.mi_model_laws.proofs.RemoveLemmas.{file_step, pattern_step, rows_of_files, rows_of_patterns, rows_leave, unchanged}
@@ -57,51 +56,19 @@ use Rattle.mi_model.specs.Folders.{folder_rows, folder_of_row, made_folder, crea
 use Rattle.mi_schema.specs.declared.typed_rows.CreateFolderRow.{CreateFolderRow}
 use Rattle.mi_text.specs.FileNames.{long_name}
 use Rattle.mi_model.specs.Patterns.{has_pattern}
-use Rattle.mi_text.specs.declared.guid.Guid.{Guid}
-use Rattle.mi_schema.specs.declared.typed_rows.ComponentRow.{ComponentRow}
-use Rattle.mi_model.specs.Conditions.{has}
-use Rattle.mi_model.specs.ProcessComponents.{recorded_path, the_system, process_components}
 use Rattle.mi_model.specs.PublishProduct.{publish_product}
 use Rattle.mi_model.specs.EnvironmentRows.{named_variable}
 use Rattle.mi_model.specs.WriteEnvironmentStrings.{write_environment_strings}
 use Rattle.mi_model.specs.RemoveEnvironmentStrings.{removing_rows, remove_environment_strings}
 use Rattle.mi_model_laws.specs.OnlyLaws.{PhasesChangeOnly}
-use Rattle.mi_model_laws.proofs.ClientLemmas.{clients_are_processed, others_stay}
+use Rattle.mi_model_laws.proofs.ClientLemmas.{others_stay}
+use Rattle.mi_model_laws.proofs.CountLemmas.{only_clients_and_counts}
+use Rattle.mi_model_laws.proofs.NameLemmas.{other_front, first_isnt, second_isnt, no_folder, no_key, no_value, and_true, no_seat, prunes_not, unless_named}
 use Rattle.mi_model_laws.proofs.VariableLemmas.{variables_are_written, variables_are_removed}
 use Rattle.mi_model.specs.Shortcuts as shortcut
 use Rattle.mi_model.specs.RemoveFiles as file
 use Rattle.mi_model.specs.DuplicateFiles as copy
 use Rattle.mi_base.specs.declared.entry.Entry.TheVariants as entry_of
-
--- ---- names of another kind
-
--- a name that begins so is no name that doesn't
-other_front : (front q n : List ℕ) → starts_with nat_eq n front ≡ true → starts_with nat_eq q front ≡ false → same_name q n ≡ false
-other_front front q n is isnt = elim (same_name q n) as (λ b. same_name q n ≡ b → b ≡ false) [
-  | true ↦ λ same. sym is ∙ sym (ap (λ (k : List ℕ). starts_with nat_eq k front) (from_same q n same)) ∙ isnt
-  | false ↦ λ same. refl
-] refl
-
-first_isnt : (a b : Bool) → (a || b) ≡ false → a ≡ false
-first_isnt true b e = e
-first_isnt false b e = refl
-
-second_isnt : (a b : Bool) → (a || (b || false)) ≡ false → b ≡ false
-second_isnt true b e = cc
-second_isnt false true e = e
-second_isnt false false e = refl
-
-no_folder : (q : Name) → starts_with nat_eq q (codes "d/") ≡ false → IsNoFolder q
-unfolding folder_name
-no_folder q isnt folder = other_front (codes "d/") q (folder_name folder) refl isnt
-
-no_key : (q : Name) → starts_with nat_eq q (codes "k/") ≡ false → IsNoKey q
-unfolding key_name
-no_key q isnt root key = other_front (codes "k/") q (key_name root key) refl isnt
-
-no_value : (q : Name) → starts_with nat_eq q (codes "v/") ≡ false → (root : ℕ) (key name : Text) → same_name q (value_name root key name) ≡ false
-unfolding value_name
-no_value q isnt root key name = other_front (codes "v/") q (value_name root key name) refl isnt
 
 -- ---- WriteRegistryValues
 
@@ -132,38 +99,9 @@ only_values_and_keys_are_written w m after q e =
 
 -- ---- RemoveRegistryValues; its pruning goes by the first letter of names
 
-and_true : (b : Bool) → (b && true) ≡ false → b ≡ false
-and_true true e = e
-and_true false e = refl
-
-turned : (a n : ℕ) → nat_eq n a ≡ false → nat_eq a n ≡ false
-turned a n isnt = elim (nat_eq a n) as (λ b. nat_eq a n ≡ b → b ≡ false) [
-  | true ↦ λ is. sym (eq-eqb n a (sym (eqb-true a n is))) ∙ isnt
-  | false ↦ λ is. refl
-] refl
-
-no_seat : (q : Name) → starts_with nat_eq q (codes "k") ≡ false → starts_with nat_eq q (codes "v") ≡ false → key_seat q ≡ Apart
-no_seat [] k v = refl
-no_seat (a ∷ []) k v = refl
-no_seat (a ∷ b ∷ []) k v = refl
-no_seat (a ∷ b ∷ c ∷ rest) k v = by_kind (nat_eq a 107) (nat_eq a 118) _ _ (turned a 107 (and_true (nat_eq 107 a) k)) (turned a 118 (and_true (nat_eq 118 a) v))
-  where
-    by_kind : (x y : Bool) (holder leaf : Seat) → x ≡ false → y ≡ false → cond x holder (cond y leaf Apart) ≡ Apart
-    by_kind true y holder leaf x_isnt y_isnt = cc
-    by_kind false true holder leaf x_isnt y_isnt = cc
-    by_kind false false holder leaf x_isnt y_isnt = refl
-
 goes_not : (guarded : Name → Bool) (held : List Name) (at : Path) (q : Name) → key_seat q ≡ Apart → goes_with_key guarded held at q ≡ false
 unfolding goes_with_key
 goes_not guarded held at q apart = ap (seat_goes_with_key guarded held at q) apart
-
-prunes_not : (held : List Name) (touched protected : List Path) (q : Name) → key_seat q ≡ Apart → goes key_seat held touched protected q ≡ false
-unfolding goes
-prunes_not held touched protected q apart = ap (seat_goes key_seat held touched protected) apart
-
-unless_named : (b : Bool) (old new : Option Entry) → b ≡ false → cond b new old ≡ old
-unless_named true old new e = cc
-unless_named false old new e = refl
 
 taken_elsewhere : (guarded : Name → Bool) (held : List Name) (q : Name) (p : RegistryPlace) (says : Says) (old : Option Entry) → key_seat q ≡ Apart → same_name q (name_of_value p) ≡ false → left_at q (taken_at guarded p held says) old ≡ old
 taken_elsewhere guarded held q p KeyAlone old apart v = refl
@@ -175,10 +113,10 @@ taken_elsewhere guarded held q p (Writes text) old apart v = unless_guarded guar
 removed_elsewhere : (w : World) (q : Name) → key_seat q ≡ Apart → starts_with nat_eq q (codes "v/") ≡ false → (r : Numbered RegistryRow) → Acts q (remove_row w r) (λ old. old)
 unfolding remove_row
 removed_elsewhere w q apart v r m ts e old =
-    let read = bound (registry_meaning (lookups w) r) (λ meaning. Ok (removed_touches (is_guarded_value w) meaning (keys m))) ts e in
+    let read = bound (registry_meaning (lookups w) r) (λ meaning. Ok (removed_touches (is_guarded w) meaning (keys m))) ts e in
     let p = read.value.place in
-    ap (λ (ts : List (Touch Entry)). left_at q ts old) (sym (from_ok (removed_touches (is_guarded_value w) read.value (keys m)) ts read.rest))
-    ∙ taken_elsewhere (is_guarded_value w) (keys m) q p read.value.says old apart (no_value q v p.root p.key p.name)
+    ap (λ (ts : List (Touch Entry)). left_at q ts old) (sym (from_ok (removed_touches (is_guarded w) read.value (keys m)) ts read.rest))
+    ∙ taken_elsewhere (is_guarded w) (keys m) q p read.value.says old apart (no_value q v p.root p.key p.name)
 
 removal_elsewhere : (w : World) (q : Name) → key_seat q ≡ Apart → starts_with nat_eq q (codes "v/") ≡ false → (r : Numbered RemoveRegistryRow) → Acts q (removal_row w r) (λ old. old)
 unfolding removal_row
@@ -391,37 +329,7 @@ only_copies_and_folders_are_removed w m after q e =
     get-in_turn q (removed_copy w) (copy_step w q) rows w.machine front (copy_acts w q) first
     ∙ unchanged (copy_step w q) rows (get w.machine q) (λ r old. unnamed q file_name (no_file q f) (option_flatten (copy_path w r.row)) (not (is_guarded_file w q)) old))
 
--- ---- clients, the product and variables
-
-no_client : (q : Name) → starts_with nat_eq q (codes "c/") ≡ false → (component product : ℕ) → same_name q (client_name component product) ≡ false
-unfolding client_name
-no_client q isnt component product = other_front (codes "c/") q (client_name component product) refl isnt
-
-client_elsewhere : (w : World) (q : Name) → starts_with nat_eq q (codes "c/") ≡ false → (c : Numbered ComponentRow) (old : Option Entry) → client_by w q c old ≡ old
-client_elsewhere w q isnt c old = by_id c.row.component_id
-  where
-    by_path : (id : Guid) (r : Result Text Fault) → client_made w c.row id q r old ≡ old
-    by_path id (Err fault) = refl
-    by_path id (Ok path) =
-        unless_named (has 16 c.row.attributes && same_name q (client_name id.number the_system)) _ _ (none_of (has 16 c.row.attributes) (same_name q (client_name id.number the_system)) (no_client q isnt id.number the_system))
-        ∙ unless_named (same_name q (client_name id.number (product_code w.given.rows))) old _ (no_client q isnt id.number (product_code w.given.rows))
-      where
-        none_of : (a b : Bool) → b ≡ false → (a && b) ≡ false
-        none_of true b e = e
-        none_of false b e = refl
-
-    by_action : (id : Guid) (action : Option Action) → client_after w c.row id q action old ≡ old
-    by_action id (Some MakeLocal) = by_path id (recorded_path w c.row)
-    by_action id (Some MakeAbsent) = unless_named (same_name q (client_name id.number (product_code w.given.rows))) old None (no_client q isnt id.number (product_code w.given.rows))
-    by_action id None = refl
-
-    by_id : (id : Option Guid) → option_map_or (λ (id : Guid). client_after w c.row id q (action_in w c.row.component) old) id old ≡ old
-    by_id None = refl
-    by_id (Some id) = by_action id (action_in w c.row.component)
-
-pub only_clients_are_processed : ChangesOnly (codes "c/" ∷ []) process_components
-only_clients_are_processed w m after q e =
-    clients_are_processed w m after q ∙ unchanged (client_by w q) (component_rows w) (get w.machine q) (client_elsewhere w q (first_isnt (starts_with nat_eq q (codes "c/")) _ e))
+-- ---- the product and variables
 
 pub only_the_product_is_published : ChangesOnly (codes "p/" ∷ []) publish_product
 unfolding product_name
@@ -446,7 +354,7 @@ only_variables_are_removed w m after q e =
 
 pub phases_change_only : PhasesChangeOnly
 phases_change_only = record {
-  clients = only_clients_are_processed;
+  clients_and_counts = only_clients_and_counts;
   product = only_the_product_is_published;
   written_values = only_values_and_keys_are_written;
   removed_values = only_values_and_keys_are_removed;

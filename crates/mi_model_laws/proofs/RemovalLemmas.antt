@@ -17,7 +17,8 @@ use Rattle.mi_model.specs.Asked.{lookups}
 use Rattle.mi_model.specs.PhaseRows.{after_rows}
 use Rattle.mi_model.specs.Prune.{Path, goes, key_seat}
 use Rattle.mi_model.specs.RegistryRows.{RegistryPlace, Says, KeyAlone, Makes, Removes, MakesAndRemoves, Writes, name_of_value, removal_place, registry_meaning}
-use Rattle.mi_model.specs.RegistryGuards.{is_guarded_value, unguarded, goes_with_key, place_of_key, kept_keys, prune_keys}
+use Rattle.mi_model.specs.RegistryGuards.{unguarded, goes_with_key, place_of_key, kept_keys, prune_keys}
+use Rattle.mi_model.specs.CountRows.{is_guarded}
 use Rattle.mi_model.specs.RemoveRegistryValues.{leaving_rows, removal_rows, value_less, taken_at, removed_touches, removal_touches, touched_keys, remove_row, removal_row, remove_registry_values}
 use Rattle.mi_model_laws.specs.PhaseLaws.{IsAfter, in_turn}
 use Rattle.mi_model_laws.specs.RegistryLaws.{goes_with, says_removed, removed_by, taken_by, values_after_remove, IsBeforePruning}
@@ -42,14 +43,14 @@ value_at guarded held root key name p Removes old = with_key guarded held p root
 value_at guarded held root key name p MakesAndRemoves old = with_key guarded held p root key name old
 value_at guarded held root key name p (Writes text) old = unless_guarded guarded (value_name root key name) (name_of_value p) (value_less text) old
 
-value_removed : (w : World) (root : ℕ) (key name : Text) (r : Numbered RegistryRow) → Acts (value_name root key name) (remove_row w r) (removed_by (is_guarded_value w) (value_name root key name) (registry_meaning (lookups w) r))
+value_removed : (w : World) (root : ℕ) (key name : Text) (r : Numbered RegistryRow) → Acts (value_name root key name) (remove_row w r) (removed_by (is_guarded w) (value_name root key name) (registry_meaning (lookups w) r))
 unfolding remove_row
 value_removed w root key name r m ts e old =
     let q = value_name root key name in
-    let read = bound (registry_meaning (lookups w) r) (λ meaning. Ok (removed_touches (is_guarded_value w) meaning (keys m))) ts e in
-    ap (λ (ts : List (Touch Entry)). left_at q ts old) (sym (from_ok (removed_touches (is_guarded_value w) read.value (keys m)) ts read.rest))
-    ∙ value_at (is_guarded_value w) (keys m) root key name read.value.place read.value.says old
-    ∙ ap (λ r. removed_by (is_guarded_value w) q r old) (sym read.is)
+    let read = bound (registry_meaning (lookups w) r) (λ meaning. Ok (removed_touches (is_guarded w) meaning (keys m))) ts e in
+    ap (λ (ts : List (Touch Entry)). left_at q ts old) (sym (from_ok (removed_touches (is_guarded w) read.value (keys m)) ts read.rest))
+    ∙ value_at (is_guarded w) (keys m) root key name read.value.place read.value.says old
+    ∙ ap (λ r. removed_by (is_guarded w) q r old) (sym read.is)
 
 taken_value : (root : ℕ) (key name : Text) (p : RegistryPlace) (held : List Name) (old : Option Entry) → left_at (value_name root key name) (removal_touches p held) old ≡ taken_by (value_name root key name) (Ok p) old
 taken_value root key name p held old = by_name (bytes_eq p.name (codes "-"))
@@ -124,7 +125,7 @@ values_are_removed w m after root key name =
     ∙ no_value w parts.between root key name (get parts.between q)
     ∙ ap (λ n. get n q) parts.is.machine
     ∙ get-in_turn q (removal_row w) step (removal_rows w) (after_rows w.machine parts.is.rows) parts.is.more (value_taken w root key name) parts.is.taken
-    ∙ ap (in_turn step (removal_rows w)) (get-in_turn q (remove_row w) (λ r. removed_by (is_guarded_value w) q (registry_meaning (lookups w) r)) (leaving_rows w) w.machine parts.is.rows (value_removed w root key name) parts.is.touched)
+    ∙ ap (in_turn step (removal_rows w)) (get-in_turn q (remove_row w) (λ r. removed_by (is_guarded w) q (registry_meaning (lookups w) r)) (leaving_rows w) w.machine parts.is.rows (value_removed w root key name) parts.is.touched)
 
 pub keys_are_pruned : (w : World) (m : Machine) → IsAfter remove_registry_values w m →
     (n : Machine) × IsBeforePruning w n × ((root : ℕ) (key : Text) →

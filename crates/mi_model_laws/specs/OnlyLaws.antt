@@ -20,8 +20,13 @@ files_and_folders = codes "f/" ∷ codes "d/" ∷ []
 abbrev pub shortcuts_and_folders : List Text
 shortcuts_and_folders = codes "s/" ∷ codes "d/" ∷ []
 
+-- the values under the root of the machine; pruning goes by the first letter of names
+abbrev pub clients_and_counts : List Text
+clients_and_counts = codes "c/" ∷ codes "v/2" ∷ codes "k" ∷ []
+
 pub record PhasesChangeOnly : Type 0 where
-  pub clients : ChangesOnly (codes "c/" ∷ []) process_components
+  -- which counts and which keys, `others` of ProcessesComponents says
+  pub clients_and_counts : ChangesOnly clients_and_counts process_components
   pub product : ChangesOnly (codes "p/" ∷ []) publish_product
   pub written_values : ChangesOnly (codes "v/" ∷ codes "k/" ∷ []) write_registry_values
   pub removed_values : ChangesOnly (codes "v" ∷ codes "k" ∷ []) remove_registry_values

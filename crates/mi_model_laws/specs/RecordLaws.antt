@@ -1,9 +1,9 @@
 -- What ProcessComponents, PublishProduct and the phases of shortcuts and variables leave, name by name. (ProcessComponents Action;
 -- PublishProduct Action; CreateShortcuts Action; RemoveShortcuts Action; WriteEnvironmentStrings Action; RemoveEnvironmentStrings Action.)
-use Rattle.std.specs.Prelude.{◌≡◌, Bool, false, if◌then◌else◌, ◌&&◌, not, List, [], flat_map, map, Option, Some, None, Result, Ok, Err}
-use Rattle.std.specs.List.{list_any}
+use Rattle.std.specs.Prelude.{◌≡◌, ℕ, Bool, true, false, if◌then◌else◌, ◌&&◌, not, List, [], flat_map, map, filter, nat_eq, codes, Option, Some, None, Result, Ok, Err}
+use Rattle.std.specs.List.{list_any, starts_with}
 use Rattle.std.specs.Option.{option_map_or, option_or}
-use Rattle.std.specs.FinMap.{get}
+use Rattle.std.specs.FinMap.{get, keys}
 use Rattle.mi_text.specs.Maps.{Name, same_name}
 use Rattle.mi_text.specs.Path.{up_to_last}
 use Rattle.mi_text.specs.declared.guid.Guid.{Guid}
@@ -11,7 +11,7 @@ use Rattle.mi_base.specs.declared.entry.Entry.{Entry}
 use Rattle.mi_base.specs.declared.entry.Entry.TheVariants as entry
 use Rattle.mi_base.specs.declared.answers.Fault.{Fault}
 use Rattle.mi_base.specs.Machine.{Machine, as_variable}
-use Rattle.mi_base.specs.Names.{client_name, product_name, shortcut_name, folder_name}
+use Rattle.mi_base.specs.Names.{client_name, product_name, shortcut_name, folder_name, key_name, value_name}
 use Rattle.mi_schema.specs.TableRows.{Numbered, in_key_order, product_code}
 use Rattle.mi_schema.specs.declared.typed_rows.ComponentRow.{ComponentRow}
 use Rattle.mi_schema.specs.declared.typed_rows.ShortcutRow.{ShortcutRow}
@@ -21,8 +21,16 @@ use Rattle.mi_model.specs.World.{World, Action, MakeLocal, MakeAbsent}
 use Rattle.mi_model.specs.Asked.{chosen, comes, leaves, lookups}
 use Rattle.mi_model.specs.Conditions.{has}
 use Rattle.mi_model.specs.ComponentRows.{action_in, rows_that}
-use Rattle.mi_model.specs.Parents.{folders_down_to}
-use Rattle.mi_model.specs.ProcessComponents.{recorded_path, the_system, client, process_components}
+use Rattle.mi_model.specs.Components.{is_made_local}
+use Rattle.mi_model.specs.States.{is_present}
+use Rattle.mi_model.specs.PhaseRows.{Touches, after_rows, by_rows}
+use Rattle.mi_model.specs.Parents.{folders_down_to, keys_down_to}
+use Rattle.mi_model.specs.Prune.{Seat, Holder, goes, key_place, key_seat}
+use Rattle.mi_model.specs.RegistryGuards.{kept_keys}
+use Rattle.mi_model.specs.ClientRows.{recorded_path, the_system, client}
+use Rattle.mi_model.specs.SharedCounts.{shared_key, count_name, raised, lowered, is_counted}
+use Rattle.mi_model.specs.CountRows.{is_guarded, counted_path}
+use Rattle.mi_model.specs.ProcessComponents.{processed, touched_counts, process_components}
 use Rattle.mi_model.specs.PublishProduct.{product_after, publish_product}
 use Rattle.mi_model.specs.Shortcuts.{shortcut_path, shortcut_entry, target_text, is_guarded_shortcut, shortcut_named, leaving_shortcuts, create_shortcuts, remove_shortcuts, shortcut_table}
 use Rattle.mi_model.specs.Refusals.{expanded_or_empty}
@@ -53,8 +61,62 @@ client_by w q c old = option_map_or (λ (id : Guid). client_after w c.row id q (
 abbrev pub component_rows : World → List (Numbered ComponentRow)
 component_rows w = in_key_order (λ (c : ComponentRow). c.component) w.given.rows.component
 
+-- ---- counts: at each the counted components, in key order
+
+abbrev pub counted_components : World → List (Numbered ComponentRow)
+counted_components w = filter (λ (c : Numbered ComponentRow). is_counted w.given.rows c.row) (component_rows w)
+
+-- one that comes to the machine raises it, one that others hold lowers it, and with one that leaves it goes where nothing guards it
+abbrev pub count_after : World → ComponentRow → Text → Action → Option Entry → Option Entry
+count_after w c path MakeLocal old = if is_present w.given c then old else raised path old
+count_after w c path MakeAbsent old = if leaves w c.component then (if is_guarded w (count_name path) then old else None) else lowered old
+
+-- the count of the path that is recorded
+abbrev pub count_of : World → ComponentRow → Name → Action → Result Text Fault → Option Entry → Option Entry
+count_of w c q action (Err fault) old = old
+count_of w c q action (Ok path) old = if same_name q (count_name path) then count_after w c path action old else old
+
+abbrev pub count_by : World → Name → Numbered ComponentRow → Option Entry → Option Entry
+count_by w q c old = option_map_or (λ (action : Action). count_of w c.row q action (recorded_path w c.row) old) (action_in w c.row.component) old
+
+-- the keys that a count needs where it is raised
+abbrev pub keys_of_count : World → Numbered ComponentRow → List Entry
+keys_of_count w c = if is_made_local (action_in w c.row.component) && not (is_present w.given c.row) then map (entry.Key 2) (keys_down_to shared_key) else []
+
+-- the machine behind the components, before the pruning
+pub record IsProcessed (w : World) (n : Machine) : Type 0 where
+  pub rows : List Touches
+  pub touched : by_rows w.machine (map (λ (c : Numbered ComponentRow) m. processed w c.row) (component_rows w)) ≡ Ok rows
+  pub machine : n ≡ after_rows w.machine rows
+
+-- a key that stands stays, and a missing one is made with the first count that is raised
+abbrev pub MakesKeys : World → Machine → Type 0
+MakesKeys w n = (root : ℕ) (key : Text) →
+    get n (key_name root key) ≡ option_or (get w.machine (key_name root key)) (first_named (key_name root key) (flat_map (keys_of_count w) (counted_components w)))
+
+-- of the keys that stand before the pruning those that it takes go
+abbrev pub PrunesKeys : World → Machine → Machine → Type 0
+PrunesKeys w n m = (root : ℕ) (key : Text) → get m (key_name root key) ≡ (if goes key_seat (keys n) (touched_counts w) (kept_keys w) (key_name root key) then None else get n (key_name root key))
+
+-- a name that counts the file of a component
+abbrev pub is_count : World → Name → Bool
+is_count w q = list_any (λ (c : Numbered ComponentRow). option_map_or (λ path. same_name q (count_name path)) (counted_path w c.row) false) (component_rows w)
+
+-- the key of the counts, or one above it
+abbrev pub leads_to_counts : Seat → Bool
+leads_to_counts (Holder path) = starts_with nat_eq (key_place 2 shared_key) path
+leads_to_counts other = false
+
 pub record ProcessesComponents : Type 0 where
-  pub clients : (w : World) (m : Machine) → IsAfter process_components w m → (q : Name) → get m q ≡ in_turn (client_by w q) (component_rows w) (get w.machine q)
+  pub clients : (w : World) (m : Machine) → IsAfter process_components w m → (q : Name) → starts_with nat_eq q (codes "c/") ≡ true → get m q ≡ in_turn (client_by w q) (component_rows w) (get w.machine q)
+  pub counts : (w : World) (m : Machine) → IsAfter process_components w m → (root : ℕ) (key name : Text) →
+      get m (value_name root key name) ≡ in_turn (count_by w (value_name root key name)) (counted_components w) (get w.machine (value_name root key name))
+  pub keys : (w : World) (m : Machine) → IsAfter process_components w m → (n : Machine) × IsProcessed w n × MakesKeys w n × PrunesKeys w n m
+  -- no other name changes
+  pub others : (w : World) (m : Machine) → IsAfter process_components w m → (q : Name) → starts_with nat_eq q (codes "c/") ≡ false → is_count w q ≡ false → leads_to_counts (key_seat q) ≡ false → get m q ≡ get w.machine q
+  -- a component without attribute 8 isn't counted: where all are so, clients alone change
+  pub uncounted : (w : World) (m : Machine) → IsAfter process_components w m → list_any (λ (c : ComponentRow). has 8 c.attributes) w.given.rows.component ≡ false →
+      (q : Name) → get m q ≡ in_turn (client_by w q) (component_rows w) (get w.machine q)
 
 -- ---- the product
 

@@ -15,7 +15,8 @@ use Rattle.mi_model.specs.Asked.{lookups}
 use Rattle.mi_model.specs.PhaseRows.{Touches, after_rows, by_rows}
 use Rattle.mi_model.specs.Parents.{keys_down_to}
 use Rattle.mi_model.specs.RegistryRows.{RegistryPlace, RegistryMeaning, Says, KeyAlone, Makes, Removes, MakesAndRemoves, Writes, name_of_value, removal_place, registry_meaning}
-use Rattle.mi_model.specs.RegistryGuards.{is_guarded_value, unguarded, goes_with_key, place_of_key, kept_keys}
+use Rattle.mi_model.specs.RegistryGuards.{unguarded, goes_with_key, place_of_key, kept_keys}
+use Rattle.mi_model.specs.CountRows.{is_guarded}
 use Rattle.mi_model.specs.WriteRegistryValues.{written_rows, value_after, write_registry_values}
 use Rattle.mi_model.specs.RemoveRegistryValues.{leaving_rows, removal_rows, value_less, touched_keys, remove_row, removal_row, remove_registry_values}
 use Rattle.mi_model.specs.Prune.{goes, key_seat}
@@ -80,7 +81,7 @@ taken_by q (Ok p) old =
 abbrev pub values_after_remove : World → Name → Option Entry → Option Entry
 values_after_remove w q old =
     in_turn (λ r. taken_by q (removal_place (lookups w) r)) (removal_rows w)
-    (in_turn (λ r. removed_by (is_guarded_value w) q (registry_meaning (lookups w) r)) (leaving_rows w) old)
+    (in_turn (λ r. removed_by (is_guarded w) q (registry_meaning (lookups w) r)) (leaving_rows w) old)
 
 -- the machine after the rows, before the pruning
 pub record IsBeforePruning (w : World) (m : Machine) : Type 0 where

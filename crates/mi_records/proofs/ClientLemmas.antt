@@ -32,7 +32,8 @@ use Rattle.mi_model.specs.ComponentRows.{action_in, is_local}
 use Rattle.mi_model.specs.Components.{is_made_local, is_made_absent}
 use Rattle.mi_model.specs.Conditions.{has}
 use Rattle.mi_model.specs.KeyPaths.{KeyPath, key_path_text, of_file, of_rows, key_path_of}
-use Rattle.mi_model.specs.ProcessComponents.{found_path, recorded_path, the_system, client_touch, client_touches, of_id, component_touches, process_components}
+use Rattle.mi_model.specs.ClientRows.{found_path, recorded_path, the_system, client_touch, client_touches, of_id, component_touches}
+use Rattle.mi_model.specs.ProcessComponents.{process_components}
 use Rattle.mi_model.specs.Refusals.{◌>>=◌}
 use Rattle.mi_steps.specs.declared.plan.Plan.{Plan}
 use Rattle.mi_steps.specs.Follows.{drop_touch}

@@ -11,7 +11,7 @@ use Rattle.mi_model.specs.World.{World}
 use Rattle.mi_model.specs.Asked.{comes, leaves, keeps, lookups, chosen, dirs_of}
 use Rattle.mi_model.specs.ComponentRows.{is_local, action_in, has_mode}
 use Rattle.mi_model.specs.Components.{is_made_absent}
-use Rattle.mi_model.specs.ProcessComponents.{found_path}
+use Rattle.mi_model.specs.ClientRows.{found_path}
 use Rattle.mi_model.specs.FileVersions.{chosen_mode, component_is_present}
 use Rattle.mi_model.specs.Prune.{system_folders}
 

@@ -11,7 +11,7 @@ use Rattle.mi_schema.specs.TableRows.{Rows, Numbered, numbered_from, row_of, com
 use Rattle.mi_schema.specs.Values.{lacks}
 use Rattle.mi_model.specs.Texts.{Text}
 use Rattle.mi_model.specs.World.{World, RowEffect}
-use Rattle.mi_model.specs.ProcessComponents.{component_touches}
+use Rattle.mi_model.specs.ClientRows.{component_touches}
 use Rattle.mi_records.specs.declared.error.PlanError.{PlanError}
 use Rattle.mi_records.specs.declared.error.PlanError.TheVariants as error
 use Rattle.mi_records.specs.Choices.{Choices}

@@ -3,7 +3,7 @@
 ghost use Rattle.std.specs.Prelude.{◌≡◌, codes, if◌then◌else◌};
 ghost use Rattle.mi_base.specs.declared.answers.Fault.TheVariants.{BadPath};
 ghost use Rattle.mi_model.specs.World.{World};
-ghost use Rattle.mi_model.specs.ProcessComponents.{recorded_path};
+ghost use Rattle.mi_model.specs.ClientRows.{recorded_path};
 ghost use Rattle.mi_schema.specs.Lawful.{IsLawful};
 ghost use Rattle.mi_schema.specs.RowsOf.{rows_in};
 ghost use Rattle.mi_schema.specs.Values.{lacks};

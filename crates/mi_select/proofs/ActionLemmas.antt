@@ -28,9 +28,10 @@ use Rattle.mi_model.specs.Selecting.{record_of_product, feature_request, is_feat
 use Rattle.mi_features.specs.declared.choice.FeatureChoice.{FeatureChoice}
 use Rattle.mi_select.specs.declared.component.Action.{Action}
 use Rattle.mi_select.specs.declared.component.Action.TheVariants as action
+use Rattle.mi_select.specs.declared.component.ComponentChoice.{ComponentChoice}
 use Rattle.mi_select.specs.declared.holders.Holders.{Holders}
 use Rattle.mi_features.specs.Choices as choices
-use Rattle.mi_select.specs.Actions.{told, action_kept, made, present_kept, choice_kept, component_choice}
+use Rattle.mi_select.specs.Actions.{told, action_kept, present_kept, choice_kept, component_choice}
 use Rattle.mi_select.specs.Holders as held
 use Rattle.mi_select.specs.Holders.{says, choice_named, held_at, said_in, any_says, all_say, AreHeld}
 use Rattle.mi_features.specs.Records.{recorded_in}
@@ -209,33 +210,24 @@ module _ (rows : Rows) (L : Lookups) (request : FeatureRow → Option world.Requ
       ∙ ap (λ b. cond (components.is_enabled rows L request local_after present c && components.is_asked_for rows L request local_after present c) (Some action.MakeLocal) (cond (has_id c && present c && not b) (Some action.MakeAbsent) None)) wanted
       ∙ sym (told_if (components.is_enabled rows L request local_after present c && components.is_asked_for rows L request local_after present c) (has_id c && present c && not (components.is_wanted rows L request local_after present c)))
 
-made_is : (a : Option world.Action) (attributes : ℤ) (present other : Bool) → made (told a) attributes present other ≡ record {
-  action = told a;
-  present = present;
-  other_client = other;
-  leaving = components.is_made_absent a && not (has 16 attributes) && not other;
-  kept = components.is_made_local a || (present && not (components.is_made_absent a && not (has 16 attributes) && not other));
-}
-made_is None attributes present other = refl
-made_is (Some world.MakeLocal) attributes present other = refl
-made_is (Some world.MakeAbsent) attributes present other = refl
-
 module _ (g : Given) (L : Lookups) (dirs : List Place) (level : ℕ) (own : HasOwnKeys key g.rows.feature) (asked : List FeatureChoice) (is : asked ≡ map (choice_to g.rows L (record_of_product g) level) g.rows.feature)
     (recorded : BTreeSet (List ℕ)) (in_record : (q : Name) → contains name_cmp recorded q ≡ is_among q (unwrap_or (record_of_product g) [])) (tree : BTreeMap (Bor (List ℕ)) Holders) (are : AreHeld g.rows asked recorded tree) where
   present-kept : (c : Name) (id : Option Guid) → present_kept g.former (product_code g.rows) (held_at tree c).recorded id ≡ is_present_by g c id
   present-kept c (Some id) = refl
   present-kept c None = recorded-any g.rows own (choice_to g.rows L (record_of_product g) level) asked is recorded tree are (unwrap_or (record_of_product g) []) in_record c
 
+  abbrev kept_as : ComponentRow → Option Action → Bool → ComponentChoice
+  kept_as c action present = record { action = action; present = present; other_client = has_other_client g.former (product_code g.rows) c.component_id }
+
   pub choice-kept : (c : ComponentRow) → choice_kept g.former (product_code g.rows) L tree c ≡ component_choice g L dirs level c
   unfolding is_present
   choice-kept c =
-      ap (λ p. made (action_kept (has_id c) (holds L c.condition) p (held_at tree c.component)) c.attributes p (has_other_client g.former (product_code g.rows) c.component_id)) (present-kept c.component c.component_id)
-      ∙ ap (λ (a : Option Action). made a c.attributes (is_present g c) (has_other_client g.former (product_code g.rows) c.component_id))
+      ap (λ p. kept_as c (action_kept (has_id c) (holds L c.condition) p (held_at tree c.component)) p) (present-kept c.component c.component_id)
+      ∙ ap (λ (a : Option Action). kept_as c a (is_present g c))
       (action-kept g.rows L (feature_request g L dirs level) (is_feature_after g L dirs level) (is_present g) c (held_at tree c.component)
       (local-any g.rows own (choice_to g.rows L (record_of_product g) level) asked is recorded tree are c)
       (reinstalled-any g.rows own (choice_to g.rows L (record_of_product g) level) asked is recorded tree are c)
       (wanted-any g.rows own (choice_to g.rows L (record_of_product g) level) asked is recorded tree are c))
-      ∙ made_is (component_action g L dirs level c) c.attributes (is_present g c) (has_other_client g.former (product_code g.rows) c.component_id)
 
 -- the same of all components, by the rows and the machine that the program has
 pub choices-kept : (g : Given) (L : Lookups) (dirs : List Place) (level : ℕ) (rows : Rows) (m : Machine) (code : ℕ) (asked : List FeatureChoice) (recorded : BTreeSet (List ℕ)) (tree : BTreeMap (Bor (List ℕ)) Holders)

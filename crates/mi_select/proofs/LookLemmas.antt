@@ -143,13 +143,13 @@ module _ (features : List (String Global × FeatureChoice)) (components : List (
     unfolding selection_of
     coming-kept o at = those (λ c. c.coming) o at ∙ ap (λ (t : Selection). is_among q t.coming) is
 
-    pub leaving-kept : (o : Option Chosen) → o ≡ kept_at q components → option_map_or (λ (c : Chosen). c.choice.leaving) o false ≡ is_among q s.leaving
+    pub leaving-kept : (o : Option Chosen) → o ≡ kept_at q components → option_map_or (λ (c : Chosen). c.leaving) o false ≡ is_among q s.leaving
     unfolding selection_of
-    leaving-kept o at = those (λ c. c.choice.leaving) o at ∙ ap (λ (t : Selection). is_among q t.leaving) is
+    leaving-kept o at = those (λ c. c.leaving) o at ∙ ap (λ (t : Selection). is_among q t.leaving) is
 
-    pub kept-kept : (o : Option Chosen) → o ≡ kept_at q components → option_map_or (λ (c : Chosen). c.choice.kept) o false ≡ is_among q s.kept
+    pub kept-kept : (o : Option Chosen) → o ≡ kept_at q components → option_map_or (λ (c : Chosen). c.kept) o false ≡ is_among q s.kept
     unfolding selection_of
-    kept-kept o at = those (λ c. c.choice.kept) o at ∙ ap (λ (t : Selection). is_among q t.kept) is
+    kept-kept o at = those (λ c. c.kept) o at ∙ ap (λ (t : Selection). is_among q t.kept) is
 
 -- ---- actions
 

@@ -124,16 +124,16 @@ module _ (m : Machine) (rows : Rows) (dirs : List Place) (L : Lookups) (choice :
   entry_name : (c : ComponentRow) (y : Name × Chosen) → chosen_entry m rows dirs L choice c ≡ Ok y → y.0 ≡ c.component
   entry_name c y is = by (key_path_of rows dirs L c) is
     where
-      by : (k : Result KeyPath Fault) → (k >>= λ p. Ok (c.component, chosen_by m c (choice c) p)) ≡ Ok y → y.0 ≡ c.component
+      by : (k : Result KeyPath Fault) → (k >>= λ p. Ok (c.component, chosen_by m rows c (choice c) p)) ≡ Ok y → y.0 ≡ c.component
       by (Err e) is = cc
-      by (Ok p) is = let one : (c.component, chosen_by m c (choice c) p) ≡ y = cc in ap (λ (e : Name × Chosen). e.0) (sym one)
+      by (Ok p) is = let one : (c.component, chosen_by m rows c (choice c) p) ≡ y = cc in ap (λ (e : Name × Chosen). e.0) (sym one)
 
   pub entry_names : (cs : List ComponentRow) (made : List (Name × Chosen)) → each (chosen_entry m rows dirs L choice) cs ≡ Ok made → map (λ (e : Name × Chosen). e.0) made ≡ map (λ (c : ComponentRow). c.component) cs
   entry_names = each_names (λ (c : ComponentRow). c.component) (chosen_entry m rows dirs L choice) entry_name
 
   -- by what is chosen of the row
   pub entry_by : (c : ComponentRow) (v : ComponentChoice) (r : Result (Name × Chosen) Fault) → v ≡ choice c → chosen_entry m rows dirs L (λ _. v) c ≡ r → chosen_entry m rows dirs L choice c ≡ r
-  entry_by c v r is so = ap (λ (v : ComponentChoice). key_path_of rows dirs L c >>= λ p. Ok (c.component, chosen_by m c v p)) (sym is) ∙ so
+  entry_by c v r is so = ap (λ (v : ComponentChoice). key_path_of rows dirs L c >>= λ p. Ok (c.component, chosen_by m rows c v p)) (sym is) ∙ so
 
 -- the same refusal
 pub refused_same : {A B C D : Type 0} (seen : A → C) (shown : B → D) (e : SelectError) (r : Result C Fault) (s : Result D Fault) → ((f : Fault) → r ≡ Err f → s ≡ Err f) → Gives {A = A} (Err e) seen r → Gives {A = B} (Err e) shown s

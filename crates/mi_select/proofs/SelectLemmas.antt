@@ -11,11 +11,13 @@ use Rattle.mi_dirs.specs.Places.{Place}
 use Rattle.mi_fver.specs.declared.mode.Mode.{Mode}
 use Rattle.mi_schema.specs.declared.typed_rows.ComponentRow.{ComponentRow}
 use Rattle.mi_schema.specs.declared.typed_rows.FeatureRow.{FeatureRow}
-use Rattle.mi_schema.specs.TableRows.{Rows}
+use Rattle.mi_schema.specs.TableRows.{Rows, product_code}
 use Rattle.mi_model.specs.World as world
 use Rattle.mi_model.specs.World.{Given, Selection}
 use Rattle.mi_model.specs.Texts.{Text}
-use Rattle.mi_model.specs.Components.{is_coming}
+use Rattle.mi_model.specs.Components.{has_other_client, is_coming, is_leaving, is_kept}
+use Rattle.mi_model.specs.SharedCounts.{has_other_count}
+use Rattle.mi_model.specs.States.{is_present}
 use Rattle.mi_model.specs.FeatureLists.{lists_fault}
 use Rattle.mi_model.specs.KeyPaths.{KeyPath, key_path_text, is_there}
 use Rattle.mi_model.specs.Refusals.{◌>>=◌, each, unless}
@@ -30,7 +32,7 @@ use Rattle.mi_features.specs.Choices as choices
 use Rattle.mi_features.specs.Choices.{request_to}
 use Rattle.mi_select.specs.Actions as actions
 use Rattle.mi_select.specs.Actions.{as_action, component_choice}
-use Rattle.mi_select.specs.Chosen.{chosen_by, chosen_entry}
+use Rattle.mi_select.specs.Chosen.{leaves_by, chosen_by, chosen_entry}
 use Rattle.mi_features.specs.Records.{recorded_in}
 use Rattle.mi_features.specs.Requests.{choice_to, requested}
 use Rattle.mi_select.specs.Selections.{names_that, selection_of}
@@ -100,14 +102,33 @@ module _ (g : Given) (L : Lookups) (dirs : List Place) where
 
     -- what is kept of a component
     abbrev chosen_to : ComponentRow → Chosen
-    chosen_to c = record { choice = component_choice g L dirs level c; coming = comes_in g L dirs level c; key_path = text_of (key_path g L dirs c) }
+    chosen_to c = record {
+      choice = component_choice g L dirs level c;
+      coming = comes_in g L dirs level c;
+      leaving = leaves_in g L dirs level c;
+      kept = keeps_in g L dirs level c;
+      key_path = text_of (key_path g L dirs c);
+    }
 
     abbrev entry_of : ComponentRow → Result (Name × Chosen) Fault
     entry_of = chosen_entry g.former g.rows dirs L (component_choice g L dirs level)
 
-    chosen_is : (c : ComponentRow) (p : KeyPath) → key_path g L dirs c ≡ Ok p → chosen_by g.former c (component_choice g L dirs level c) p ≡ chosen_to c
-    chosen_is c p at = λ i. record { choice = component_choice g L dirs level c; coming = coming i; key_path = text i }
+    chosen_is : (c : ComponentRow) (p : KeyPath) → key_path g L dirs c ≡ Ok p → chosen_by g.former g.rows c (component_choice g L dirs level c) p ≡ chosen_to c
+    chosen_is c p at = λ i. record { choice = component_choice g L dirs level c; coming = coming i; leaving = leaving i; kept = kept i; key_path = text i }
       where
+        others : Result KeyPath Fault → Bool
+        others k = has_other_count g.rows g.former c k
+
+        leaving : leaves_by g.former g.rows c (component_choice g L dirs level c) p ≡ leaves_in g L dirs level c
+        leaving =
+            ap (λ a. is_leaving c a (has_other_client g.former (product_code g.rows) c.component_id) (others (Ok p))) (action_back (component_action g L dirs level c))
+            ∙ ap (λ k. is_leaving c (component_action g L dirs level c) (has_other_client g.former (product_code g.rows) c.component_id) (others k)) (sym at)
+
+        kept : is_kept (as_action (actions.told (component_action g L dirs level c))) (is_present g c) (leaves_by g.former g.rows c (component_choice g L dirs level c) p) ≡ keeps_in g L dirs level c
+        kept =
+            ap (λ a. is_kept a (is_present g c) (leaves_by g.former g.rows c (component_choice g L dirs level c) p)) (action_back (component_action g L dirs level c))
+            ∙ ap (is_kept (component_action g L dirs level c) (is_present g c)) leaving
+
         coming : is_coming c (as_action (actions.told (component_action g L dirs level c))) (is_there g.former p) ≡ comes_in g L dirs level c
         coming = ap (λ a. is_coming c a (is_there g.former p)) (action_back (component_action g L dirs level c)) ∙ ap (λ k. is_coming c (component_action g L dirs level c) (holds_there g L dirs k)) (sym at)
 
@@ -119,7 +140,7 @@ module _ (g : Given) (L : Lookups) (dirs : List Place) where
 
     -- one component more
     abbrev more : ComponentRow → Result KeyPath Fault → Result (List (Name × Chosen)) Fault → Result (List (Name × Chosen)) Fault
-    more c k r = (k >>= λ p. Ok (c.component, chosen_by g.former c (component_choice g L dirs level c) p)) >>= λ y. r >>= λ ys. Ok (y ∷ ys)
+    more c k r = (k >>= λ p. Ok (c.component, chosen_by g.former g.rows c (component_choice g L dirs level c) p)) >>= λ y. r >>= λ ys. Ok (y ∷ ys)
 
     abbrev more_paths : ComponentRow → Result KeyPath Fault → Result (List (Name × Text)) Fault → Result (List (Name × Text)) Fault
     more_paths c k r = (k >>= λ p. Ok (c.component, key_path_text p)) >>= λ y. r >>= λ ys. Ok (y ∷ ys)
@@ -131,7 +152,7 @@ module _ (g : Given) (L : Lookups) (dirs : List Place) where
     chosen_more c cs made (Ok p) at (Err f) so is = cc
     chosen_more c cs made (Ok p) at (Ok ms) so is =
         let rest = so ms refl in
-        let these : (c.component, chosen_by g.former c (component_choice g L dirs level c) p) ∷ ms ≡ made = cc in (
+        let these : (c.component, chosen_by g.former g.rows c (component_choice g L dirs level c) p) ∷ ms ≡ made = cc in (
           sym these ∙ ap (λ (x : Chosen). (c.component, x) ∷ ms) (chosen_is c p at) ∙ ap (λ (l : List (Name × Chosen)). (c.component, chosen_to c) ∷ l) rest.0,
           ap (λ (r : Result (List (Name × Text)) Fault). r >>= λ ys. Ok ((c.component, key_path_text p) ∷ ys)) rest.1 ∙ ap (λ (l : List (Name × Chosen)). Ok (map path_shown l)) these,
         )
@@ -202,11 +223,11 @@ module _ (g : Given) (L : Lookups) (dirs : List Place) where
         coming : components_that g L dirs (comes_in g L dirs level) ≡ names_that (λ (c : Chosen). c.coming) made
         coming = those (λ c. c.coming)
 
-        leaving : components_that g L dirs (leaves_in g L dirs level) ≡ names_that (λ (c : Chosen). c.choice.leaving) made
-        leaving = those (λ c. c.choice.leaving)
+        leaving : components_that g L dirs (leaves_in g L dirs level) ≡ names_that (λ (c : Chosen). c.leaving) made
+        leaving = those (λ c. c.leaving)
 
-        kept : components_that g L dirs (keeps_in g L dirs level) ≡ names_that (λ (c : Chosen). c.choice.kept) made
-        kept = those (λ c. c.choice.kept)
+        kept : components_that g L dirs (keeps_in g L dirs level) ≡ names_that (λ (c : Chosen). c.kept) made
+        kept = those (λ c. c.kept)
 
   -- ---- where the settings and the lists are right
 

@@ -1,5 +1,5 @@
 -- What becomes of components. (Component Table; FeatureComponents Table.)
-use Rattle.std.specs.Prelude.{ℕ, ℤ, ◌&&◌, ◌||◌, not, Bool, true, false, if◌then◌else◌, List, Option, Some, None, is_some, option_map}
+use Rattle.std.specs.Prelude.{ℕ, ◌&&◌, ◌||◌, not, Bool, true, false, if◌then◌else◌, List, Option, Some, None, is_some, option_map}
 use Rattle.std.specs.BTreeMap.{BTreeMap}
 use Rattle.std.specs.Borrow.{Bor}
 use Rattle.mi_text.specs.Lookups.{Lookups}
@@ -10,10 +10,10 @@ use Rattle.mi_schema.specs.declared.typed_rows.ComponentRow.{ComponentRow}
 use Rattle.mi_schema.specs.TableRows.{product_code}
 use Rattle.mi_model.specs.World as world
 use Rattle.mi_model.specs.World.{Given}
-use Rattle.mi_model.specs.Conditions.{holds, has}
+use Rattle.mi_model.specs.Conditions.{holds}
 use Rattle.mi_model.specs.Components.{has_other_client, has_id}
 use Rattle.mi_model.specs.States.{is_present}
-use Rattle.mi_model.specs.Selecting.{component_action, leaves_in, keeps_in}
+use Rattle.mi_model.specs.Selecting.{component_action}
 use Rattle.mi_select.specs.declared.component.Action.{Action}
 use Rattle.mi_select.specs.declared.component.Action.TheVariants.{MakeLocal, MakeAbsent}
 use Rattle.mi_select.specs.declared.component.ComponentChoice.{ComponentChoice}
@@ -36,14 +36,12 @@ told action = option_map action_from action
 abbrev pub as_action : Option Action → Option world.Action
 as_action action = option_map action_to action
 
--- what becomes of a component, of what is given, these look-ups and directories, and this value of INSTALLLEVEL
+-- what is done to a component and was there of it, of what is given, these look-ups and directories, and this value of INSTALLLEVEL
 abbrev pub component_choice : Given → Lookups → List Place → ℕ → ComponentRow → ComponentChoice
 component_choice g L dirs level c = record {
   action = told (component_action g L dirs level c);
   present = is_present g c;
   other_client = has_other_client g.former (product_code g.rows) c.component_id;
-  leaving = leaves_in g L dirs level c;
-  kept = keeps_in g L dirs level c;
 }
 
 -- ---- by what is kept
@@ -64,21 +62,14 @@ action_kept has_id holds present h =
     else if has_id && present && not h.wanted then Some MakeAbsent
     else None
 
-abbrev pub made : Option Action → ℤ → Bool → Bool → ComponentChoice
-made action attributes present other_client = record {
-  action = action;
-  present = present;
-  other_client = other_client;
-  leaving = is_absent action && not (has 16 attributes) && not other_client;
-  kept = is_local action || (present && not (is_absent action && not (has 16 attributes) && not other_client));
-}
-
 -- a component with an id is there where the product is a client of it, and another where a recorded feature holds it
 abbrev pub present_kept : Machine → ℕ → Bool → Option Guid → Bool
 present_kept m product recorded (Some id) = is_some (client_at m id.number product)
 present_kept m product recorded None = recorded
 
 abbrev pub choice_kept : Machine → ℕ → Lookups → BTreeMap (Bor (List ℕ)) Holders → ComponentRow → ComponentChoice
-choice_kept m product L held c =
-    made (action_kept (has_id c) (holds L c.condition) (present_kept m product (held_at held c.component).recorded c.component_id) (held_at held c.component)) c.attributes
-    (present_kept m product (held_at held c.component).recorded c.component_id) (has_other_client m product c.component_id)
+choice_kept m product L held c = record {
+  action = action_kept (has_id c) (holds L c.condition) (present_kept m product (held_at held c.component).recorded c.component_id) (held_at held c.component);
+  present = present_kept m product (held_at held c.component).recorded c.component_id;
+  other_client = has_other_client m product c.component_id;
+}

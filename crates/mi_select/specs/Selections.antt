@@ -23,8 +23,8 @@ selection_of features components mode = record {
   local_after = names_that (λ f. f.local_after) features;
   actions = map (λ e. (e.0, as_action e.1.choice.action)) components;
   coming = names_that (λ c. c.coming) components;
-  leaving = names_that (λ c. c.choice.leaving) components;
-  kept = names_that (λ c. c.choice.kept) components;
+  leaving = names_that (λ c. c.leaving) components;
+  kept = names_that (λ c. c.kept) components;
   key_paths = map (λ e. (e.0, e.1.key_path)) components;
   mode = mode;
 }

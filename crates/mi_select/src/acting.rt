@@ -76,7 +76,11 @@ fn choice_of<E: Env>(
     let holds = holds(&row.condition, env);
     let action = action_of(row.component_id.is_some(), holds, present, holders);
     let other_client = has_other_client(alloc, former, code, row.component_id)?;
-    Ok(ComponentChoice::made(action, row.attributes, present, other_client))
+    Ok(ComponentChoice {
+        action,
+        present,
+        other_client,
+    })
 }
 
 /// What becomes of each component, in file order, by what the features say.
@@ -99,9 +103,8 @@ fn choices_of<E: Env>(
 }
 
 /// What becomes of the components of a package, in file order, where `asked` has what becomes of its features: what is done
-/// to each, whether it was there, whether another product or the system is its client, and whether what it brought leaves or
-/// stays (Component Table; FeatureComponents Table). Whether it is coming, `ComponentChoice::is_coming` tells, given whether
-/// its key path is there. The package is lawful.
+/// to each, whether it was there, and whether another product or the system is its client (Component Table; FeatureComponents
+/// Table). Whether it is coming, leaving or kept, `ComponentChoice` tells, given what its key path does. The package is lawful.
 pub fn components<E: Env>(
     alloc: Global,
     loaded: &Package,

@@ -1,8 +1,8 @@
 //! What becomes of a component.
 
 ghost use Rattle.std.specs.Prelude.{◌≡◌};
-ghost use Rattle.mi_model.specs.Components.{is_coming};
-ghost use Rattle.mi_select.specs.Actions.{is_local, is_absent, action_kept, made, as_action};
+ghost use Rattle.mi_model.specs.Components.{is_coming, is_leaving, is_kept};
+ghost use Rattle.mi_select.specs.Actions.{is_local, is_absent, action_kept, as_action};
 
 use crate::holders::Holders;
 use mi_features::has_attribute;
@@ -17,7 +17,7 @@ pub enum Action {
     MakeAbsent,
 }
 
-/// What becomes of a component.
+/// What is done to a component, and what of it was there before the run.
 #[derive(Clone, Copy, Debug, PartialEq, Eq)]
 pub struct ComponentChoice {
     /// What is done to it.
@@ -26,10 +26,6 @@ pub struct ComponentChoice {
     pub present: bool,
     /// Whether another product or the system is its client.
     pub other_client: bool,
-    /// Whether what it brought is taken away.
-    pub leaving: bool,
-    /// Whether what it brought stays.
-    pub kept: bool,
 }
 
 pub(crate) fn is_local(action: Option<Action>) -> bool
@@ -69,30 +65,29 @@ pub fn action_of(has_id: bool, holds: bool, present: bool, holders: Holders) -> 
 }
 
 impl ComponentChoice {
-    /// What becomes of a component with these attributes.
-    pub fn made(
-        action: Option<Action>,
-        attributes: i32,
-        present: bool,
-        other_client: bool,
-    ) -> ComponentChoice
-        ensures { result ≡ made action attributes present other_client }
-    {
-        let leaving = is_absent(action) && !has_attribute(16, attributes) && !other_client;
-        ComponentChoice {
-            action,
-            present,
-            other_client,
-            leaving,
-            kept: is_local(action) || (present && !leaving),
-        }
-    }
-
     /// Whether the component of this row is installed. `key_path_there` says that its key path is there, which is asked where
     /// attribute 128 is set (Component Table, Attributes).
     pub fn is_coming(&self, row: &ComponentRow, key_path_there: bool) -> bool
         ensures { result ≡ is_coming row.now (as_action self.now.action) key_path_there }
     {
         is_local(self.action) && !(has_attribute(128, row.attributes) && key_path_there)
+    }
+
+    /// Whether what the component of this row brought is taken away. `other_count` says that by its count others hold its file
+    /// (Component Table, Attributes).
+    pub fn is_leaving(&self, row: &ComponentRow, other_count: bool) -> bool
+        ensures { result ≡ is_leaving row.now (as_action self.now.action) self.now.other_client other_count }
+    {
+        is_absent(self.action)
+            && !has_attribute(16, row.attributes)
+            && !self.other_client
+            && !other_count
+    }
+
+    /// Whether what the component brought stays. `leaving` says that it is taken away.
+    pub fn is_kept(&self, leaving: bool) -> bool
+        ensures { result ≡ is_kept (as_action self.now.action) self.now.present leaving }
+    {
+        is_local(self.action) || (self.present && !leaving)
     }
 }

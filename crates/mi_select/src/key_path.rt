@@ -164,7 +164,7 @@ fn value_row<'a>(loaded: &'a Package, row: &ComponentRow) -> Option<Row<'a, Regi
 }
 
 /// The row of File that KeyPath names, where attribute 4 isn't set.
-fn file_row<'a>(loaded: &'a Package, row: &ComponentRow) -> Option<Row<'a, FileRow>>
+pub(crate) fn file_row<'a>(loaded: &'a Package, row: &ComponentRow) -> Option<Row<'a, FileRow>>
     requires { IsLawful loaded.now }
     ensures { option_map as_numbered result ≡ file_row (rows_in loaded.now) row.now }
 {

@@ -4,6 +4,7 @@
 
 mod acting;
 mod component;
+mod counts;
 mod holders;
 mod key_path;
 mod selecting;

@@ -24,6 +24,7 @@ ghost use Rattle.mi_select.specs.Selections.{as_named};
 
 use crate::acting::components;
 use crate::component::ComponentChoice;
+use crate::counts::has_other_count;
 use crate::key_path::key_path_of;
 use crate::selection::{Chosen, Selection};
 use indexmap::IndexMap;
@@ -101,12 +102,18 @@ fn chosen_of<E: BoundedEnv>(
     let path = key_path_of(alloc, env, loaded, dirs, row)?;
     let coming = choice.is_coming(row, path.is_there(former));
     let key_path = path.text(alloc)?;
+    let leaving = choice.is_leaving(
+        row,
+        has_other_count(loaded, former, row, key_path.as_str()),
+    );
     let name = String::from_str(alloc, row.component.as_str())?;
     Ok((
         name,
         Chosen {
             choice,
             coming,
+            leaving,
+            kept: choice.is_kept(leaving),
             key_path,
         },
     ))

@@ -23,6 +23,10 @@ pub(crate) struct Chosen {
     pub choice: ComponentChoice,
     /// Whether it is installed.
     pub coming: bool,
+    /// Whether what it brought is taken away.
+    pub leaving: bool,
+    /// Whether what it brought stays.
+    pub kept: bool,
     /// The text of its key path.
     pub key_path: Text,
 }
@@ -83,13 +87,13 @@ impl Selection {
         }
     }
 
-    /// Whether what a component brought is taken away: it is to be absent, isn't permanent, and no other product and not the
-    /// system is its client (Component Table, Attributes).
+    /// Whether what a component brought is taken away: it is to be absent, isn't permanent, no other product and not the system
+    /// is its client, and by its count no others hold its file (Component Table, Attributes).
     pub fn leaves(&self, component: &str) -> bool
         ensures { result ≡ is_among component.now self.now.leaving }
     {
         match self.components.get(component) {
-            Some(chosen) => chosen.choice.leaving,
+            Some(chosen) => chosen.leaving,
             None => false,
         }
     }
@@ -99,7 +103,7 @@ impl Selection {
         ensures { result ≡ is_among component.now self.now.kept }
     {
         match self.components.get(component) {
-            Some(chosen) => chosen.choice.kept,
+            Some(chosen) => chosen.kept,
             None => false,
         }
     }

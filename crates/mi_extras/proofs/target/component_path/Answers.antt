@@ -7,7 +7,7 @@ use Rattle.mi_schema.specs.declared.package.Package.{Package}
 use Rattle.mi_schema.specs.declared.typed_rows.ComponentRow.{ComponentRow}
 use Rattle.mi_schema.specs.RowsOf.{rows_in}
 use Rattle.mi_schema.specs.TableRows.{component_row_of}
-use Rattle.mi_model.specs.ProcessComponents.{recorded_path}
+use Rattle.mi_model.specs.ClientRows.{recorded_path}
 use Rattle.mi_records.specs.Stops.{Tells}
 use Rattle.mi_extras.proofs.ShortcutLemmas.{own_of}
 use Rattle.mi_extras.proofs.ValueLemmas.{told_on}

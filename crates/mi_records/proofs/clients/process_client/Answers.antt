@@ -4,7 +4,7 @@ use Rattle.std.specs.Prelude.{Ok, Some}
 use Rattle.mi_base.specs.Names.{client_name}
 use Rattle.mi_model.specs.World.{MakeLocal}
 use Rattle.mi_model.specs.ComponentRows.{action_in}
-use Rattle.mi_model.specs.ProcessComponents.{client_touches}
+use Rattle.mi_model.specs.ClientRows.{client_touches}
 use Rattle.mi_steps.specs.Follows.{drop_touch}
 use Rattle.mi_steps.specs.Makes.{plan_machine}
 use Rattle.mi_steps.proofs.FollowLemmas.{started}

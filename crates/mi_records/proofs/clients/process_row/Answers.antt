@@ -2,7 +2,7 @@
 use Rattle.std.proofs.Common.{[], None}
 use Rattle.std.specs.Prelude.{Some}
 use Rattle.mi_model.specs.ComponentRows.{action_in}
-use Rattle.mi_model.specs.ProcessComponents.{client_touches, component_touches}
+use Rattle.mi_model.specs.ClientRows.{client_touches, component_touches}
 use Rattle.mi_steps.specs.Makes.{plan_machine}
 use Rattle.mi_steps.proofs.FollowLemmas.{started}
 use Rattle.mi_records.proofs.ClientLemmas.{component_is, row_same}

@@ -1,5 +1,5 @@
 use Rattle.std.proofs.Common.{List, ℕ, [], ◌∷◌, subst}
-use Rattle.mi_model.specs.ProcessComponents.{client_touch}
+use Rattle.mi_model.specs.ClientRows.{client_touch}
 use Rattle.mi_steps.specs.Makes.{Makes}
 use Rattle.mi_records.proofs.clients.put_client.Goals as goal
 

@@ -3,7 +3,7 @@ use Rattle.std.proofs.Common.{Bool, [], ◌∷◌, List, ℕ, Bor, cond, map, su
 use Rattle.std.specs.Prelude.{Some}
 use Rattle.mi_model.specs.World.{MakeLocal}
 use Rattle.mi_model.specs.Conditions.{has}
-use Rattle.mi_model.specs.ProcessComponents.{recorded_path, the_system, client_touch, client_touches}
+use Rattle.mi_model.specs.ClientRows.{recorded_path, the_system, client_touch, client_touches}
 use Rattle.mi_steps.specs.Makes.{Makes}
 use Rattle.mi_records.proofs.ClientLemmas.{code_is, local_touches, local_refused, row_untold}
 use Rattle.mi_records.proofs.clients.record_clients.Goals as goal
