@@ -8,3 +8,4 @@ pub mod SizeLemmas
 pub mod TallyLemmas
 pub mod CostLemmas
 pub mod CountLemmas
+pub mod IdleLemmas

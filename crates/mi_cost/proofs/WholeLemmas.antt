@@ -101,7 +101,7 @@ same_sum m parts (n ∷ names) plain =
     ap (λ (e : ℕ). 4 + 25 * e + sum_by (name_cost m rows) (n ∷ names)) (entries_alike m [] [] parts (λ q. refl) plain)
     ∙ ap (λ (s : ℕ). 4 + 25 * entries_of [] segments + s) (sum_alike (name_cost m rows) (cost_at (volume_of m) (all_changes segments)) (n ∷ names) each)
 
-same_names : (m : Machine) (parts : List Part) → ArePlain m (all_rows parts) → Alike (touched_in m (all_rows parts)) (names_changed (all_changes (segments_of m parts)))
+pub same_names : (m : Machine) (parts : List Part) → ArePlain m (all_rows parts) → Alike (touched_in m (all_rows parts)) (names_changed (all_changes (segments_of m parts)))
 same_names m parts plain q = rows_names m q (all_rows parts) plain ∙ ap (λ s. is_among q (names_changed s)) (sym (all_are m parts))
 
 same_whole : (m : Machine) (parts : List Part) → ArePlain m (all_rows parts) → need m parts ≡ min (cost_of_changes (volume_of m) (segments_of m parts)) (2 ^ 64 - 1)

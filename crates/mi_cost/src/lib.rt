@@ -10,6 +10,6 @@ mod sizes;
 mod total;
 
 pub use error::CostError;
-pub use laws::scripts_cost_what_the_walk_needs;
+pub use laws::{a_walk_that_touches_nothing_has_no_records, scripts_cost_what_the_walk_needs};
 pub use room::fits;
 pub use scripts::need;
