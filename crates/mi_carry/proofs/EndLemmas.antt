@@ -185,3 +185,11 @@ module _ (differs : List ℕ → ℕ → ℕ → Type 0) (room fails : Type 0) (
   pub stop_before : (n k m : ℕ) (why : Stop) → n ≤ k → k ≤ m → MayStop differs room fails refusal begun reached (BelowCount k m) why → MayStop differs room fails refusal begun reached (BelowCount n m) why
   stop_before n k m NoMemory le more may = tt
   stop_before n k m (Refuse cause) le more may = ⊎_elim (λ own. inl own) (λ met. inr (met_weaker differs differs cause (λ file stated found d. d) (λ below r. below_before n k m le more (below r)) (λ x. x) met)) may
+
+-- by another room, where one gives the other
+pub stop_room : (differs : List ℕ → ℕ → ℕ → Type 0) (room more fails : Type 0) (refusal : Option Cause) (begun reached : ℕ) (rose : Type 0) (why : Stop) → (more → room) → MayStop differs room fails refusal begun reached rose why → MayStop differs more fails refusal begun reached rose why
+stop_room differs room more fails refusal begun reached rose NoMemory gives may = tt
+stop_room differs room more fails refusal begun reached rose (Refuse cause) gives may = ⊎_elim (λ own. inl own) (λ met. inr (met_weaker differs differs cause (λ file stated found d. d) (λ below r. below (gives r)) (λ x. x) met)) may
+
+pub answers_room : (room more : Type 0) (why : Stop) (first again last : ℕ) (k : Kind) → (more → room) → AnswersStop room why first again last k → AnswersStop more why first again last k
+answers_room room more why first again last k gives = ⊎_elim (λ is. inl is) (λ rest. inr (⊎_elim (λ is. inl is) (λ is. inr (is.0, λ r. is.1 (gives r))) rest))
