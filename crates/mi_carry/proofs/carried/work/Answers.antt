@@ -2,12 +2,13 @@ use Rattle.std.proofs.Common.{ℕ, Err, refl, sym, ap, subst, ◌∙◌, arith}
 use Rattle.mi_volume.specs.Maps.{Map}
 use Rattle.mi_undo.specs.Area.{CanGoBack, Works}
 use Rattle.mi_model.specs.Causes.{BelowCount}
-use Rattle.mi_carry.specs.Segments.{after_segments}
+use Rattle.mi_carry.specs.Segments.{after_segments, Reaches}
 use Rattle.mi_carry.specs.Causes.{Differs}
 use Rattle.mi_carry.specs.Falls.{AnswersStop}
-use Rattle.mi_carry.specs.Halts.{Goes, IfBack, HaltCaused}
+use Rattle.mi_carry.specs.Halts.{Goes, IfBack, HaltCaused, reached_by}
 use Rattle.mi_carry.specs.Rooms.{HasRoom, IsRoomy, FitsBack}
-use Rattle.mi_carry.proofs.EndLemmas.{all_outside, lifted, declined_ends, done_ends, fell_ends, unknown_ends, stop_before, stop_room, answers_room, fell_caused}
+use Rattle.mi_carry.proofs.CauseLemmas.{raised}
+use Rattle.mi_carry.proofs.EndLemmas.{begun_caused, all_outside, lifted, declined_ends, done_ends, fell_ends, unknown_ends, stop_before, stop_room, answers_room, fell_caused}
 use Rattle.mi_carry.proofs.RoomLemmas.{begun_roomy, walked_goes, fallen_goes, not_begun}
 use Rattle.mi_carry.proofs.carried.work.Goals as goal
 
@@ -79,6 +80,15 @@ returns-in-Err-Back-clause-caused g c =
     (answers_room back room c.in-Err-Back.stopped.why s.faults u.faults (g.V.Volume.state c.fall_back.new.area.0).faults c.fall_back.result to_back
     (subst (λ (n : ℕ). AnswersStop back c.in-Err-Back.stopped.why n u.faults (g.V.Volume.state c.fall_back.new.area.0).faults c.fall_back.result) c.faults-first.ensures c.fall_back.ensures.answers)))
 
+pub returns-in-Err-clause-caused : goal.returns-in-Err-clause-caused
+returns-in-Err-clause-caused g c =
+    let s = g.V.Volume.state c.args.vol.now in
+    let r = g.V.Volume.state c.in-Err.refused.vol.now in
+    rw (c.vol-1.given.1 (sym c.in-Err.ensures.handed_back), c.give_up.ensures, c.from.ensures)
+    (begun_caused (Differs g.S.Source.told c.args.parts.now) (g.V.Volume.told → HasRoom s c.args.parts.now) (BelowCount (g.S.Source.faults c.args.src.now) (g.S.Source.faults c.args.src.now)) c.args.refusal c.args.begun c.first_reached.result s.faults r.faults c.in-Err.refused.fault
+    (λ is. raised s r c.in-Err.ensures.passes.faults (c.in-Err.ensures.fault is))
+    (λ is has. let full = c.in-Err.ensures.full is in not_begun s c.args.parts.now c.requires.some (has full.0) full.1))
+
 pub returns-in-Err-clause-recovers : goal.returns-in-Err-clause-recovers
 returns-in-Err-clause-recovers g c = λ told has. rw (c.vol-1.given.1 (sym c.in-Err.ensures.handed_back)) (c.in-Err.ensures.room_declined told)
 
@@ -128,3 +138,11 @@ returns-in-Err-Unknown-clause-ends g c = λ told.
     (subst (Goes g.S.Source.told s (g.V.Volume.state c.carry_walk.new.area.vol.now) c.carry_walk.new.area.kept s.held _ c.args.refusal) fails
     (lifted g.S.Source.told s (g.V.Volume.state c.in-Ok.area.vol.now) _ _ s.held _ _ c.args.refusal c.carry_walk.result c.in-Ok.ensures.passes.faults c.carry_walk.ensures.passes.faults
     (ap (λ (m : Map). after_segments (g.S.Source.files c.args.src.now) m c.args.parts.now) (opens.outside ∙ all_outside s (c.requires.free told))) opens.goes goes)))
+
+pub returns-in-Err-Back-clause-reached : goal.returns-in-Err-Back-clause-reached
+returns-in-Err-Back-clause-reached g c =
+    subst (λ r. Reaches c.args.begun c.args.parts.now (reached_by c.args.begun r)) (c.in-Err-Back.is ∙ ap Err c.in-Err-Back.field-0-is) c.carry_walk.ensures.reached
+
+pub returns-in-Err-Unknown-clause-reached : goal.returns-in-Err-Unknown-clause-reached
+returns-in-Err-Unknown-clause-reached g c =
+    subst (λ r. Reaches c.args.begun c.args.parts.now (reached_by c.args.begun r)) (c.in-Err-Unknown.is ∙ ap Err c.in-Err-Unknown.field-0-is) c.carry_walk.ensures.reached
