@@ -33,7 +33,8 @@ use Rattle.mi_model.specs.Components.{is_made_local, is_made_absent}
 use Rattle.mi_model.specs.Conditions.{has}
 use Rattle.mi_model.specs.KeyPaths.{KeyPath, key_path_text, of_file, of_rows, key_path_of}
 use Rattle.mi_model.specs.ClientRows.{found_path, recorded_path, the_system, client_touch, client_touches, of_id, component_touches}
-use Rattle.mi_model.specs.ProcessComponents.{process_components}
+use Rattle.mi_model.specs.ProcessComponents.{touched_counts, process_components}
+use Rattle.mi_model.specs.RegistryGuards.{prune_keys}
 use Rattle.mi_model.specs.Refusals.{◌>>=◌}
 use Rattle.mi_steps.specs.declared.plan.Plan.{Plan}
 use Rattle.mi_steps.specs.Follows.{drop_touch}
@@ -249,11 +250,11 @@ module _ (held : Map (List ℕ)) (files : Files) (a b : Plan) where
 -- ---- the phase
 
 pub process_effect : (p : Package) (w : World) (ns : List (ℕ × Bor ComponentRow)) → w.given.rows ≡ rows_in p → map as_numbered ns ≡ in_key_order (λ (r : ComponentRow). r.component) (rows_in p).component
-    → process_components w ≡ Ok (map (λ n. component_effect w (as_numbered n)) ns)
+    → process_components w ≡ Ok (map (λ n. component_effect w (as_numbered n)) ns ++ prune_keys w (touched_counts w) ∷ [])
 unfolding process_components
 process_effect p w ns same is =
-    ap (λ (all : List (Numbered ComponentRow)). Ok (map (component_effect w) all)) (ap (λ (rs : Rows). in_key_order (λ (r : ComponentRow). r.component) rs.component) same ∙ sym is)
-    ∙ ap Ok (map-over (component_effect w) as_numbered ns)
+    ap (λ (all : List (Numbered ComponentRow)). Ok (map (component_effect w) all ++ prune_keys w (touched_counts w) ∷ [])) (ap (λ (rs : Rows). in_key_order (λ (r : ComponentRow). r.component) rs.component) same ∙ sym is)
+    ∙ ap (λ (es : List RowEffect). Ok (es ++ prune_keys w (touched_counts w) ∷ [])) (map-over (component_effect w) as_numbered ns)
 
 -- each row of the table is that of its key
 own_all : (es : List (Name × ComponentRow)) (rows : List (ℕ × Bor ComponentRow)) → All (λ e. e.0 ≡ e.1.component) es → HaveOwnKeys es → AllByRecursion (λ r. Contains (behind es) r.1.now) rows

@@ -22,3 +22,4 @@ pub mod RemoveLemmas
 pub mod NamedLemmas
 pub mod RemovingLemmas
 pub mod CleanLemmas
+pub mod CountLemmas

@@ -20,7 +20,7 @@ use Rattle.mi_model.specs.PhaseRows.{Touches, after_rows, by_rows}
 use Rattle.mi_model.specs.Plans.{all_touches}
 use Rattle.mi_model.specs.Refusals.{◌>>=◌}
 use Rattle.mi_model.specs.RegistryRows.{RegistryPlace, RegistryMeaning, registry_meaning, removal_place}
-use Rattle.mi_model.specs.RegistryGuards.{is_guarded_value}
+use Rattle.mi_model.specs.CountRows.{is_guarded}
 use Rattle.mi_model.specs.RemoveRegistryValues.{removed_touches, remove_row, removal_touches, removal_row}
 use Rattle.mi_model_laws.proofs.RowLemmas.{bound, from_ok, behind, with_first}
 use Rattle.mi_model_laws.proofs.SpellLemmas.{by_rows_touch}
@@ -39,9 +39,9 @@ use Rattle.mi_records.specs.Rows.{Only, RowIn, Rows}
 
 module _ (w : World) (L : Lookups) (r : Numbered RegistryRow) (m : Machine) (same : lookups w ≡ L) where
   abbrev takes : Result RegistryMeaning Fault → Result (List (Touch Entry)) Fault
-  takes x = x >>= λ meaning. Ok (removed_touches (is_guarded_value w) meaning (keys m))
+  takes x = x >>= λ meaning. Ok (removed_touches (is_guarded w) meaning (keys m))
 
-  pub row_removes : (meaning : RegistryMeaning) → registry_meaning L r ≡ Ok meaning → remove_row w r m ≡ Ok (removed_touches (is_guarded_value w) meaning (keys m))
+  pub row_removes : (meaning : RegistryMeaning) → registry_meaning L r ≡ Ok meaning → remove_row w r m ≡ Ok (removed_touches (is_guarded w) meaning (keys m))
   unfolding remove_row
   row_removes meaning is = ap (λ (K : Lookups). takes (registry_meaning K r)) same ∙ ap takes is
 

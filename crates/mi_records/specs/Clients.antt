@@ -11,7 +11,7 @@ use Rattle.mi_schema.specs.TableRows.{Rows, Numbered, numbered_from, row_of, com
 use Rattle.mi_schema.specs.Values.{lacks}
 use Rattle.mi_model.specs.Texts.{Text}
 use Rattle.mi_model.specs.World.{World, RowEffect}
-use Rattle.mi_model.specs.ClientRows.{component_touches}
+use Rattle.mi_model.specs.ProcessComponents.{processed}
 use Rattle.mi_records.specs.declared.error.PlanError.{PlanError}
 use Rattle.mi_records.specs.declared.error.PlanError.TheVariants as error
 use Rattle.mi_records.specs.Choices.{Choices}
@@ -57,4 +57,4 @@ IsFault f (error.Fault g) = g ≡ f
 
 -- what a row of Component does
 abbrev pub component_effect : World → Numbered ComponentRow → RowEffect
-component_effect w n m = component_touches w n.row
+component_effect w n m = processed w n.row

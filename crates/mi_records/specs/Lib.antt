@@ -1,6 +1,7 @@
 pub mod Choices
 pub mod Clients
 pub mod Columns
+pub mod Counts
 pub mod Keeps
 pub mod Meaning
 pub mod Order

@@ -1,4 +1,4 @@
-//! ProcessComponents: the clients of components.
+//! ProcessComponents: the clients of components, and the counts of shared files.
 
 ghost use Rattle.std.specs.Prelude.{◌≡◌, ◌∷◌, [], if◌then◌else◌, List, ℕ, All, IfOk, OnOk, Ok, Some, map};
 ghost use Rattle.mi_text.specs.Maps.{Map};
@@ -9,7 +9,7 @@ ghost use Rattle.mi_model.specs.World.{World, MakeLocal};
 ghost use Rattle.mi_model.specs.ComponentRows.{action_in};
 ghost use Rattle.mi_model.specs.Conditions.{has};
 ghost use Rattle.mi_model.specs.ClientRows.{client_touch, client_touches, component_touches, the_system};
-ghost use Rattle.mi_model.specs.ProcessComponents.{process_components};
+ghost use Rattle.mi_model.specs.ProcessComponents.{processed, process_components, takes_counts};
 ghost use Rattle.mi_schema.specs.Lawful.{IsLawful};
 ghost use Rattle.mi_schema.specs.RowsOf.{rows_in};
 ghost use Rattle.mi_schema.specs.TableRows.{in_key_order, product_code};
@@ -18,21 +18,25 @@ ghost use Rattle.mi_steps.specs.Follows.{Grows, drop_touch};
 ghost use Rattle.mi_steps.specs.Makes.{Makes, plan_machine};
 ghost use Rattle.mi_records.specs.Choices.{IsAsked};
 ghost use Rattle.mi_records.specs.Clients.{IsOwn, component_effect};
+ghost use Rattle.mi_records.specs.Counts.{GuardsCounts};
 ghost use Rattle.mi_records.specs.Keeps.{Keeps};
 ghost use Rattle.mi_records.specs.Order.{as_numbered};
 ghost use Rattle.mi_records.specs.Rows as made;
 ghost use Rattle.mi_records.specs.Rows.{Phase};
 
+use crate::counts::{process_count, prune_counts, takes_counts};
 use crate::error::PlanError;
+use crate::guards::guards;
 use crate::key_path::{lacks, recorded_path};
 use crate::order::{Row, in_key_order};
 use crate::product::product_code;
 use crate::publish::drop_entry;
 use crate::sees::Sees;
-use mi_base::{Client, Entry, Guid, NoMemory, Text};
+use mi_base::{Client, Entry, Guid, Name, NoMemory, Text};
 use mi_schema::{ComponentRow, Package, keys_apart, keys_stand, tables_small};
 use mi_steps::Plan;
 use std::alloc::Global;
+use std::collections::BTreeSet;
 
 // The system as the client of a permanent component.
 const THE_SYSTEM: Guid = Guid { number: 0 };
@@ -175,8 +179,8 @@ fn process_client<S: Sees>(
     Ok(())
 }
 
-// Carries out a row.
-fn process_row<S: Sees>(
+// Carries out what becomes of a component's clients.
+fn process_clients<S: Sees>(
     alloc: Global,
     seen: &S,
     product: Guid,
@@ -195,22 +199,44 @@ fn process_row<S: Sees>(
     }
 }
 
+// Carries out a row: its clients, then its count.
+fn process_row<S: Sees>(
+    alloc: Global,
+    seen: &S,
+    product: Guid,
+    guards: &BTreeSet<Name>,
+    row: &ComponentRow,
+    plan: &mut Plan,
+) -> Result<(), PlanError>
+    requires lawful { IsLawful (S.rows seen.now) }
+    requires code { product.number ≡ product_code (rows_in (S.rows seen.now)) }
+    requires own { IsOwn (rows_in (S.rows seen.now)) row.now }
+    ensures row { (held files : Map (List ℕ)) (w : World) → IsAsked (S.lookups seen.now) (S.choices seen.now) (S.rows seen.now) w → GuardsCounts guards.now w → made.Row held files plan.old plan.new (λ m. processed w row.now) result }
+    ensures keeps { Keeps plan.old plan.new }
+{
+    match process_clients(alloc, seen, product, row, plan) {
+        Ok(()) => process_count(alloc, seen, guards, row, plan),
+        Err(error) => Err(error),
+    }
+}
+
 // Carries out rows, one after the other.
 fn process_rows<S: Sees>(
     alloc: Global,
     seen: &S,
     product: Guid,
+    guards: &BTreeSet<Name>,
     rows: &[Row<'_, ComponentRow>],
     plan: &mut Plan,
 ) -> Result<(), PlanError>
     requires lawful { IsLawful (S.rows seen.now) }
     requires code { product.number ≡ product_code (rows_in (S.rows seen.now)) }
     requires own { All (λ r. IsOwn (rows_in (S.rows seen.now)) r.1.now) rows.now }
-    ensures rows { (held files : Map (List ℕ)) (w : World) → IsAsked (S.lookups seen.now) (S.choices seen.now) (S.rows seen.now) w → made.Rows held files plan.old plan.new (map (λ r. component_effect w (as_numbered r)) rows.now) result }
+    ensures rows { (held files : Map (List ℕ)) (w : World) → IsAsked (S.lookups seen.now) (S.choices seen.now) (S.rows seen.now) w → GuardsCounts guards.now w → made.Rows held files plan.old plan.new (map (λ r. component_effect w (as_numbered r)) rows.now) result }
     ensures keeps { Keeps plan.old plan.new }
 {
     for row in rows {
-        match process_row(alloc, seen, product, row.1, plan) {
+        match process_row(alloc, seen, product, guards, row.1, plan) {
             Ok(()) => {}
             Err(error) => return Err(error),
         }
@@ -232,12 +258,81 @@ fn component_rows(alloc: Global, loaded: &Package) -> Result<Vec<Row<'_, Compone
     in_key_order(alloc, &loaded.component)
 }
 
+// The names that are guarded, where a counted component leaves; else none is asked for.
+fn count_guards<S: Sees>(alloc: Global, seen: &S, takes: bool) -> Result<BTreeSet<Name>, NoMemory>
+    requires { IsLawful (S.rows seen.now) }
+    ensures { (w : World) → IsAsked (S.lookups seen.now) (S.choices seen.now) (S.rows seen.now) w → takes ≡ takes_counts w → IfOk result (λ set. GuardsCounts set w) }
+{
+    if takes {
+        guards(alloc, seen)
+    } else {
+        Ok(BTreeSet::new(alloc))
+    }
+}
+
+// Carries out the rows.
+fn process_all<S: Sees>(
+    alloc: Global,
+    seen: &S,
+    product: Guid,
+    takes: bool,
+    rows: &[Row<'_, ComponentRow>],
+    plan: &mut Plan,
+) -> Result<(), PlanError>
+    requires lawful { IsLawful (S.rows seen.now) }
+    requires code { product.number ≡ product_code (rows_in (S.rows seen.now)) }
+    requires own { All (λ r. IsOwn (rows_in (S.rows seen.now)) r.1.now) rows.now }
+    ensures rows { (held files : Map (List ℕ)) (w : World) → IsAsked (S.lookups seen.now) (S.choices seen.now) (S.rows seen.now) w → takes ≡ takes_counts w → made.Rows held files plan.old plan.new (map (λ r. component_effect w (as_numbered r)) rows.now) result }
+    ensures keeps { Keeps plan.old plan.new }
+{
+    match count_guards(alloc, seen, takes) {
+        Ok(guards) => {
+            let done = process_rows(alloc, seen, product, &guards, rows, plan);
+            drop(guards);
+            done
+        }
+        Err(_) => Err(PlanError::NoMemory),
+    }
+}
+
+// Carries out the rows, and prunes behind them.
+fn process_and_prune<S: Sees>(
+    alloc: Global,
+    seen: &S,
+    product: Guid,
+    rows: &[Row<'_, ComponentRow>],
+    plan: &mut Plan,
+) -> Result<(), PlanError>
+    requires lawful { IsLawful (S.rows seen.now) }
+    requires code { product.number ≡ product_code (rows_in (S.rows seen.now)) }
+    requires own { All (λ r. IsOwn (rows_in (S.rows seen.now)) r.1.now) rows.now }
+    requires order { map as_numbered rows.now ≡ in_key_order (λ (r : ComponentRow). r.component) (rows_in (S.rows seen.now)).component }
+    ensures phase { (held files : Map (List ℕ)) (w : World) → IsAsked (S.lookups seen.now) (S.choices seen.now) (S.rows seen.now) w → w.machine ≡ plan_machine held files plan.old → Phase held files plan.old plan.new process_components w result }
+    ensures keeps { Keeps plan.old plan.new }
+{
+    let takes = takes_counts(seen);
+    match process_all(alloc, seen, product, takes, rows, plan) {
+        Ok(()) => {
+            prune_counts(alloc, seen, takes, plan)?;
+            Ok(())
+        }
+        Err(error) => Err(error),
+    }
+}
+
 /// ProcessComponents, in byte order of the components' keys: this product's client of an absent component goes; a local one with a
 /// code gets this product as its client, with its key path, and the system too where it has attribute 16. The key path of a file or
 /// folder is taken by the directories as they stand, that of a value as CostFinalize found it (ProcessComponents Action).
 ///
+/// Behind its clients stands the count of a component with attribute 8, a code and a file as its key path, the integer under
+/// `Software\Microsoft\Windows\CurrentVersion\SharedDLLs` of the machine that the key path names: one more, up to 4,294,967,295, where
+/// it is local and wasn't present; one less where it is absent and doesn't leave; and where it leaves no count, unless a row of
+/// Registry or the count of a kept component guards it. Where one left, the keys of the counts are pruned last (Component table,
+/// Attributes; the rules of the counts are this project's own). It costs a search for each component, and where one with a count
+/// leaves, one for each row of Registry and a sort of what is held.
+///
 /// Refused with `BadPath` of the row of File whose path is past the limits. A key path of 4,294,967,296 bytes or more is want of
-/// memory.
+/// memory, and so is a counted one of more than 500, which no file has.
 pub fn plan_process_components<S: Sees>(
     alloc: Global,
     seen: &S,
@@ -251,5 +346,5 @@ pub fn plan_process_components<S: Sees>(
 {
     let product = product_code(alloc, seen.package())?;
     let rows = component_rows(alloc, seen.package())?;
-    process_rows(alloc, seen, product, rows.as_slice(), plan)
+    process_and_prune(alloc, seen, product, rows.as_slice(), plan)
 }

@@ -1,8 +1,9 @@
-//! The values that rows of kept components guard.
+//! The values that rows and counts of kept components guard.
 
 ghost use Rattle.std.specs.Prelude.{◌≡◌, ℕ, Some, IfOk, option_map, pos, negsuc};
 ghost use Rattle.std.specs.Result.{result_ok};
 ghost use Rattle.mi_model.specs.World.{World};
+ghost use Rattle.mi_model.specs.CountRows.{is_guarded};
 ghost use Rattle.mi_model.specs.RegistryGuards.{is_guarded_value};
 ghost use Rattle.mi_model.specs.RegistryRows.{name_of_value, registry_place};
 ghost use Rattle.mi_schema.specs.Lawful.{IsLawful};
@@ -11,6 +12,7 @@ ghost use Rattle.mi_records.specs.Choices.{IsAsked};
 ghost use Rattle.mi_records.specs.Meaning.{numbered};
 ghost use Rattle.mi_records.specs.Removing.{Guards, guard_of};
 
+use crate::counts::add_counts;
 use crate::meaning::place_of;
 use crate::names::name_at;
 use crate::place::RegistryPlace;
@@ -58,9 +60,8 @@ fn guard_of<S: Sees>(alloc: Global, seen: &S, row: &RegistryRow) -> Result<Optio
     }
 }
 
-/// The names of the values that rows of Registry of kept components name, which leaving rows don't take
-/// (this project's own).
-pub fn guards<S: Sees>(alloc: Global, seen: &S) -> Result<BTreeSet<Name>, NoMemory>
+// The names of the values that rows of Registry of kept components name.
+fn value_guards<S: Sees>(alloc: Global, seen: &S) -> Result<BTreeSet<Name>, NoMemory>
     requires { IsLawful (S.rows seen.now) }
     ensures { (w : World) → IsAsked (S.lookups seen.now) (S.choices seen.now) (S.rows seen.now) w → IfOk result (λ set. Guards set (is_guarded_value w)) }
 {
@@ -72,5 +73,16 @@ pub fn guards<S: Sees>(alloc: Global, seen: &S) -> Result<BTreeSet<Name>, NoMemo
             set.insert(name)?;
         }
     }
+    Ok(set)
+}
+
+/// The names of the values that rows of Registry and counts of kept components name, which leaving rows don't take
+/// (this project's own).
+pub fn guards<S: Sees>(alloc: Global, seen: &S) -> Result<BTreeSet<Name>, NoMemory>
+    requires { IsLawful (S.rows seen.now) }
+    ensures { (w : World) → IsAsked (S.lookups seen.now) (S.choices seen.now) (S.rows seen.now) w → IfOk result (λ set. Guards set (is_guarded w)) }
+{
+    let mut set = value_guards(alloc, seen)?;
+    add_counts(alloc, seen, &mut set)?;
     Ok(set)
 }

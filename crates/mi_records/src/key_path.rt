@@ -34,8 +34,8 @@ fn bad_path(alloc: Global, number: u32) -> PlanError
     }
 }
 
-// The number of the row of File of a key, from 1.
-fn file_number(loaded: &Package, key: &Text) -> Option<u32>
+/// The number of the row of File of a key, from 1.
+pub fn file_number(loaded: &Package, key: &Text) -> Option<u32>
     requires { IsLawful loaded.now }
     ensures { result ≡ file_number (rows_in loaded.now) key.now }
 {

@@ -34,7 +34,8 @@ pub enum Rest {
     Left(ValueKey, Texts),
 }
 
-fn copy_key(alloc: Global, key: &ValueKey) -> Result<ValueKey, NoMemory>
+/// A copy of the key of a value's entry.
+pub fn copy_key(alloc: Global, key: &ValueKey) -> Result<ValueKey, NoMemory>
     ensures { IfOk result (λ k. k ≡ key.now) }
 {
     Ok(ValueKey {

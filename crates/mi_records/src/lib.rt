@@ -5,6 +5,7 @@
 mod below;
 mod clear;
 mod clients;
+mod counts;
 mod error;
 mod guards;
 mod items;

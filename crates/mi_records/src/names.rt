@@ -12,7 +12,8 @@ use crate::place::RegistryPlace;
 use mi_base::{Entry, Name, NoMemory, RegValue, Text, ValueKey, fold};
 use std::alloc::Global;
 
-fn value_key(alloc: Global, root: u8, key: &str, name: &str) -> Result<ValueKey, NoMemory>
+/// The key of a value's entry: its root, its key in folded bytes, and its name as it is shown.
+pub fn value_key(alloc: Global, root: u8, key: &str, name: &str) -> Result<ValueKey, NoMemory>
     ensures { IfOk result (λ k. k ≡ record { root = root; key = folded key.now; shown = name.now }) }
 {
     Ok(ValueKey {

@@ -6,7 +6,7 @@ ghost use Rattle.mi_text.specs.Maps.{Map};
 ghost use Rattle.mi_changes.specs.Touches.{Set};
 ghost use Rattle.mi_model.specs.World.{World};
 ghost use Rattle.mi_model.specs.Asked.{lookups};
-ghost use Rattle.mi_model.specs.RegistryGuards.{is_guarded_value};
+ghost use Rattle.mi_model.specs.CountRows.{is_guarded};
 ghost use Rattle.mi_model.specs.RegistryRows as model;
 ghost use Rattle.mi_model.specs.RemoveRegistryValues.{taken_at, removed_touches, remove_row};
 ghost use Rattle.mi_schema.specs.Laws.{IsWithin};
@@ -101,7 +101,7 @@ fn remove_row<E: BoundedEnv>(
     plan: &mut Plan,
 ) -> Result<(), Stop>
     requires { IsWithin (negsuc 0) (pos 3) row.now.root }
-    ensures row { (held files : Map (List ℕ)) (w : World) (number : ℕ) → lookups w ≡ E.lookups env.now → Guards guards.now (is_guarded_value w) → AreClear (is_guarded_value w) (plan_machine held files plan.old) cleared.old → made.RowIn held files plan.old plan.new (codes "Registry") number (remove_row w (numbered number row.now)) result }
+    ensures row { (held files : Map (List ℕ)) (w : World) (number : ℕ) → lookups w ≡ E.lookups env.now → Guards guards.now (is_guarded w) → AreClear (is_guarded w) (plan_machine held files plan.old) cleared.old → made.RowIn held files plan.old plan.new (codes "Registry") number (remove_row w (numbered number row.now)) result }
     ensures clear { (guarded : List ℕ → Bool) (held files : Map (List ℕ)) → Guards guards.now guarded → AreClear guarded (plan_machine held files plan.old) cleared.old → OnOk result (AreClear guarded (plan_machine held files plan.new) cleared.new) }
     ensures keeps { Keeps plan.old plan.new }
 {
@@ -125,7 +125,7 @@ fn remove_numbered<E: BoundedEnv>(
     plan: &mut Plan,
 ) -> Result<(), PlanError>
     requires { IsWithin (negsuc 0) (pos 3) row.1.now.root }
-    ensures row { (held files : Map (List ℕ)) (w : World) → lookups w ≡ E.lookups env.now → Guards guards.now (is_guarded_value w) → AreClear (is_guarded_value w) (plan_machine held files plan.old) cleared.old → made.Row held files plan.old plan.new (remove_row w (as_numbered row.entry)) result }
+    ensures row { (held files : Map (List ℕ)) (w : World) → lookups w ≡ E.lookups env.now → Guards guards.now (is_guarded w) → AreClear (is_guarded w) (plan_machine held files plan.old) cleared.old → made.Row held files plan.old plan.new (remove_row w (as_numbered row.entry)) result }
     ensures clear { (guarded : List ℕ → Bool) (held files : Map (List ℕ)) → Guards guards.now guarded → AreClear guarded (plan_machine held files plan.old) cleared.old → OnOk result (AreClear guarded (plan_machine held files plan.new) cleared.new) }
     ensures keeps { Keeps plan.old plan.new }
 {
@@ -145,7 +145,7 @@ pub fn remove_rows<E: BoundedEnv>(
     plan: &mut Plan,
 ) -> Result<(), PlanError>
     requires { All (λ r. IsWithin (negsuc 0) (pos 3) r.1.now.root) rows.now }
-    ensures rows { (held files : Map (List ℕ)) (w : World) → lookups w ≡ E.lookups env.now → Guards guards.now (is_guarded_value w) → made.Rows held files plan.old plan.new (map (λ r. remove_row w (as_numbered r)) rows.now) result }
+    ensures rows { (held files : Map (List ℕ)) (w : World) → lookups w ≡ E.lookups env.now → Guards guards.now (is_guarded w) → made.Rows held files plan.old plan.new (map (λ r. remove_row w (as_numbered r)) rows.now) result }
     ensures keeps { Keeps plan.old plan.new }
 {
     let mut cleared = BTreeSet::new(alloc);

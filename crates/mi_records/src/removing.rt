@@ -182,9 +182,9 @@ fn remove_and_prune<S: Sees>(
     }
 }
 
-/// RemoveRegistryValues: the rows of Registry of leaving components in byte order of their keys, but for the values that rows of
-/// kept components name; then those of RemoveRegistry of local components; then the keys that all these rows name are pruned, but
-/// for the keys of rows `+` and `*` of kept components (RemoveRegistryValues Action; Registry table, columns Name and Value;
+/// RemoveRegistryValues: the rows of Registry of leaving components in byte order of their keys, but for the values that rows and
+/// counts of kept components name; then those of RemoveRegistry of local components; then the keys that all these rows name are
+/// pruned, but for the keys of rows `+` and `*` of kept components (RemoveRegistryValues Action; Registry table, columns Name and Value;
 /// RemoveRegistry table, column Name). It costs a search for each row and what its key holds, and a sort of what is held.
 ///
 /// Refused with the first of `TooDeep` and `BadKey` of a row, column by column. No text of more than 67,108,864 bytes is put

@@ -1,22 +1,15 @@
--- A component without a code has no clients.
-use Rattle.std.proofs.Common.{[], None}
-use Rattle.std.specs.Prelude.{Some}
-use Rattle.mi_model.specs.ComponentRows.{action_in}
-use Rattle.mi_model.specs.ClientRows.{client_touches, component_touches}
-use Rattle.mi_steps.specs.Makes.{plan_machine}
-use Rattle.mi_steps.proofs.FollowLemmas.{started}
-use Rattle.mi_records.proofs.ClientLemmas.{component_is, row_same}
+-- The clients, and the count behind them.
+use Rattle.mi_records.proofs.KeyLemmas.{keeps_on}
+use Rattle.mi_records.proofs.CountLemmas.{count_behind, no_count_behind}
 use Rattle.mi_records.proofs.clients.process_row.Goals as goal
 
-pub returns-in-Some-clause-row : goal.returns-in-Some-clause-row
-returns-in-Some-clause-row g c = λ held files w asked.
-    let r = c.args.row.now in
-    row_same held files c.args.plan.now c.process_client.new.plan (λ m. client_touches w r c.in-Some.component (action_in w r.component)) (λ m. component_touches w r) c.process_client.result
-    (component_is w r (Some c.in-Some.component) c.in-Some.is) (c.process_client.ensures.row held files w asked)
+pub returns-in-Ok-clause-row : goal.returns-in-Ok-clause-row
+returns-in-Ok-clause-row g c = λ held files w asked guards.
+    count_behind w c.args.row.now held files c.args.plan.now c.process_clients.new.plan c.process_count.new.plan c.process_count.result (c.in-Ok.ensures.row held files w asked) (c.process_count.ensures.row held files w asked guards)
 
-pub returns-in-None-clause-row : goal.returns-in-None-clause-row
-returns-in-None-clause-row g c = λ held files w asked. record {
-  touches = [];
-  gives = component_is w c.args.row.now None c.in-None.is;
-  makes = started files (plan_machine held files c.args.plan.now) c.args.plan.now.script;
-}
+pub returns-in-Ok-clause-keeps : goal.returns-in-Ok-clause-keeps
+returns-in-Ok-clause-keeps g c = keeps_on c.args.plan.now c.process_clients.new.plan c.process_count.new.plan c.in-Ok.ensures.keeps c.process_count.ensures.keeps
+
+pub returns-in-Err-clause-row : goal.returns-in-Err-clause-row
+returns-in-Err-clause-row g c = λ held files w asked guards.
+    no_count_behind w c.args.row.now held files c.args.plan.now c.process_clients.new.plan (Unit {0}) (Unit {0}) c.process_clients.new.plan c.in-Err.error (c.in-Err.ensures.row held files w asked)

@@ -16,28 +16,28 @@ effect w r = component_effect w (as_numbered r)
 
 pub loop-row-init : goal.loop-row-init
 loop-row-init g c = record {
-  rows = λ held files w asked. rows_started files (plan_machine held files c.args.plan.now) c.args.plan.now.script;
+  rows = λ held files w asked guards. rows_started files (plan_machine held files c.args.plan.now) c.args.plan.now.script;
   keeps = keeps_not c.args.plan.now;
 }
 
 pub loop-row-preserved : goal.loop-row-preserved
 loop-row-preserved g c = record {
-  rows = λ held files w asked.
-      let row = c.in-Ok.ensures.row held files w asked in
-      one_row (effect w) c.args.rows.now c.loop-row.row-index c.row-item.result c.loop-row-test.true c.row-item.is files (plan_machine held files c.args.plan.now) (plan_machine held files c.loop-row.plan) c.args.plan.now.script c.loop-row.plan.script (c.loop-row.invariant.rows held files w asked)
+  rows = λ held files w asked guards.
+      let row = c.in-Ok.ensures.row held files w asked guards in
+      one_row (effect w) c.args.rows.now c.loop-row.row-index c.row-item.result c.loop-row-test.true c.row-item.is files (plan_machine held files c.args.plan.now) (plan_machine held files c.loop-row.plan) c.args.plan.now.script c.loop-row.plan.script (c.loop-row.invariant.rows held files w asked guards)
       (plan_machine held files c.process_row.new.plan) c.process_row.new.plan.script row.touches row.gives row.makes;
   keeps = keeps_on c.args.plan.now c.loop-row.plan c.process_row.new.plan c.loop-row.invariant.keeps c.in-Ok.ensures.keeps;
 }
 
 pub returns-clause-rows : goal.returns-clause-rows
-returns-clause-rows g c = λ held files w asked.
+returns-clause-rows g c = λ held files w asked guards.
     all_rows (effect w) c.args.rows.now c.loop-row.row-index files (plan_machine held files c.args.plan.now) (plan_machine held files c.loop-row.plan) c.args.plan.now.script c.loop-row.plan.script
-    (omega (arith, c.loop-row-test.false)) (c.loop-row.invariant.rows held files w asked)
+    (omega (arith, c.loop-row-test.false)) (c.loop-row.invariant.rows held files w asked guards)
 
 pub returns-in-Err-clause-rows : goal.returns-in-Err-clause-rows
-returns-in-Err-clause-rows g c = λ held files w asked.
+returns-in-Err-clause-rows g c = λ held files w asked guards.
     rows_refused held files c.args.plan.now c.loop-row.plan (Unit {0}) (Unit {0}) (effect w) c.args.rows.now c.loop-row.row-index c.row-item.result c.process_row.new.plan c.in-Err.error c.loop-row-test.true c.row-item.is
-    (c.loop-row.invariant.rows held files w asked) (c.in-Err.ensures.row held files w asked)
+    (c.loop-row.invariant.rows held files w asked guards) (c.in-Err.ensures.row held files w asked guards)
 
 pub returns-in-Err-clause-keeps : goal.returns-in-Err-clause-keeps
 returns-in-Err-clause-keeps g c = keeps_on c.args.plan.now c.loop-row.plan c.process_row.new.plan c.loop-row.invariant.keeps c.in-Err.ensures.keeps

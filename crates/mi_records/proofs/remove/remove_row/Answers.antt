@@ -1,7 +1,7 @@
 -- What the row means is carried out.
 use Rattle.std.proofs.Common.{codes}
 use Rattle.std.specs.FinMap.{keys}
-use Rattle.mi_model.specs.RegistryGuards.{is_guarded_value}
+use Rattle.mi_model.specs.CountRows.{is_guarded}
 use Rattle.mi_model.specs.RegistryRows.{registry_meaning}
 use Rattle.mi_model.specs.RemoveRegistryValues.{remove_row, removed_touches}
 use Rattle.mi_steps.specs.Makes.{plan_machine}
@@ -14,9 +14,9 @@ pub returns-in-Ok-clause-row : goal.returns-in-Ok-clause-row
 returns-in-Ok-clause-row g c = λ held files w number same guards clear.
     let r = numbered number c.args.row.now in
     let m = plan_machine held files c.args.plan.now in
-    let touches = removed_touches (is_guarded_value w) (whole c.in-Ok.meaning) (keys m) in
+    let touches = removed_touches (is_guarded w) (whole c.in-Ok.meaning) (keys m) in
     only_made held files c.args.plan.now c.remove_whole-done.new.plan (codes "Registry") number (remove_row w r) touches c.remove_whole-done.result
-    (row_removes w (g.E.Env.lookups c.args.env.now) r m same (whole c.in-Ok.meaning) (c.in-Ok.ensures number)) (c.remove_whole-done.ensures.makes (is_guarded_value w) held files guards clear)
+    (row_removes w (g.E.Env.lookups c.args.env.now) r m same (whole c.in-Ok.meaning) (c.in-Ok.ensures number)) (c.remove_whole-done.ensures.makes (is_guarded w) held files guards clear)
 
 pub returns-in-Err-clause-row : goal.returns-in-Err-clause-row
 returns-in-Err-clause-row g c = λ held files w number same guards clear.

@@ -2,7 +2,7 @@ use Rattle.std.proofs.Common.{◌≡◌, Bool, List, ℕ, map, take}
 use Rattle.mi_text.specs.Maps.{Map}
 use Rattle.mi_model.specs.World.{World}
 use Rattle.mi_model.specs.Asked.{lookups}
-use Rattle.mi_model.specs.RegistryGuards.{is_guarded_value}
+use Rattle.mi_model.specs.CountRows.{is_guarded}
 use Rattle.mi_model.specs.RemoveRegistryValues.{remove_row}
 use Rattle.mi_steps.specs.Makes.{plan_machine}
 use Rattle.mi_steps.specs.Rows.{FollowsRows}
@@ -13,7 +13,7 @@ use Rattle.mi_records.proofs.remove.remove_rows.Given as goal
 
 abbrev pub invariant-loop-row : goal.invariant-loop-row
 invariant-loop-row g l = record {
-  rows : (held files : Map (List ℕ)) (w : World) → lookups w ≡ g.E.Env.lookups l.env → Guards l.guards (is_guarded_value w)
+  rows : (held files : Map (List ℕ)) (w : World) → lookups w ≡ g.E.Env.lookups l.env → Guards l.guards (is_guarded w)
       → FollowsRows files (plan_machine held files l.fn.plan) (plan_machine held files l.plan) l.fn.plan.script l.plan.script (map (λ r. remove_row w (as_numbered r)) (take l.row-index l.rows));
   clear : (guarded : List ℕ → Bool) (held files : Map (List ℕ)) → Guards l.guards guarded → AreClear guarded (plan_machine held files l.plan) l.cleared;
   keeps : Keeps l.fn.plan l.plan;

@@ -4,7 +4,7 @@ use Rattle.mi_schema.specs.Laws.{IsWithin}
 use Rattle.mi_model.specs.World.{World}
 use Rattle.mi_records.specs.Choices.{IsAsked}
 use Rattle.mi_records.proofs.GuardLemmas.{Guarding}
-use Rattle.mi_records.proofs.guards.guards.Given as goal
+use Rattle.mi_records.proofs.guards.value_guards.Given as goal
 
 abbrev pub invariant-loop-row : goal.invariant-loop-row
 invariant-loop-row g l = record {
