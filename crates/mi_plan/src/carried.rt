@@ -103,7 +103,10 @@ fn check_file(alloc: Global, rec: &Rec) -> Result<(), NoMemory>
         Rec::Put(_, _) => Ok(()),
         Rec::Drop(_) => Ok(()),
         Rec::Copy {
-            name, head, length, ..
+            name,
+            head,
+            length,
+            ..
         } => check_copy(alloc, name, head, *length),
         Rec::Dup { name, head, from } => check_duplicate(alloc, name, head, from),
     }

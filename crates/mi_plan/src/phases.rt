@@ -19,6 +19,7 @@ ghost use Rattle.mi_plan.specs.Stages.{IsRight};
 
 use crate::copies::check_copies;
 use crate::error::PhaseError;
+use mi_clients::plan_process_components;
 use mi_extras::{
     plan_create_shortcuts, plan_remove_environment, plan_remove_shortcuts, plan_write_environment,
 };
@@ -27,10 +28,7 @@ use mi_files::{
     plan_remove_folders,
 };
 use mi_installs::{InstallError, plan_install_files};
-use mi_records::{
-    PlanError, plan_process_components, plan_publish_product, plan_remove_registry,
-    plan_write_registry,
-};
+use mi_records::{PlanError, plan_publish_product, plan_remove_registry, plan_write_registry};
 use mi_seq::Phase;
 use mi_source::Source;
 use mi_steps::Plan;

@@ -1,4 +1,4 @@
--- The counts of shared files in a plan, and what they guard.
+-- The counts of shared files: their names, and what they guard.
 use Rattle.std.proofs.Common.{◌≡◌, ℕ, Bool, true, false, cond, List, [], ◌∷◌, ◌++◌, Option, Some, None, refl, sym, ap, ◌∙◌, subst}
 use Rattle.std.specs.Prelude.{◌+◌, ◌&&◌, ◌||◌, filter, min, is_some, option_map, All, Contains, Result, Ok, Err, IfSome}
 use Rattle.std.specs.FinMap.{get, keys}
@@ -49,7 +49,7 @@ use Rattle.mi_records.specs.declared.error.PlanError.{PlanError}
 use Rattle.mi_records.specs.declared.error.PlanError.TheVariants as error
 use Rattle.mi_records.specs.Choices.{Choices, IsAsked}
 use Rattle.mi_records.specs.Clients.{IsOwn}
-use Rattle.mi_records.specs.Counts.{GuardsCounts, MayStandAt, guard_of_count}
+use Rattle.mi_records.specs.Counts.{guard_of_count}
 use Rattle.mi_records.specs.Removing.{Guards}
 use Rattle.mi_records.specs.Rows.{Made, Row}
 use Rattle.mi_records.proofs.KeyedLemmas.{own_row}
@@ -62,119 +62,11 @@ use Rattle.mi_records.proofs.WriteLemmas.{value_named}
 pub count_named : (path : Text) (n : ℕ) (e : Entry) → e ≡ count_entry path n → name_of e ≡ count_name path
 count_named path n e is = value_named (record { root = 2; key = shared_key; name = path }) (value.Int n) e is
 
-pub count_plain : (path : Text) → is_file_name (count_name path) ≡ false
-count_plain path = plain_value (record { root = 2; key = shared_key; name = path })
-
--- ---- what stands at a name
-
-module _ (held files : Map (List ℕ)) (items : Items) (q : Name) where
-  pub number_whole : (e : Entry) → get items q ≡ Some (Whole e) → count_in (Some e) ≡ count_in (get (machine_over held files items) q)
-  number_whole e is = ap count_in (sym (whole_over held files items q e is))
-
-  pub number_head : (h : FileHead) (content : Content) → get items q ≡ Some (Head h content) → 0 ≡ count_in (get (machine_over held files items) q)
-  number_head h content is = ap count_in (sym (get-over held files items q ∙ ap (option_map (entry_over held files)) is))
-
-  pub number_none : get items q ≡ None → 0 ≡ count_in (get (machine_over held files items) q)
-  number_none is = ap count_in (sym (get-over held files items q ∙ ap (option_map (entry_over held files)) is))
-
-  -- one less
-  pub lowered_whole : (e : Entry) (o : Option Entry) → get items q ≡ Some (Whole e) → option_or o (Some e) ≡ lowered (Some e) → option_or o (get (machine_over held files items) q) ≡ lowered (get (machine_over held files items) q)
-  lowered_whole e o is less = let at = whole_over held files items q e is in ap (option_or o) at ∙ less ∙ ap lowered (sym at)
-
-  pub lowered_head : (h : FileHead) (content : Content) → get items q ≡ Some (Head h content) → get (machine_over held files items) q ≡ lowered (get (machine_over held files items) q)
-  lowered_head h content is =
-      let at : get (machine_over held files items) q ≡ Some (entry_over held files (Head h content)) = get-over held files items q ∙ ap (option_map (entry_over held files)) is in
-      at ∙ ap lowered (sym at)
-
-  pub lowered_none : get items q ≡ None → get (machine_over held files items) q ≡ lowered (get (machine_over held files items) q)
-  lowered_none is =
-      let at : get (machine_over held files items) q ≡ None = get-over held files items q ∙ ap (option_map (entry_over held files)) is in
-      at ∙ ap lowered (sym at)
-
-pub stands_so : (q r : Name) (o : Option Entry) → q ≡ r → IfSome o (MayStandAt q) → IfSome o (MayStandAt r)
-stands_so q r o is may = subst (λ (n : Name). IfSome o (MayStandAt n)) is may
-
--- ---- touches
-
-pub count_raised : (files : Files) (m n : Machine) (h i : List Rec) (path : Text) (number : ℕ) → number ≡ min (count_in (get m (count_name path)) + 1) 4294967295
-    → Follows files m n h i (put_touch (count_name path) (count_entry path number) ∷ []) → Follows files m n h i (Set (count_name path) (raised path) ∷ [])
-count_raised files m n h i path number is made = same_touch files m n h i (count_name path) (λ old. Some (count_entry path number)) (raised path) (ap (λ k. Some (count_entry path k)) is) made
-
-pub lowered_same : (files : Files) (m : Machine) (h : List Rec) (q : Name) → is_file_name q ≡ false → get m q ≡ lowered (get m q) → Follows files m m h h (Set q lowered ∷ [])
-lowered_same files m h q plain same = no_step files m h q lowered (ap (λ b. b && is_some (lowered (get m q))) plain) (sym same)
-
-pub taken : (guarded : Name → Bool) (set : BTreeSet Name) (q : Name) (files : Files) (m n : Machine) (h i : List Rec) → Guards set guarded → contains name_cmp set q ≡ false
-    → Follows files m n h i (drop_touch q ∷ []) → Follows files m n h i (cond (guarded q) [] (Set q (λ old. None) ∷ []))
-taken guarded set q files m n h i guards other made = subst (λ b. Follows files m n h i (cond b [] (drop_touch q ∷ []))) (sym other ∙ guards q) made
-
-pub not_taken : (guarded : Name → Bool) (set : BTreeSet Name) (q : Name) (files : Files) (m : Machine) (h : List Rec) → Guards set guarded → contains name_cmp set q ≡ true
-    → Follows files m m h h (cond (guarded q) [] (Set q (λ old. None) ∷ []))
-not_taken guarded set q files m h guards there = subst (λ b. Follows files m m h h (cond b [] (drop_touch q ∷ []))) (sym there ∙ guards q) (started files m h)
-
--- ---- of a component
-
-off_leaving : (w : World) (r : ComponentRow) (path : Text) (b : Bool) → leaves w r.component ≡ b → count_touches w r path MakeAbsent ≡ cond b (takes_count w path) (Set (count_name path) lowered ∷ [])
-off_leaving w r path b is = ap (λ t. cond t (takes_count w path) (Set (count_name path) lowered ∷ [])) is
-
-pub off_taken : (w : World) (r : ComponentRow) (path : Text) → leaves w r.component ≡ true → count_touches w r path MakeAbsent ≡ cond (is_guarded w (count_name path)) [] (Set (count_name path) (λ old. None) ∷ [])
-off_taken w r path is = off_leaving w r path true is
-
-pub off_lowered : (w : World) (r : ComponentRow) (path : Text) → leaves w r.component ≡ false → count_touches w r path MakeAbsent ≡ Set (count_name path) lowered ∷ []
-off_lowered w r path is = off_leaving w r path false is
-
-on_present : (w : World) (r : ComponentRow) (path : Text) (b : Bool) → is_present w.given r ≡ b → count_touches w r path MakeLocal ≡ cond b [] (key_with_parents 2 shared_key ++ Set (count_name path) (raised path) ∷ [])
-on_present w r path b is = ap (λ t. cond t [] (key_with_parents 2 shared_key ++ Set (count_name path) (raised path) ∷ [])) is
-
-pub on_none : (w : World) (r : ComponentRow) (path : Text) → is_present w.given r ≡ true → count_touches w r path MakeLocal ≡ []
-on_none w r path is = on_present w r path true is
-
-pub on_raised : (w : World) (r : ComponentRow) (path : Text) → is_present w.given r ≡ false → count_touches w r path MakeLocal ≡ key_with_parents 2 shared_key ++ Set (count_name path) (raised path) ∷ []
-on_raised w r path is = on_present w r path false is
-
-pub counted_told : (w : World) (r : ComponentRow) (a : Action) (path : Text) → is_counted w.given.rows r ≡ true → recorded_path w r ≡ Ok path → counted_by w r (Some a) ≡ Ok (count_touches w r path a)
-counted_told w r a path counted is =
-    ap (λ b. cond b (recorded_path w r >>= λ path. Ok (count_touches w r path a)) (Ok [])) counted
-    ∙ ap (λ (x : Result Text Fault). x >>= λ path. Ok (count_touches w r path a)) is
-
-pub counted_refused : (w : World) (r : ComponentRow) (a : Action) (f : Fault) → is_counted w.given.rows r ≡ true → recorded_path w r ≡ Err f → counted_by w r (Some a) ≡ Err f
-counted_refused w r a f counted is =
-    ap (λ b. cond b (recorded_path w r >>= λ path. Ok (count_touches w r path a)) (Ok [])) counted
-    ∙ ap (λ (x : Result Text Fault). x >>= λ path. Ok (count_touches w r path a)) is
-
-pub not_counted : (w : World) (r : ComponentRow) (o : Option Action) → is_counted w.given.rows r ≡ false → counted_by w r o ≡ Ok []
-not_counted w r None other = refl
-not_counted w r (Some a) other = ap (λ b. cond b (recorded_path w r >>= λ path. Ok (count_touches w r path a)) (Ok [])) other
-
--- a row that a key finds
-found_any : {R : Type 0} (key : R → Name) (test : R → Bool) (rows : List R) (q : Name) (r : R) → row_of key rows q ≡ Some r → test r ≡ true → list_any test rows ≡ true
-found_any key test [] q r is holds = cc
-found_any {R} key test (x ∷ rows) q r is holds = by (same_name q (key x)) is (λ e. found_any key test rows q r e holds)
-  where
-    or_true : (b : Bool) → (b || true) ≡ true
-    or_true true = refl
-    or_true false = refl
-
-    by : (b : Bool) → cond b (Some x) (row_of key rows q) ≡ Some r → (row_of key rows q ≡ Some r → list_any test rows ≡ true) → (test x || list_any test rows) ≡ true
-    by true e later = let same : x ≡ r = cc in ap (λ (y : R). test y || list_any test rows) same ∙ ap (λ b. b || list_any test rows) holds
-    by false e later = ap (λ b. test x || b) (later e) ∙ or_true (test x)
+-- ---- what counts guard
 
 module _ (L : Lookups) (c : Choices) (p : Package) (w : World) (asked : IsAsked L c p w) where
-  pub present_is : (r : ComponentRow) → IsOwn (rows_in p) r → is_present w.given r ≡ c.present r.component
-  present_is r own =
-      sym (ap (λ (o : Option ComponentRow). option_map_or (is_present w.given) o false) (ap (λ (rs : TableRows). component_row_of rs r.component) asked.rows ∙ own))
-      ∙ asked.present r.component
-
   pub counted_is : (r : ComponentRow) → is_counted w.given.rows r ≡ is_counted (rows_in p) r
   counted_is r = ap (λ (rs : TableRows). is_counted rs r) asked.rows
-
-  -- the set of what is guarded serves a counted component that leaves
-  pub guards_leaving : (set : BTreeSet Name) (r : ComponentRow) → IsOwn (rows_in p) r → is_counted (rows_in p) r ≡ true → GuardsCounts set w → leaves w r.component ≡ true → Guards set (is_guarded w)
-  guards_leaving set r own counted guards leaving =
-      guards (found_any (λ (c : ComponentRow). c.component) (λ (c : ComponentRow). leaves w c.component && is_counted w.given.rows c) w.given.rows.component r.component r
-      (ap (λ (rs : TableRows). component_row_of rs r.component) asked.rows ∙ own)
-      (ap (λ b. b && is_counted w.given.rows r) leaving ∙ counted_is r ∙ counted))
-
-  -- ---- what counts guard
 
   pub path_named : (r : ComponentRow) (path : Text) → is_counted (rows_in p) r ≡ true → recorded_path w r ≡ Ok path → Some (count_name path) ≡ option_map count_name (counted_path w r)
   path_named r path counted is =
@@ -245,99 +137,3 @@ own_behind es rest keys apart is = subst (λ (rs : List ComponentRow). AllByRecu
     by : (rows : List ComponentRow) → AllByRecursion (Contains (behind es)) rows → AllByRecursion (λ (r : ComponentRow). row_of (λ (c : ComponentRow). c.component) (behind es) r.component ≡ Some r) rows
     by [] each = tt
     by (r ∷ rows) each = (own_row (λ (c : ComponentRow). c.component) es r keys apart each.0, by rows each.1)
-
--- ---- whether a component with a count leaves
-
-abbrev pub takes : World → ComponentRow → Bool
-takes w r = leaves w r.component && is_counted w.given.rows r
-
-abbrev pub Taking : World → List ComponentRow → Type 0
-Taking w rest = list_any (takes w) rest ≡ takes_counts w
-
-module _ (L : Lookups) (c : Choices) (p : Package) (w : World) (asked : IsAsked L c p w) where
-  pub taking_none : (rest : List ComponentRow) → rest ≡ (rows_in p).component → Taking w rest
-  taking_none rest is = ap (list_any (takes w)) (is ∙ ap (λ (rs : TableRows). rs.component) (sym asked.rows))
-
-  takes_is : (r : ComponentRow) → takes w r ≡ (c.leaving r.component && is_counted (rows_in p) r)
-  takes_is r = ap (λ b. b && is_counted w.given.rows r) (asked.leaving r.component) ∙ ap (λ b. c.leaving r.component && b) (counted_is L c p w asked r)
-
-  pub taking_more : (rest more : List ComponentRow) (row : ComponentRow) → Taking w rest → rest ≡ row ∷ more → (c.leaving row.component && is_counted (rows_in p) row) ≡ false → Taking w more
-  taking_more rest more row taking is other =
-      sym (ap (λ b. b || list_any (takes w) more) (takes_is row ∙ other))
-      ∙ ap (list_any (takes w)) (sym is)
-      ∙ taking
-
-  pub taking_found : (rest more : List ComponentRow) (row : ComponentRow) → Taking w rest → rest ≡ row ∷ more → (c.leaving row.component && is_counted (rows_in p) row) ≡ true → true ≡ takes_counts w
-  taking_found rest more row taking is found =
-      sym (ap (λ b. b || list_any (takes w) more) (takes_is row ∙ found))
-      ∙ ap (list_any (takes w)) (sym is)
-      ∙ taking
-
-pub taking_all : (w : World) (rest : List ComponentRow) → Taking w rest → rest ≡ [] → false ≡ takes_counts w
-taking_all w rest taking is = ap (list_any (takes w)) (sym is) ∙ taking
-
--- ---- nothing is pruned where nothing was touched
-
-pub touched_is : (w : World) (b : Bool) → b ≡ takes_counts w → cond b (key_place 2 shared_key ∷ []) [] ≡ touched_counts w
-touched_is w b is = ap (λ t. cond t (key_place 2 shared_key ∷ []) []) is
-
-nothing_goes : (seat : Name → Seat) (held : List Name) (protected : List Path) (name : Name) → goes seat held [] protected name ≡ false
-unfolding goes
-nothing_goes seat held protected name = by (seat name)
-  where
-    by : (s : Seat) → seat_goes seat held [] protected s ≡ false
-    by (Holder path) = refl
-    by (Leaf path) = refl
-    by Apart = refl
-
-none_pass : (test : Name → Bool) (names : List Name) → ((name : Name) → test name ≡ false) → [] ≡ filter test names
-none_pass test [] none = refl
-none_pass test (n ∷ names) none = none_pass test names none ∙ ap (λ b. cond b (n ∷ filter test names) (filter test names)) (sym (none n))
-
-pub untouched : (files : Files) (m : Machine) (h : List Rec) (w : World) (protected : List Path) → false ≡ takes_counts w → Follows files m m h h (Clear (goes key_seat (keys m) (touched_counts w) protected) ∷ [])
-untouched files m h w protected is =
-    subst (λ (ps : List Path). Follows files m m h h (Clear (goes key_seat (keys m) ps protected) ∷ [])) (ap (λ b. cond b (key_place 2 shared_key ∷ []) []) is)
-    (cleared files m m h h (goes key_seat (keys m) [] protected) [] (none_pass (goes key_seat (keys m) [] protected) (keys m) (nothing_goes key_seat (keys m) protected)) (started files m h))
-
-pub prunes_counts : (w : World) (m : Machine) → prune_keys w (touched_counts w) m ≡ Ok (Clear (goes key_seat (keys m) (touched_counts w) (kept_keys w)) ∷ [])
-unfolding prune_keys
-prunes_counts w m = refl
-
--- ---- a row: its clients, then its count
-
-module _ (w : World) (r : ComponentRow) where
-  abbrev clients : Result (List (Touch Entry)) Fault
-  clients = component_touches w r
-
-  abbrev counts : Result (List (Touch Entry)) Fault
-  counts = counted_by w r (action_in w r.component)
-
-  processed_by : (ts us : List (Touch Entry)) → clients ≡ Ok ts → counts ≡ Ok us → processed w r ≡ Ok (ts ++ us)
-  unfolding processed
-  processed_by ts us first second =
-      ap (λ (x : Result (List (Touch Entry)) Fault). x >>= λ clients. counts >>= λ counts. Ok (clients ++ counts)) first
-      ∙ ap (λ (x : Result (List (Touch Entry)) Fault). x >>= λ counts. Ok (ts ++ counts)) second
-
-  count_refuses : (ts : List (Touch Entry)) (f : Fault) → clients ≡ Ok ts → counts ≡ Err f → processed w r ≡ Err f
-  unfolding processed
-  count_refuses ts f first second =
-      ap (λ (x : Result (List (Touch Entry)) Fault). x >>= λ clients. counts >>= λ counts. Ok (clients ++ counts)) first
-      ∙ ap (λ (x : Result (List (Touch Entry)) Fault). x >>= λ counts. Ok (ts ++ counts)) second
-
-  client_refuses : (f : Fault) → clients ≡ Err f → processed w r ≡ Err f
-  unfolding processed
-  client_refuses f first = ap (λ (x : Result (List (Touch Entry)) Fault). x >>= λ clients. counts >>= λ counts. Ok (clients ++ counts)) first
-
-  module _ (held files : Map (List ℕ)) (a b : Plan) where
-    pub count_behind : {A : Type 0} (c : Plan) (result : Result A PlanError) → Made held files a b (λ m. clients) → Row held files b c (λ m. counts) result → Row held files a c (λ m. processed w r) result
-    count_behind c (Ok done) first second = record {
-      touches = first.touches ++ second.touches;
-      gives = processed_by first.touches second.touches first.gives second.gives;
-      makes = joined files (plan_machine held files a) (plan_machine held files b) (plan_machine held files c) a.script b.script c.script first.touches second.touches first.makes second.makes;
-    }
-    count_behind c (Err error.NoMemory) first second = tt
-    count_behind c (Err (error.Fault f)) first second = count_refuses first.touches f first.gives second
-
-    pub no_count_behind : (A B : Type 0) (c : Plan) (e : PlanError) → Row held files a b {A = A} (λ m. clients) (Err e) → Row held files a c {A = B} (λ m. processed w r) (Err e)
-    no_count_behind A B c error.NoMemory refused = tt
-    no_count_behind A B c (error.Fault f) refused = client_refuses f refused

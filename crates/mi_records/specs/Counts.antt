@@ -16,11 +16,3 @@ use Rattle.mi_records.specs.Removing.{Guards}
 -- the name of the count that a kept component guards
 abbrev pub guard_of_count : World → ComponentRow → Option Name
 guard_of_count w c = if keeps w c.component then option_map count_name (counted_path w c) else None
-
--- where a counted component leaves, the set has exactly the names that are guarded
-abbrev pub GuardsCounts : BTreeSet Name → World → Type 0
-GuardsCounts set w = takes_counts w ≡ true → Guards set (is_guarded w)
-
--- it stands at this name, and is no file
-abbrev pub MayStandAt : Name → Entry → Type 0
-MayStandAt q e = (name_of e ≡ q) × (is_file e ≡ false)

@@ -78,7 +78,7 @@ fn value_guards<S: Sees>(alloc: Global, seen: &S) -> Result<BTreeSet<Name>, NoMe
 
 /// The names of the values that rows of Registry and counts of kept components name, which leaving rows don't take
 /// (this project's own).
-pub fn guards<S: Sees>(alloc: Global, seen: &S) -> Result<BTreeSet<Name>, NoMemory>
+pub fn guarded_values<S: Sees>(alloc: Global, seen: &S) -> Result<BTreeSet<Name>, NoMemory>
     requires { IsLawful (S.rows seen.now) }
     ensures { (w : World) → IsAsked (S.lookups seen.now) (S.choices seen.now) (S.rows seen.now) w → IfOk result (λ set. Guards set (is_guarded w)) }
 {

@@ -1,10 +1,9 @@
-//! What rows of the registry tables name, say and write, and phases of the registry, of clients and of products as plan calls
-//! (Registry table; RemoveRegistry table; WriteRegistryValues, RemoveRegistryValues, ProcessComponents and PublishProduct actions).
+//! What rows of the registry tables name, say and write, and phases of the registry and of products as plan calls (Registry table;
+//! RemoveRegistry table; WriteRegistryValues, RemoveRegistryValues and PublishProduct actions).
 #![tactic(auto)]
 
 mod below;
 mod clear;
-mod clients;
 mod counts;
 mod error;
 mod guards;
@@ -32,17 +31,20 @@ mod value;
 mod write;
 mod written;
 
-pub use clients::plan_process_components;
+pub use counts::{SHARED_KEY, SHARED_ROOT, count_entry, count_name, is_counted};
 pub use error::PlanError;
-pub use key_path::recorded_path;
-pub use keys::{name_of, put_entry};
+pub use guards::guarded_values;
+pub use key_path::{lacks, recorded_path};
+pub use keys::{make_keys, name_of, put_entry};
+pub use less::copy_key;
 pub use meaning::{RegistryMeaning, registry_meaning, registry_place, removal_place};
+pub use named::kept_keys;
 pub use order::{Row, in_key_order};
 pub use parts::lacks_zero;
 pub use phase::plan_write_registry;
 pub use place::RegistryPlace;
-pub use product::{language_of, product_language};
-pub use publish::plan_publish_product;
+pub use product::{language_of, product_code, product_language};
+pub use publish::{drop_entry, plan_publish_product};
 pub use removing::plan_remove_registry;
 pub use says::Says;
 pub use sees::Sees;

@@ -24,7 +24,7 @@ ghost use Rattle.mi_records.specs.Order.{as_numbered};
 ghost use Rattle.mi_records.specs.Rows.{Rows, Phase};
 
 use crate::error::PlanError;
-use crate::guards::guards;
+use crate::guards::guarded_values;
 use crate::named::{add_removal_keys, kept_keys, registry_keys};
 use crate::order::{Row, in_key_order};
 use crate::phase::registry_rows;
@@ -131,7 +131,7 @@ fn remove_all<S: Sees>(
     ensures rows { (held files : Map (List ℕ)) (w : World) → IsAsked (S.lookups seen.now) (S.choices seen.now) (S.rows seen.now) w → Rows held files plan.old plan.new (map (λ r. remove_row w (as_numbered r)) leaving.now ++ map (λ r. removal_row w (as_numbered r)) local.now) result }
     ensures keeps { Keeps plan.old plan.new }
 {
-    let guards = guards(alloc, seen)?;
+    let guards = guarded_values(alloc, seen)?;
     match remove_rows(alloc, seen, &guards, leaving, plan) {
         Ok(()) => removal_rows(alloc, seen, local, plan),
         Err(error) => Err(error),

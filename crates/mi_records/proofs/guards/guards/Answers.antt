@@ -1,5 +1,0 @@
--- The values of rows, and the counts.
-use Rattle.mi_records.proofs.guards.guards.Goals as goal
-
-pub returns : goal.returns
-returns g c = λ w asked. c.in_ok-add_counts.ensures w asked (c.in_ok-set.ensures w asked)
