@@ -1,13 +1,11 @@
 -- Words ask only for what may be asked for.
-use Rattle.std.proofs.Common.{◌≡◌, ℕ, ◌+◌, ◌*◌, ◌-◌, ◌≤◌, ◌&&◌, Bool, true, false, cond, arith, List, [], ◌∷◌, ◌++◌, map, Option, Some, None, Result, Ok, Err, refl, ap, subst, ◌∙◌}
-use Rattle.std.specs.Prelude.{◌==◌, not, nat_le, codes, filter, length, drop}
+use Rattle.std.proofs.Common.{◌≡◌, ℕ, Bool, true, false, cond, List, [], ◌∷◌, ◌++◌, map, Option, Some, None, Result, Ok, Err, refl, subst, ◌∙◌}
+use Rattle.std.specs.Prelude.{◌==◌, not, codes, filter, length, drop}
 use Rattle.std.specs.Str.{bytes_eq}
-use Rattle.std.proofs.lemmas.Bool.Decides.{nat_tests}
 use Rattle.std.proofs.lemmas.List.Folds.{list_all-append}
 use Rattle.mi_text.specs.Fold.{folded}
 use Rattle.mi_text.specs.Maps.{Name}
 use Rattle.mi_text.specs.PropertyNames.{is_public_name}
-use Rattle.mi_idt.specs.Fields.{is_digit, within_on}
 use Rattle.mi_props.specs.Props.{Value, all_names}
 use Rattle.mi_model.specs.Texts.{Text}
 use Rattle.mi_model.specs.Assignments.{Assigned, Placed, name_in, is_assignment, assigned, kept_words, unless_other, assignments, with_words}
@@ -19,14 +17,10 @@ use Rattle.mi_engine.specs.Asked.{MayAsk}
 use Rattle.mi_engine.specs.Calls.{sets_of}
 use Rattle.mi_engine.proofs.FirstLemmas.{first, both_true}
 
-second : (a b : Bool) → (a && b) ≡ true → b ≡ true
-second true b is = is
-second false b is = absurd cc
-
 -- what holds of a command of any words
 abbrev Granted : Result Command ℕ → Type 0
 Granted (Ok (Package recorded folder sets)) = all_names is_public_name sets ≡ true
-Granted (Ok (Selftest n sets)) = (1 ≤ n) × (n ≤ 5000) × (all_names is_public_name sets ≡ true)
+Granted (Ok (Selftest n sets)) = all_names is_public_name sets ≡ true
 Granted other = Unit {0}
 
 -- ---- properties
@@ -60,43 +54,17 @@ repair_public (letter ∷ letters) = refl
 
 -- ---- the package for tests
 
-abbrev IsTestSize : Option ℕ → Type 0
-IsTestSize None = Unit {0}
-IsTestSize (Some n) = (1 ≤ n) × (n ≤ 5000)
+test_words : (n : ℕ) (rest others : List Placed) → filter (λ (w : Placed). not (is_assignment w.1)) rest ≡ others → Granted (with_words (unless_other others (map (λ (w : Placed). assigned w.1) rest)) (Selftest n))
+test_words n rest [] is = all_assign rest is
+test_words n rest (w ∷ others) is = tt
 
-if_so : (b : Bool) (x : Option ℕ) → (b ≡ true → IsTestSize x) → IsTestSize (cond b x None)
-if_so true x is = is refl
-if_so false x is = tt
-
-small : (d n : ℕ) → (is_digit d && nat_le n 5000) ≡ true → n ≤ 5000
-small d n is = let le : nat_le n 5000 ≡ true = second (is_digit d) (nat_le n 5000) is in grind (arith, nat_tests, le)
-
-sized : (n : ℕ) (ds : Text) → 1 ≤ n → n ≤ 5000 → IsTestSize (within_on 5000 n ds)
-sized n [] some few = (some, few)
-sized n (d ∷ ds) some few = if_so (is_digit d && nat_le (n * 10 + (d - 48)) 5000) (within_on 5000 (n * 10 + (d - 48)) ds) (λ is. sized (n * 10 + (d - 48)) ds (omega (arith, some)) (small d (n * 10 + (d - 48)) is))
-
-not_zero : (d : ℕ) → (d == 48) ≡ false → is_digit d ≡ true → 1 ≤ d - 48
-not_zero d not is = let low : nat_le 48 d ≡ true = first (nat_le 48 d) (nat_le d 57) is in grind (arith, nat_tests, not, low)
-
-test_sizes : (word : Text) → IsTestSize (test_size word)
-test_sizes [] = tt
-test_sizes (d ∷ ds) = by_first (d == 48) refl
-  where
-    by_first : (b : Bool) → (d == 48) ≡ b → IsTestSize (cond b None (within_on 5000 0 (d ∷ ds)))
-    by_first true is = tt
-    by_first false is = if_so (is_digit d && nat_le (d - 48) 5000) (within_on 5000 (d - 48) ds) (λ both. sized (d - 48) ds (not_zero d is (first (is_digit d) _ both)) (small d (d - 48) both))
-
-test_words : (n : ℕ) → 1 ≤ n → n ≤ 5000 → (rest others : List Placed) → filter (λ (w : Placed). not (is_assignment w.1)) rest ≡ others → Granted (with_words (unless_other others (map (λ (w : Placed). assigned w.1) rest)) (Selftest n))
-test_words n some few rest [] is = (some, few, all_assign rest is)
-test_words n some few rest (w ∷ others) is = tt
-
-test_sized : (o : Option ℕ) (place : ℕ) (rest : List Placed) → IsTestSize o → Granted (sized_test o place rest)
-test_sized None place rest size = tt
-test_sized (Some n) place rest size = test_words n size.0 size.1 rest (filter (λ (v : Placed). not (is_assignment v.1)) rest) refl
+test_sized : (o : Option ℕ) (place : ℕ) (rest : List Placed) → Granted (sized_test o place rest)
+test_sized None place rest = tt
+test_sized (Some n) place rest = test_words n rest (filter (λ (v : Placed). not (is_assignment v.1)) rest) refl
 
 in_test : (all : ℕ) (rest : List Placed) → Granted (selftest_in all rest)
 in_test all [] = tt
-in_test all (w ∷ rest) = test_sized (test_size w.1) w.0 rest (test_sizes w.1)
+in_test all (w ∷ rest) = test_sized (test_size w.1) w.0 rest
 
 -- ---- any command
 
@@ -131,7 +99,7 @@ are_granted words = in_kept (length words) (kept_words words)
 
 pub asked_may : (words : List Text) (c : read.Command) → command_of words ≡ Ok (asked c) → MayAsk c
 asked_may words (variant.Package p) is = subst Granted is (are_granted words)
-asked_may words (variant.Selftest t) is = let g = subst Granted is (are_granted words) in record { some = g.0; few = g.1; public = g.2 }
+asked_may words (variant.Selftest t) is = subst Granted is (are_granted words)
 asked_may words variant.Clients is = tt
 asked_may words variant.Products is = tt
 asked_may words variant.Recover is = tt
