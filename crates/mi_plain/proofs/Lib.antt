@@ -1,0 +1,11 @@
+pub mod CountLemmas
+pub mod ParentLemmas
+pub mod RowLemmas
+pub mod CodeLemmas
+pub mod ComponentLemmas
+pub mod RegistryLemmas
+pub mod FileLemmas
+pub mod RecordLemmas
+pub mod PhaseLemmas
+pub mod WalkLemmas
+pub mod PackageLemmas
