@@ -35,8 +35,8 @@ one_more n [] p le within = (le, tt)
 one_more n (q ∷ parts) p le within = (within.0, one_more n parts p le within.1)
 
 or_reach : {A : Type 0} (r : Result A Fault) (next : A → Walked) (w : Walked) → ((x : A) → Reaching (next x)) → Reaching w → Reaching (or_refused r next w)
-or_reach (Ok x) next w yes no = yes x
-or_reach (Err fault) next w yes no = no
+or_reach (Ok x) next w goes stays = goes x
+or_reach (Err fault) next w goes stays = stays
 
 unless_reach : (cause : Option Cause) (w : Walked) → Reaching w → Reaching (unless_refused cause w)
 unless_reach None w reach = reach

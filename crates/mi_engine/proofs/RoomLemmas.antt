@@ -1,8 +1,8 @@
 -- Room for a planned walk: what is counted is what the outcome asks for.
 use Rattle.std.proofs.Common.{◌≡◌, ◌⊎◌, inl, inr, ℕ, ◌+◌, ◌-◌, ◌^◌, ◌<◌, ◌≤◌, min, arith, Bool, true, false, cond, not, List, [], ◌∷◌, ◌++◌, length, map, Option, None, Some, Result, Ok, Err, refl, sym, ap, subst, ◌∙◌}
-use Rattle.std.specs.Prelude.{IsOk, IfSome, MatchOption, nat_lt, option_map}
+use Rattle.std.specs.Prelude.{◌==◌, IsOk, IfSome, MatchOption, nat_lt, option_map}
 use Rattle.std.specs.List.{All}
-use Rattle.std.specs.FinMap.{get, keys, from_entries}
+use Rattle.std.specs.FinMap.{keys}
 use Rattle.std.proofs.lemmas.List.Elements.{All-weaker}
 use Rattle.std.proofs.lemmas.Bool.Decides.{nat_tests}
 use Rattle.mi_text.specs.Maps.{Name}
@@ -17,11 +17,12 @@ use Rattle.mi_script.specs.declared.rec.Rec.TheVariants.{Put, Drop, Copy, Dup}
 use Rattle.mi_runner.specs.Records.{HasLength}
 use Rattle.mi_model.specs.World.{Given}
 use Rattle.mi_model.specs.Walk.{Part, Walked, walk}
-use Rattle.mi_model.specs.Cost.{all_rows, need}
+use Rattle.mi_text.proofs.MapLemmas.{entries-from_entries}
+use Rattle.mi_model.specs.Cost.{all_rows, need, set_of}
 use Rattle.mi_model.specs.Plain.{ArePlain}
 use Rattle.mi_model.specs.Plans.{Planned, ArePlanned}
 use Rattle.mi_model.specs.Planning.{IsPlan}
-use Rattle.mi_model.specs.StatedSizes.{HasCopied, stated_cost}
+use Rattle.mi_model.specs.StatedSizes.{HasCopied, stated_cost, stated_cost_of}
 use Rattle.mi_model.specs.PackageOutcome.{Outcome, Refused, whole, is_room, full, by_parts, of_walk}
 use Rattle.mi_model_laws.specs.WalkLaws.{WalksOver}
 use Rattle.mi_model_laws.proofs.WalkLemmas.{walks_over}
@@ -38,10 +39,20 @@ use Rattle.mi_engine.proofs.ReachLemmas.{walk_reach, Within}
 -- ---- what is counted
 
 -- no script costs nothing
+no_cost : (held : Map) → stated_cost held [] ≡ 0
+unfolding stated_cost
+no_cost held = ap (stated_cost_of held []) none
+  where
+    none : keys (set_of []) ≡ []
+    none = ap (λ (es : List (Name × Bool)). map (λ (e : Name × Bool). e.0) es) (entries-from_entries [] tt)
+
 pub none_fit : (capacity : Option ℕ) (held : Map) → Fits capacity (size held) → Fits capacity (size held + stated_cost held [])
-unfolding stated_cost from_entries keys
 none_fit None held fits = tt
-none_fit (Some c) held fits = omega (arith, fits)
+none_fit (Some c) held fits = let none = no_cost held in omega (arith, fits, none)
+
+pub no_scripts : (scripts : List (List Rec)) → (length scripts == 0) ≡ true → scripts ≡ []
+no_scripts [] is = refl
+no_scripts (rs ∷ scripts) is = absurd cc
 
 -- what is free is enough
 pub enough : (capacity : Option ℕ) (held : Map) (scripts : List (List Rec)) (free n : ℕ) → IsFreeRoom capacity held free → n ≡ counted (stated_cost held scripts) → n ≤ free → Fits capacity (size held + stated_cost held scripts)
@@ -85,10 +96,10 @@ unfolding of_walk
 roomy free w is = roomy_parts free w w.parts is
 
 -- and is not: the run ends where the first segment does
-pub record IsFull (out : Outcome) (n free : ℕ) (names : List Name) (reached : ℕ) : Type 0 where
+pub record IsFull (out : Outcome) (n free : ℕ) (names : List Name) (first : ℕ) : Type 0 where
   pub end : out.end ≡ Refused (Full n free)
   pub begun : out.begun ≡ names
-  pub reached : out.reached ≡ reached
+  pub reached : out.reached ≡ first
 
 full_parts : (files : Files) (m : Machine) (free : ℕ) (w : Walked) (parts : List Part) (plans : List Planned) → ArePlanned files m parts plans → Within (length w.begun) parts → is_room (Some free) (need w.world.given.former w.parts) ≡ false
     → (plans ≡ [] → ⊥) → IsFull (by_parts (Some free) w parts) (need w.world.given.former w.parts) free w.begun (min (first_end plans) (length w.begun))
@@ -137,11 +148,11 @@ module _ (costs : CostsTheSame) (files : Files) (capacity : Option ℕ) (held : 
   has_room fits = plan.is ∙ roomy (option_map (λ c. c - size held) capacity) w (ap (is_room (option_map (λ c. c - size held) capacity)) need_is ∙ fits_so capacity (size held) (stated_cost held (scripts_in plans)) fits)
 
   nothing_lacks : (lack : Lack) → IsLack capacity held (scripts_in plans) lack → plans ≡ [] → ⊥
-  unfolding stated_cost from_entries keys
   nothing_lacks lack lacks none =
       let is : lack.need ≡ counted (stated_cost held (scripts_in [])) = lacks.need ∙ ap (λ (l : List Planned). counted (stated_cost held (scripts_in l))) none in
       let less = lacks.beyond in
-      omega (arith, is, less)
+      let free = no_cost held in
+      omega (arith, is, less, free)
 
   pub is_full : (lack : Lack) → IsLack capacity held (scripts_in plans) lack → IsFull out lack.need lack.free names (min (first_end plans) (length names))
   is_full lack lacks =

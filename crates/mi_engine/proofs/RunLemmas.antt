@@ -52,7 +52,7 @@ get_outer h F is q out = sym (get-outside h q ∙ ap (λ b. cond (not b) (get h 
 
 -- recovery has room where nothing is short that wasn't so before
 still_recovers : (s t : State) → GoesOn s t (ShortAs s.capacity s.held) → ((name : List ℕ) → ¬ IsShort s.capacity s.held name) → GoesOn s t (NeverShort s.capacity)
-still_recovers s t goes room = weaker s t (ShortAs s.capacity s.held) (NeverShort s.capacity) (λ d as small name short. room name (as name short)) goes
+still_recovers s t goes room = weaker s t (ShortAs s.capacity s.held) (NeverShort s.capacity) (λ d shorts small name short. room name (shorts name short)) goes
 
 -- ---- what is asked for
 

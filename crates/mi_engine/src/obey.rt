@@ -6,7 +6,7 @@ ghost use Rattle.mi_volume.specs.State.{Passes};
 ghost use Rattle.mi_source.specs.Counts.{Rose};
 ghost use Rattle.mi_source.specs.Paths.{Files};
 ghost use Rattle.mi_undo.specs.Keeps.{IsFree};
-ghost use Rattle.mi_undo.specs.Stands.{settled};
+ghost use Rattle.mi_undo.specs.Stands.{settled as found_in};
 ghost use Rattle.mi_base.specs.Machine.{Machine, machine_of, volume_of};
 ghost use Rattle.mi_image.specs.Items.{machine_over, AreThere as HasContents};
 ghost use Rattle.mi_model.specs.Listings.{clients_text_of, products_text_of};
@@ -48,7 +48,7 @@ pub fn obey<S: Source, V: Volume>(
     requires machine { V.told → (files : Files) → volume_of (machine_over (V.state vol.old).held files image) ≡ (V.state vol.old).held }
     requires contents { V.told → (files : Files) → HasContents (V.state vol.old).held files image }
     ensures serves { (h : Handed) (m : Machine) → IsHanded V.told h (S.files src.old) (V.state vol.old).capacity now settled → (V.told → (files : Files) → machine_over (V.state vol.old).held files image ≡ m)
-        → Serves V.told (IsTold V.told S.told (Ok (commanded command.now))) (V.state vol.old) (V.state vol.new) (of_command h (free_room h.capacity (V.state vol.old).held) m (settled h.held) (commanded command.now)) (commanded command.now) (λ s. s ≡ settled) (SourceFails (Ok (commanded command.now)) (S.faults src.old) (S.faults src.new)) result.kind result.reached (log_in result) }
+        → Serves V.told (IsTold V.told S.told (Ok (commanded command.now))) (V.state vol.old) (V.state vol.new) (of_command h (free_room h.capacity (V.state vol.old).held) m (found_in h.held) (commanded command.now)) (commanded command.now) (λ s. s ≡ settled) (SourceFails (Ok (commanded command.now)) (S.faults src.old) (S.faults src.new)) result.kind result.reached (log_in result) }
     ensures unread { (Installs (Ok (commanded command.now)) → ⊥) → src.new ≡ src.old }
     ensures passes { Passes (V.state vol.old) (V.state vol.new) }
     ensures counts { S.faults src.old ≤ S.faults src.new }
@@ -102,7 +102,7 @@ fn test<V: Volume>(
     requires machine { V.told → (files : Files) → volume_of (machine_over (V.state vol.old).held files image) ≡ (V.state vol.old).held }
     requires contents { V.told → (files : Files) → HasContents (V.state vol.old).held files image }
     ensures serves { (h : Handed) (m : Machine) (source : Type 0) (files : Files) (n : ℕ) → IsHanded V.told h files (V.state vol.old).capacity now settled → (V.told → (from : Files) → machine_over (V.state vol.old).held from image ≡ m)
-        → Serves V.told (IsTold V.told source (Ok (Tests asked.now.files (of_words asked.now.words)))) (V.state vol.old) (V.state vol.new) (of_command h (free_room h.capacity (V.state vol.old).held) m (settled h.held) (Tests asked.now.files (of_words asked.now.words))) (Tests asked.now.files (of_words asked.now.words)) (λ s. s ≡ settled) (SourceFails (Ok (Tests asked.now.files (of_words asked.now.words))) n n) result.kind result.reached (log_in result) }
+        → Serves V.told (IsTold V.told source (Ok (Tests asked.now.files (of_words asked.now.words)))) (V.state vol.old) (V.state vol.new) (of_command h (free_room h.capacity (V.state vol.old).held) m (found_in h.held) (Tests asked.now.files (of_words asked.now.words))) (Tests asked.now.files (of_words asked.now.words)) (λ s. s ≡ settled) (SourceFails (Ok (Tests asked.now.files (of_words asked.now.words))) n n) result.kind result.reached (log_in result) }
     ensures passes { Passes (V.state vol.old) (V.state vol.new) }
 {
     match package_of(alloc, asked.files) {

@@ -30,7 +30,7 @@ pub struct Lack {
 
 /// What the scripts of planned segments need more than is free on a settled volume, if they do; where no capacity is told, nothing. The
 /// volume is only read: where there is a segment and a capacity, its machine anew (this project's own).
-pub fn lack<V: Volume>(
+pub fn lacking<V: Volume>(
     alloc: Global,
     segments: Vec<Segment>,
     vol: &mut V,

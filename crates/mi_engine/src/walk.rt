@@ -31,7 +31,7 @@ ghost use Rattle.mi_engine.specs.Walks.{AreThere, IsReady, MayClose, MayRun, Say
 
 use crate::ending::unscanned;
 use crate::reply::{Reply, logged, out_of_memory};
-use crate::room::{Lack, lack};
+use crate::room::{Lack, lacking};
 use mi_base::{Cause, Fault, Kind, NoMemory, Settled, Text};
 use mi_carry::{Carried, Segment, carry_out};
 use mi_cost::scripts_cost_what_the_walk_needs;
@@ -162,7 +162,7 @@ fn carry_made<S: Source, V: Volume>(
     ensures counts { S.faults src.old ≤ S.faults src.new }
 {
     scripts_cost_what_the_walk_needs();
-    match lack(alloc, planned, vol) {
+    match lacking(alloc, planned, vol) {
         Ok(None) => carry_ready(alloc, ready, refusal, src, vol),
         Ok(Some(lack)) => {
             drop(refusal);

@@ -21,7 +21,7 @@ use Rattle.mi_engine.proofs.WalkLemmas.{all_kept}
 use Rattle.mi_engine.proofs.walk.carry.Goals as goal
 
 pub carry_made-requires-clause-same : goal.carry_made-requires-clause-same
-carry_made-requires-clause-same g c = c.in-Ok.ensures.segments ∙ ap (λ (l : List Segment). map as_planned l) (sym c.parts_of.ensures.segments)
+carry_made-requires-clause-same g c = c.in-Ok.ensures.segments ∙ ap (λ (l : List Segment). map as_planned l) (sym c.parts_of-refusal.ensures.segments)
 
 pub carry_made-requires-clause-few : goal.carry_made-requires-clause-few
 carry_made-requires-clause-few g c = c.in-Ok.ensures.few
@@ -36,7 +36,7 @@ pub carry_made-requires-clause-there : goal.carry_made-requires-clause-there
 carry_made-requires-clause-there g c = λ told. all_kept (λ (rs : List Rec). All (HasLength (g.S.Source.files c.args.src.now)) rs) c.args.plan.segments.items c.in-Ok.ready.segments.items c.in-Ok.ensures.segments (c.requires.lengths told)
 
 pub carry_made-requires-clause-refusal : goal.carry_made-requires-clause-refusal
-carry_made-requires-clause-refusal g c = subst (λ (r : Option Cause). IsWalkRefusal r) (sym c.parts_of.ensures.refusal) c.requires.refusal
+carry_made-requires-clause-refusal g c = subst (λ (r : Option Cause). IsWalkRefusal r) (sym c.parts_of-refusal.ensures.refusal) c.requires.refusal
 
 pub returns-in-Ok-clause-serves : goal.returns-in-Ok-clause-serves
 returns-in-Ok-clause-serves g c recorded folder sets given out planned former =
@@ -45,10 +45,10 @@ returns-in-Ok-clause-serves g c recorded folder sets given out planned former =
     let names = c.args.plan.begun.items in
     let free = free_room s.capacity s.held in
     c.carry_made.ensures.serves recorded folder sets given out names
-    (subst (λ (r : Option Cause). IsMadeFor c.args.settled names r c.in-Ok.ready.log) (sym c.parts_of.ensures.refusal) c.in-Ok.ensures.log)
+    (subst (λ (r : Option Cause). IsMadeFor c.args.settled names r c.in-Ok.ready.log) (sym c.parts_of-refusal.ensures.refusal) c.in-Ok.ensures.log)
     c.in-Ok.ensures.begun
     (λ v told.
-    subst (λ (r : Option Cause). IsCosted files free given out names c.in-Ok.ready.segments.items r) (sym c.parts_of.ensures.refusal)
+    subst (λ (r : Option Cause). IsCosted files free given out names c.in-Ok.ready.segments.items r) (sym c.parts_of-refusal.ensures.refusal)
     (subst (λ (l : List Planned). IsCosted files free given out names l c.args.plan.refusal) (sym c.in-Ok.ensures.segments) (planned v told)))
     former
 

@@ -1,4 +1,4 @@
-use Rattle.std.proofs.Common.{◌≡◌, ℕ, List, Option, Some, None, Ok, Err, arith, refl, sym, ap, ◌∙◌, subst}
+use Rattle.std.proofs.Common.{◌≡◌, ℕ, List, Option, Some, None, Ok, Err, arith, true, refl, sym, ap, ◌∙◌, subst}
 use Rattle.std.specs.Prelude.{length, map, min}
 use Rattle.mi_source.specs.Counts.{Rose}
 use Rattle.mi_base.specs.declared.answers.Kind.{Kind}
@@ -29,7 +29,7 @@ carry_ready-requires-clause-free g c = λ v. free_looks _ _ (c.requires.free v) 
 pub carry_ready-requires-clause-room : goal.carry_ready-requires-clause-room
 carry_ready-requires-clause-room g c = λ v.
     let s = g.V.Volume.state c.args.vol.now in
-    let t = g.V.Volume.state c.lack.new.vol in
+    let t = g.V.Volume.state c.lacking.new.vol in
     let plans = map as_planned c.args.planned.items in
     room_then s t plans c.args.ready.segments.items c.requires.same (c.in-Ok-None.ensures.looks v).stays.held c.in-Ok-None.ensures.passes.capacity
     (subst (λ (r : Option Lack). Lacks s.capacity s.held (scripts_in plans) r) c.in-Ok-None.field-0-is (c.in-Ok-None.ensures.lacks v))
@@ -37,7 +37,7 @@ carry_ready-requires-clause-room g c = λ v.
 pub returns-in-Ok-None-clause-serves : goal.returns-in-Ok-None-clause-serves
 returns-in-Ok-None-clause-serves g c recorded folder sets given out names made begun planned former =
     let s = g.V.Volume.state c.args.vol.now in
-    let t = g.V.Volume.state c.lack.new.vol in
+    let t = g.V.Volume.state c.lacking.new.vol in
     let u = g.V.Volume.state c.carry_ready.new.vol in
     let files = g.S.Source.files c.args.src.now in
     let command = Package recorded folder sets in
@@ -61,27 +61,27 @@ returns-in-Ok-None-clause-serves g c recorded folder sets given out names made b
 pub returns-in-Ok-Some-clause-serves : goal.returns-in-Ok-Some-clause-serves
 returns-in-Ok-Some-clause-serves g c recorded folder sets given out names made begun planned former =
     let s = g.V.Volume.state c.args.vol.now in
-    let t = g.V.Volume.state c.lack.new.vol in
+    let t = g.V.Volume.state c.lacking.new.vol in
     let files = g.S.Source.files c.args.src.now in
     let n = g.S.Source.faults c.args.src.now in
     let kept = c.args.ready.segments.items in
     let plans = map as_planned c.args.planned.items in
-    let lacking = c.in-Ok-Some.lack in
+    let missing = c.in-Ok-Some.lack in
     let r = c.full.result in
     let reached_is : r.reached ≡ min (first_end kept) (length names) = c.full.ensures.reached ∙ ap (min (first_end kept)) begun in
-    full_serves g.V.Volume.told g.S.Source.told recorded folder sets c.args.settled (Rose n n) s t out names lacking.need lacking.free r.reached
+    full_serves g.V.Volume.told g.S.Source.told recorded folder sets c.args.settled (Rose n n) s t out names missing.need missing.free r.reached
     c.requires.free (λ v. looks_so s t (c.in-Ok-Some.ensures.looks v))
     (λ v told_source.
-    let lacks : IsLack s.capacity s.held (scripts_in plans) lacking = subst (λ (x : Option Lack). Lacks s.capacity s.held (scripts_in plans) x) c.in-Ok-Some.field-0-is (c.in-Ok-Some.ensures.lacks v) in
-    subst (λ (k : ℕ). IsFull out lacking.need lacking.free names k) (sym reached_is)
-    (is_full c.scripts_cost_what_the_walk_needs.ensures files s.capacity s.held given out names kept c.args.refusal (planned v told_source) (former v) (c.requires.there told_source) lacking
-    (subst (λ (l : List Planned). IsLack s.capacity s.held (scripts_in l) lacking) (sym c.requires.same) lacks)))
+    let lacks : IsLack s.capacity s.held (scripts_in plans) missing = subst (λ (x : Option Lack). Lacks s.capacity s.held (scripts_in plans) x) c.in-Ok-Some.field-0-is (c.in-Ok-Some.ensures.lacks v) in
+    subst (λ (k : ℕ). IsFull out missing.need missing.free names k) (sym reached_is)
+    (is_full c.scripts_cost_what_the_walk_needs.ensures files s.capacity s.held given out names kept c.args.refusal (planned v told_source) (former v) (c.requires.there told_source) missing
+    (subst (λ (l : List Planned). IsLack s.capacity s.held (scripts_in l) missing) (sym c.requires.same) lacks)))
     (omega (arith, reached_is)) r.kind (log_in r) c.full.ensures.kind (c.full.ensures.log c.args.settled names c.args.refusal made)
 
 pub returns-in-Err-clause-serves : goal.returns-in-Err-clause-serves
 returns-in-Err-clause-serves g c recorded folder sets given out names made begun planned former =
     let s = g.V.Volume.state c.args.vol.now in
-    let t = g.V.Volume.state c.lack.new.vol in
+    let t = g.V.Volume.state c.lacking.new.vol in
     let n = g.S.Source.faults c.args.src.now in
     let command = Package recorded folder sets in
     unscanned_serves g.V.Volume.told (IsTold g.V.Volume.told g.S.Source.told (Ok command)) (λ x. x.0) s t out c.args.settled command (Rose n n)
