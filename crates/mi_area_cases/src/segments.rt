@@ -133,6 +133,17 @@ fn check_head(alloc: Global, name: &Name, head: &FileHead) -> Result<(), Ill>
     Err(Ill::BadLine)
 }
 
+/// Refuses a copy with another length than its head states.
+fn check_copy(alloc: Global, name: &Name, head: &FileHead, length: u64) -> Result<(), Ill>
+    ensures { OnOk result (HeadMayStand name.now head.now × (head.now.length ≡ length)) }
+{
+    if head.length != length {
+        return Err(Ill::BadLine);
+    }
+    check_head(alloc, name, head)?;
+    Ok(())
+}
+
 /// Refuses a duplicate of itself or of a name inside the area.
 fn check_dup(alloc: Global, name: &Name, head: &FileHead, from: &Name) -> Result<(), Ill>
     ensures { OnOk result (HeadMayStand name.now head.now × (from.now ≢ name.now) × (is_inside from.now ≡ false)) }
@@ -154,7 +165,12 @@ fn check_record(alloc: Global, rec: &Rec) -> Result<(), Ill>
     match rec {
         Rec::Put(_, _) => Ok(()),
         Rec::Drop(_) => Ok(()),
-        Rec::Copy { name, head, .. } => check_head(alloc, name, head),
+        Rec::Copy {
+            name,
+            head,
+            length,
+            ..
+        } => check_copy(alloc, name, head, *length),
         Rec::Dup { name, head, from } => check_dup(alloc, name, head, from),
     }
 }

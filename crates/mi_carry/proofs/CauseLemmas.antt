@@ -1,6 +1,5 @@
 -- Counts, and what licenses a stop.
-use Rattle.std.proofs.Common.{◌≡◌, ◌≢◌, ℕ, zero, suc, ◌≤◌, ◌<◌, List, [], ◌∷◌, length, get_or, Option, None, Some, Err, IsErrOf, IsNone, refl, sym, subst, arith}
-use Rattle.mi_volume.specs.Maps.{Exceeds}
+use Rattle.std.proofs.Common.{◌≡◌, ◌≢◌, ℕ, zero, suc, ◌≤◌, ◌<◌, List, [], ◌∷◌, length, get_or, Err, IsErrOf, refl, sym, subst, arith}
 use Rattle.mi_volume.specs.State.{State, Rose}
 use Rattle.mi_source.specs.Counts as source
 use Rattle.mi_runner.specs.declared.fault.RunFault.{RunFault}
@@ -44,22 +43,14 @@ pub stop_weaker : (differs differs' : List ℕ → ℕ → ℕ → Type 0) {volu
 stop_weaker differs differs' NoMemory d f g is = tt
 stop_weaker differs differs' (Refuse c) d f g is = met_weaker differs differs' c d f g is
 
-unlimited : (o : Option ℕ) (n : ℕ) → IsNone o → Exceeds o n → ⊥
-unlimited None n none passes = passes
-unlimited (Some x) n none passes = cc
-
--- no capacity is told that could be passed
-pub never_full : (o : Option ℕ) (n : ℕ) → Exceeds o n → IsNone o → ⊥
-never_full o n passes none = unlimited o n none passes
-
 -- a segment's fault, as a stop
-pub run_stopped : {T : Type 0} (differs : List ℕ → ℕ → ℕ → Type 0) (s t : State) (n m : ℕ) (e : RunFault) → s.faults ≤ t.faults → n ≤ m → (IsErrOf {T = T} (Err e) run.Volume → Rose s t) → (IsErrOf {T = T} (Err e) run.Full → IsNone s.capacity → ⊥) → (IsErrOf {T = T} (Err e) run.Source → source.Rose n m)
-    → IfDiffers e differs → IsMetStop differs (IsNone s.capacity → BelowCount s.faults t.faults) (BelowCount n m) (stop_of_run e)
-run_stopped differs s t n m run.NoMemory le more rose full source_rose other = tt
-run_stopped differs s t n m run.Source le more rose full source_rose other = source_raised n m more (source_rose refl)
-run_stopped differs s t n m run.Volume le more rose full source_rose other = λ none. raised s t le (rose refl)
-run_stopped differs s t n m run.Full le more rose full source_rose other = λ none. absurd (full refl none)
-run_stopped differs s t n m (run.SizeDiffers file stated found) le more rose full source_rose other = other
+pub run_stopped : {T : Type 0} (differs : List ℕ → ℕ → ℕ → Type 0) (room : Type 0) (s t : State) (n m : ℕ) (e : RunFault) → s.faults ≤ t.faults → n ≤ m → (IsErrOf {T = T} (Err e) run.Volume → Rose s t) → (IsErrOf {T = T} (Err e) run.Full → room → ⊥) → (IsErrOf {T = T} (Err e) run.Source → source.Rose n m)
+    → IfDiffers e differs → IsMetStop differs (room → BelowCount s.faults t.faults) (BelowCount n m) (stop_of_run e)
+run_stopped differs room s t n m run.NoMemory le more rose full source_rose other = tt
+run_stopped differs room s t n m run.Source le more rose full source_rose other = source_raised n m more (source_rose refl)
+run_stopped differs room s t n m run.Volume le more rose full source_rose other = λ is. raised s t le (rose refl)
+run_stopped differs room s t n m run.Full le more rose full source_rose other = λ is. absurd (full refl is)
+run_stopped differs room s t n m (run.SizeDiffers file stated found) le more rose full source_rose other = other
 
 -- the length that differs is one of this segment
 pub one_differs : (told : Type 0) (p : Planned) (e : RunFault) → (told → IfDiffers e (λ file stated found. ⊥)) → IfDiffers e (λ file stated found. found ≢ stated) → IfDiffers e (λ file stated found. States p.records file stated) → IfDiffers e (Differs told (p ∷ []))

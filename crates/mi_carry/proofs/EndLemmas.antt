@@ -10,6 +10,8 @@ use Rattle.mi_undo.specs.Stands.{StandsFor, outside}
 use Rattle.mi_undo.specs.Keeps.{Each, IsFree}
 use Rattle.mi_undo.specs.Answers.{IsFreeUnlessRose, Declines}
 use Rattle.mi_undo.specs.declared.kept.Kept.{Kept}
+use Rattle.mi_undo.specs.declared.fault.OpFault.{OpFault}
+use Rattle.mi_undo.specs.declared.fault.OpFault.TheVariants as op
 use Rattle.mi_undo.proofs.StandsLemmas.{get-outside, stands_unmarked}
 use Rattle.mi_undo.proofs.NoteLemmas.{shut_gate}
 use Rattle.mi_base.specs.declared.answers.Cause.{Cause}
@@ -24,6 +26,7 @@ use Rattle.mi_carry.specs.declared.stop.Stop.TheVariants.{NoMemory, Refuse}
 use Rattle.mi_carry.specs.declared.stop.Stopped.{Stopped}
 use Rattle.mi_carry.specs.declared.stop.Halt.{Halt}
 use Rattle.mi_carry.specs.declared.stop.Halt.TheVariants.{Back, Unknown}
+use Rattle.mi_carry.specs.Stops.{stop_of_op}
 use Rattle.mi_carry.specs.Causes.{MayRefuse, MayStop, Caused}
 use Rattle.mi_carry.specs.Ends.{StandsAfter, AtExit, Reads, Ends}
 use Rattle.mi_carry.specs.Falls.{Falls, AnswersStop, gone, stuck}
@@ -185,3 +188,17 @@ module _ (differs : List ℕ → ℕ → ℕ → Type 0) (room fails : Type 0) (
   pub stop_before : (n k m : ℕ) (why : Stop) → n ≤ k → k ≤ m → MayStop differs room fails refusal begun reached (BelowCount k m) why → MayStop differs room fails refusal begun reached (BelowCount n m) why
   stop_before n k m NoMemory le more may = tt
   stop_before n k m (Refuse cause) le more may = ⊎_elim (λ own. inl own) (λ met. inr (met_weaker differs differs cause (λ file stated found d. d) (λ below r. below_before n k m le more (below r)) (λ x. x) met)) may
+
+-- no area was begun
+pub begun_caused : (differs : List ℕ → ℕ → ℕ → Type 0) (room fails : Type 0) (refusal : Option Cause) (begun reached n m : ℕ) (fault : OpFault) → (fault ≡ op.Fault → BelowCount n m) → (fault ≡ op.Full → room → ⊥) → Caused differs room fails refusal begun reached n m (gone (stop_of_op fault))
+begun_caused differs room fails refusal begun reached n m op.NoMemory rose full = tt
+begun_caused differs room fails refusal begun reached n m op.Fault rose full = inr (λ is. rose refl)
+begun_caused differs room fails refusal begun reached n m op.Full rose full = inr (λ is. absurd (full refl is))
+
+-- by another room, where one gives the other
+pub stop_room : (differs : List ℕ → ℕ → ℕ → Type 0) (room more fails : Type 0) (refusal : Option Cause) (begun reached : ℕ) (rose : Type 0) (why : Stop) → (more → room) → MayStop differs room fails refusal begun reached rose why → MayStop differs more fails refusal begun reached rose why
+stop_room differs room more fails refusal begun reached rose NoMemory gives may = tt
+stop_room differs room more fails refusal begun reached rose (Refuse cause) gives may = ⊎_elim (λ own. inl own) (λ met. inr (met_weaker differs differs cause (λ file stated found d. d) (λ below r. below (gives r)) (λ x. x) met)) may
+
+pub answers_room : (room more : Type 0) (why : Stop) (first again last : ℕ) (k : Kind) → (more → room) → AnswersStop room why first again last k → AnswersStop more why first again last k
+answers_room room more why first again last k gives = ⊎_elim (λ is. inl is) (λ rest. inr (⊎_elim (λ is. inl is) (λ is. inr (is.0, λ r. is.1 (gives r))) rest))

@@ -1,6 +1,5 @@
 -- The answer after going back.
-use Rattle.std.proofs.Common.{inl, inr, ℕ, ◌≤◌, Option, None, Some, Result, Ok, Err, IsErrOf, IsNone, refl}
-use Rattle.std.specs.Prelude.{IsSome}
+use Rattle.std.proofs.Common.{inl, inr, ℕ, ◌≤◌, Result, Ok, Err, IsErrOf, refl}
 use Rattle.mi_volume.specs.Maps.{Map}
 use Rattle.mi_volume.specs.State.{State, Rose}
 use Rattle.mi_undo.specs.Answers.{GoesBack}
@@ -11,15 +10,11 @@ use Rattle.mi_carry.specs.declared.stop.Stop.TheVariants.{NoMemory, Refuse}
 use Rattle.mi_carry.specs.Falls.{Falls, AnswersStop, fell, gone, stuck}
 use Rattle.mi_carry.proofs.CauseLemmas.{raised}
 
-not_both : (o : Option ℕ) → IsNone o → IsSome o → ⊥
-not_both None a b = cc
-not_both (Some x) a b = cc
-
-pub answers : {T told : Type 0} (r : Result T BackFault) (why : Stop) (first : ℕ) (s t : State) → s.faults ≤ t.faults → (IsErrOf r back.Fault → Rose s t) → (IsErrOf r back.Full → told × IsSome s.capacity) → AnswersStop (IsNone s.capacity) why first s.faults t.faults (fell r why first s.faults)
-answers (Ok x) why first s t le fault full = inl refl
-answers (Err back.NoMemory) why first s t le fault full = inr (inl refl)
-answers (Err back.Fault) why first s t le fault full = inr (inr (refl, λ none. raised s t le (fault refl)))
-answers (Err back.Full) why first s t le fault full = inr (inr (refl, λ none. absurd (not_both s.capacity none (full refl).1)))
+pub answers : {T : Type 0} (room : Type 0) (r : Result T BackFault) (why : Stop) (first : ℕ) (s t : State) → s.faults ≤ t.faults → (IsErrOf r back.Fault → Rose s t) → (IsErrOf r back.Full → room → ⊥) → AnswersStop room why first s.faults t.faults (fell r why first s.faults)
+answers room (Ok x) why first s t le fault full = inl refl
+answers room (Err back.NoMemory) why first s t le fault full = inr (inl refl)
+answers room (Err back.Fault) why first s t le fault full = inr (inr (refl, λ is. raised s t le (fault refl)))
+answers room (Err back.Full) why first s t le fault full = inr (inr (refl, λ is. absurd (full refl is)))
 
 module _ (s t : State) (F : Map) where
   fallen_stuck : {T : Type 0} (why : Stop) (first again : ℕ) (e : BackFault) → GoesBack {T = T} s t F (Err e) → Falls s t F (stuck why first again)

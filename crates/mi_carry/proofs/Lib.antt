@@ -6,3 +6,6 @@ pub mod HaltLemmas
 pub mod EndLemmas
 pub mod IdleLemmas
 pub mod WalkLemmas
+pub mod NameSums
+pub mod SumLemmas
+pub mod RoomLemmas

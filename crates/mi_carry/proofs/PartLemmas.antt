@@ -1,5 +1,6 @@
 -- Segments carried out one after the other over an open area.
-use Rattle.std.proofs.Common.{◌≡◌, ℕ, ◌+◌, ◌≤◌, ◌<◌, List, length, take, get_or, Ok, Err, sym, ap, ◌∙◌}
+use Rattle.std.proofs.Common.{◌≡◌, ℕ, ◌+◌, ◌≤◌, ◌<◌, List, length, take, get_or, Ok, Err, sym, ap, subst, ◌∙◌}
+use Rattle.std.specs.List.{All}
 use Rattle.std.proofs.lemmas.List.Sums.{fold_more}
 use Rattle.mi_volume.specs.Maps.{Map}
 use Rattle.mi_volume.specs.State.{State, Passes, GoesOn}
@@ -8,7 +9,7 @@ use Rattle.mi_source.specs.Paths.{Files}
 use Rattle.mi_script.specs.declared.rec.Rec.{Rec}
 use Rattle.mi_script.specs.Scripts.{after_script}
 use Rattle.mi_undo.specs.Stands.{StandsFor, outside}
-use Rattle.mi_undo.specs.Area.{Works, volume, entry_count, IsWorking}
+use Rattle.mi_undo.specs.Area.{Works, volume, noted_names, entry_count, IsWorking}
 use Rattle.mi_undo.specs.declared.kept.Kept.{Kept}
 use Rattle.mi_undo.specs.declared.area.Open.{Open}
 use Rattle.mi_undo.proofs.AreaLemmas.{works_go_back}
@@ -17,6 +18,8 @@ use Rattle.mi_runner.specs.declared.fault.RunFault.{RunFault}
 use Rattle.mi_model.specs.Plans.{Planned}
 use Rattle.mi_carry.specs.Segments.{after_segments}
 use Rattle.mi_carry.specs.Halts.{GoesAlong}
+use Rattle.mi_carry.specs.Rooms.{IsRoomy}
+use Rattle.mi_carry.proofs.RoomLemmas.{RoomSoFar}
 
 -- what a segment leaves
 pub one_along : {T E : Type 0} (s t : State) (kept : Kept) (F : Map) (rs : List Rec) (x : T) → Carries {T = T} s t kept F rs (Ok x) → GoesAlong {T = T} {E = E} s t kept F (Ok x)
@@ -31,15 +34,20 @@ still_along s kept F e w = record { goes = started s (StandsFor F); works = tt; 
 
 -- the first segments are carried out
 module _ {V S : Type 0} (told : Type 0) (state : V → State) (source_told : Type 0) (files : S → Files) (faults : S → ℕ) (old new : Open V Kept) (src src' : S) where
-  pub record PartsSoFar (front : List Planned) (n : ℕ) : Type 0 where
+  pub record PartsSoFar (parts front : List Planned) (n : ℕ) : Type 0 where
     pub reference : new.vol.ghost_name ≡ old.vol.ghost_name
     pub working : IsWorking new
     pub entries : entry_count new ≤ entry_count old + n
     pub goes : told → (F : Map) → Works (state (volume old)) old.kept F → GoesOn (state (volume old)) (state (volume new)) (StandsFor F) × Works (state (volume new)) new.kept F
     pub map : told → source_told → (F : Map) → Works (state (volume old)) old.kept F → outside (state (volume new)).held ≡ after_segments (files src) (outside (state (volume old)).held) front
+    pub room : told → (F : Map) → Works (state (volume old)) old.kept F → IsRoomy (state (volume old)) F parts → RoomSoFar (state (volume old)) (state (volume new)) F (noted_names new) front
     pub passes : Passes (state (volume old)) (state (volume new))
     pub stays : files src' ≡ files src
     pub counts : faults src ≤ faults src'
+
+-- what holds of each segment holds of this one
+pub at_part : (P : Planned → Type 0) (parts : List Planned) (k : ℕ) (p : Planned) → All P parts → k < length parts → p ≡ get_or parts k p → P p
+at_part P parts k p all below is = subst P (sym is) (all k p below)
 
 -- one more
 pub more_map : (files files' : Files) (h m k : Map) (parts : List Planned) (i : ℕ) (p : Planned) → files' ≡ files → i < length parts → p ≡ get_or parts i p → m ≡ after_segments files h (take i parts) → k ≡ after_script files' m p.records → k ≡ after_segments files h (take (i + 1) parts)

@@ -49,7 +49,7 @@ abbrev pub WithRoom : Type 0 → Place → Type 0 → Type 0
 WithRoom room InRollback fact = room → fact
 WithRoom room InCommit fact = fact
 
--- `room` says that no capacity is told, `refusal` is the walk's own, `begun` is how many actions it begins, and `reached` how many are answered.
+-- `room` says that the volume has room for the walk, `refusal` is the walk's own, `begun` is how many actions it begins, and `reached` how many are answered.
 module _ (differs : List ℕ → ℕ → ℕ → Type 0) (room source_fails : Type 0) (refusal : Option Cause) (begun reached : ℕ) where
   -- the walk's own refusal behind its last segment, or a cause that a device gives
   abbrev pub MayRefuse : Type 0 → Cause → Type 0

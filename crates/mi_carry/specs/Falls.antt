@@ -31,7 +31,7 @@ fell (Err back.NoMemory) why first again = kind.NoMemory
 fell (Err back.Fault) why first again = stuck why first again
 fell (Err back.Full) why first again = stuck why first again
 
--- what a stop is answered by: where going back failed, the count rose then, if no capacity is told
+-- what a stop is answered by: where going back failed, the count rose then, if there is room for it
 abbrev pub AnswersStop : Type 0 → Stop → ℕ → ℕ → ℕ → Kind → Type 0
 AnswersStop room why first again last k = (k ≡ gone why) ⊎ (k ≡ kind.NoMemory) ⊎ ((k ≡ stuck why first again) × (room → BelowCount again last))
 

@@ -4,3 +4,4 @@ pub mod Causes
 pub mod Ends
 pub mod Falls
 pub mod Halts
+pub mod Rooms

@@ -1,6 +1,6 @@
 //! Carrying out a planned walk.
 
-ghost use Rattle.std.specs.Prelude.{◌≡◌, ◌≤◌, IsNone, IsTrue, ◌↔◌, length};
+ghost use Rattle.std.specs.Prelude.{◌≡◌, ◌≤◌, IsTrue, ◌↔◌, length};
 ghost use Rattle.std.specs.List.{All};
 ghost use Rattle.mi_volume.specs.State.{Passes, GoesOn};
 ghost use Rattle.mi_script.specs.Scripts.{touched_names};
@@ -8,6 +8,7 @@ ghost use Rattle.mi_undo.specs.Names.{most_entries};
 ghost use Rattle.mi_undo.specs.Stands.{outside};
 ghost use Rattle.mi_undo.specs.Keeps.{IsFree, Each};
 ghost use Rattle.mi_undo.specs.Area.{AreOutside};
+ghost use Rattle.mi_undo.specs.Room.{NeverShort};
 ghost use Rattle.mi_runner.specs.Records.{MayCarry, HasLength};
 ghost use Rattle.mi_model.specs.Causes.{BelowCount, SameCount};
 ghost use Rattle.mi_model.specs.Leaves.{Cleans};
@@ -16,6 +17,7 @@ ghost use Rattle.mi_carry.specs.Segments.{after_segments, HaveNoRecord, Reaches}
 ghost use Rattle.mi_carry.specs.Causes.{IsWalkKind, Differs, Caused, Completes};
 ghost use Rattle.mi_carry.specs.Ends.{MayStand, AtExit, Reads, Ends};
 ghost use Rattle.mi_carry.specs.Halts.{unknown};
+ghost use Rattle.mi_carry.specs.Rooms.{HasRoom};
 
 use crate::fall::{fall_back, give_up};
 use crate::segment::Segment;
@@ -79,12 +81,14 @@ fn work<S: Source, V: Volume>(
     refusal: Option<Cause>,
 ) -> Carried
     requires free { V.told → IsFree (V.state vol.old) }
+    requires some { ¬ HaveNoRecord parts.now }
     requires few { length parts.now ≤ most_entries }
     requires outside { All (λ p. AreOutside (touched_names p.records)) parts.now }
     requires records { All (λ p. All MayCarry p.records) parts.now }
     requires there { S.told → All (λ p. All (HasLength (S.files src.old)) p.records) parts.now }
     ensures ends { V.told → Ends S.told (V.state vol.old) (V.state vol.new) (V.state vol.old).held (after_segments (S.files src.old) (V.state vol.old).held parts.now) refusal result.kind }
-    ensures caused { Caused (Differs S.told parts.now) (IsNone (V.state vol.old).capacity) (BelowCount (S.faults src.old) (S.faults src.new)) refusal begun result.reached (V.state vol.old).faults (V.state vol.new).faults result.kind }
+    ensures caused { Caused (Differs S.told parts.now) (V.told → HasRoom (V.state vol.old) parts.now) (BelowCount (S.faults src.old) (S.faults src.new)) refusal begun result.reached (V.state vol.old).faults (V.state vol.new).faults result.kind }
+    ensures recovers { V.told → HasRoom (V.state vol.old) parts.now → GoesOn (V.state vol.old) (V.state vol.new) (NeverShort (V.state vol.old).capacity) }
     ensures reached { Reaches begun parts.now result.reached }
     ensures passes { Passes (V.state vol.old) (V.state vol.new) }
     ensures source_stays { S.files src.new ≡ S.files src.old }
@@ -130,7 +134,8 @@ fn work<S: Source, V: Volume>(
 /// how many actions the walk begins, and `refusal` why it ended early. Behind the last segment a walk that went to its
 /// end is committed, and one that was refused is gone back over. Where no segment has a record, nothing is called.
 /// A fault of a device is answered with the actions that are begun at the end of the segment at hand. Each script is
-/// read back when its turn comes (Rollback Installation; the answers are this project's own).
+/// read back when its turn comes. Where what the scripts cost over what the volume holds fits beside it, no call meets
+/// want of room, forward or on the way back, and recovery of what a crash leaves has room (Rollback Installation; the answers are this project's own).
 pub fn carry_out<S: Source, V: Volume>(
     alloc: Global,
     vol: &mut V,
@@ -149,8 +154,9 @@ pub fn carry_out<S: Source, V: Volume>(
     ensures reads { V.told → Reads S.told (V.state vol.old).held (after_segments (S.files src.old) (V.state vol.old).held segments.now) result.kind (outside (V.state vol.new).held) }
     ensures cleans { V.told → Cleans (V.state vol.old) (V.state vol.new) result.kind }
     ensures kinds { IsWalkKind result.kind }
-    ensures caused { Caused (Differs S.told segments.now) (IsNone (V.state vol.old).capacity) (BelowCount (S.faults src.old) (S.faults src.new)) refusal begun result.reached (V.state vol.old).faults (V.state vol.new).faults result.kind }
-    ensures complete { S.told → IsNone (V.state vol.old).capacity → SameCount (V.state vol.old).faults (V.state vol.new).faults → SameCount (S.faults src.old) (S.faults src.new) → Completes refusal begun result.reached result.kind }
+    ensures caused { Caused (Differs S.told segments.now) (V.told → HasRoom (V.state vol.old) segments.now) (BelowCount (S.faults src.old) (S.faults src.new)) refusal begun result.reached (V.state vol.old).faults (V.state vol.new).faults result.kind }
+    ensures complete { S.told → (V.told → HasRoom (V.state vol.old) segments.now) → SameCount (V.state vol.old).faults (V.state vol.new).faults → SameCount (S.faults src.old) (S.faults src.new) → Completes refusal begun result.reached result.kind }
+    ensures recovers { V.told → HasRoom (V.state vol.old) segments.now → GoesOn (V.state vol.old) (V.state vol.new) (NeverShort (V.state vol.old).capacity) }
     ensures idle_volume { HaveNoRecord segments.now → vol.new ≡ vol.old }
     ensures idle_source { HaveNoRecord segments.now → src.new ≡ src.old }
     ensures idle_answer { HaveNoRecord segments.now → result.kind ≡ kind_by refusal }

@@ -1,10 +1,12 @@
 //! Going back after a stop.
 
-ghost use Rattle.std.specs.Prelude.{◌≡◌, IsNone};
+ghost use Rattle.std.specs.Prelude.{◌≡◌};
 ghost use Rattle.mi_volume.specs.Maps.{Map};
-ghost use Rattle.mi_volume.specs.State.{Passes};
+ghost use Rattle.mi_volume.specs.State.{Passes, GoesOn};
 ghost use Rattle.mi_undo.specs.Area.{volume, IsLive, CanGoBack};
+ghost use Rattle.mi_undo.specs.Room.{NeverShort};
 ghost use Rattle.mi_carry.specs.Falls.{Falls, AnswersStop, fell, gone, stuck};
+ghost use Rattle.mi_carry.specs.Rooms.{FitsBack};
 
 use crate::stop::Stop;
 use mi_base::{Kind, Pause, Place};
@@ -17,7 +19,8 @@ pub fn fall_back<V: Volume>(alloc: Global, area: Open<'_, V>, first: u64, why: S
     requires live { IsLive area }
     requires can_go_back { V.told → (F : Map) × CanGoBack (V.state (volume area)) area.kept F }
     ensures falls { V.told → (F : Map) → CanGoBack (V.state area.entry.vol.now) area.entry.kept F → Falls (V.state area.entry.vol.now) (V.state area.exit.0.now) F result }
-    ensures answers { AnswersStop (IsNone (V.state area.entry.vol.now).capacity) why first (V.state area.entry.vol.now).faults (V.state area.exit.0.now).faults result }
+    ensures answers { AnswersStop (V.told → (F : Map) × CanGoBack (V.state area.entry.vol.now) area.entry.kept F × FitsBack (V.state area.entry.vol.now) F) why first (V.state area.entry.vol.now).faults (V.state area.exit.0.now).faults result }
+    ensures recovers { V.told → (F : Map) → CanGoBack (V.state area.entry.vol.now) area.entry.kept F → FitsBack (V.state area.entry.vol.now) F → GoesOn (V.state area.entry.vol.now) (V.state area.exit.0.now) (NeverShort (V.state area.entry.vol.now).capacity) }
     ensures passes { Passes (V.state area.entry.vol.now) (V.state area.exit.0.now) }
 {
     let again = area.faults();

@@ -1,6 +1,6 @@
 //! A whole walk over an open rollback area.
 
-ghost use Rattle.std.specs.Prelude.{◌≡◌, ◌≤◌, IsNone, length};
+ghost use Rattle.std.specs.Prelude.{◌≡◌, ◌≤◌, length};
 ghost use Rattle.std.specs.List.{All};
 ghost use Rattle.mi_volume.specs.Maps.{Map};
 ghost use Rattle.mi_volume.specs.State.{Passes};
@@ -13,6 +13,7 @@ ghost use Rattle.mi_model.specs.Causes.{BelowCount};
 ghost use Rattle.mi_carry.specs.Segments.{after_segments, Reaches};
 ghost use Rattle.mi_carry.specs.Causes.{Differs};
 ghost use Rattle.mi_carry.specs.Halts.{Goes, IfBack, HaltCaused, reached_by};
+ghost use Rattle.mi_carry.specs.Rooms.{IsRoomy, EndsRoomy};
 
 use crate::parts::carry_parts;
 use crate::segment::Segment;
@@ -62,8 +63,9 @@ pub fn carry_walk<S: Source, V: Volume>(
     ensures live { IfBack result (IsLive area.new) }
     ensures goes { V.told → (F : Map) → Works (V.state (volume area.old)) area.old.kept F
         → Goes S.told (V.state (volume area.old)) (V.state (volume area.new)) area.new.kept F (after_segments (S.files src.old) (outside (V.state (volume area.old)).held) parts.now) refusal result }
+    ensures roomy { V.told → (F : Map) → Works (V.state (volume area.old)) area.old.kept F → IsRoomy (V.state (volume area.old)) F parts.now → EndsRoomy (V.state (volume area.old)) (V.state (volume area.new)) F result }
     ensures passes { Passes (V.state (volume area.old)) (V.state (volume area.new)) }
-    ensures caused { HaltCaused (Differs S.told parts.now) (IsNone (V.state (volume area.old)).capacity) (BelowCount (S.faults src.old) (S.faults src.new)) refusal begun (V.state (volume area.old)).faults (V.state (volume area.new)).faults result }
+    ensures caused { HaltCaused (Differs S.told parts.now) (V.told → (F : Map) × Works (V.state (volume area.old)) area.old.kept F × IsRoomy (V.state (volume area.old)) F parts.now) (BelowCount (S.faults src.old) (S.faults src.new)) refusal begun (V.state (volume area.old)).faults (V.state (volume area.new)).faults result }
     ensures reached { Reaches begun parts.now (reached_by begun result) }
     ensures source_stays { S.files src.new ≡ S.files src.old }
     ensures source_counts { S.faults src.old ≤ S.faults src.new }

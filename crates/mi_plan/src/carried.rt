@@ -70,6 +70,17 @@ fn check_head(alloc: Global, name: &Name, head: &FileHead) -> Result<(), NoMemor
     Err(NoMemory)
 }
 
+/// Refuses a copy with another length than its head states.
+fn check_copy(alloc: Global, name: &Name, head: &FileHead, length: u64) -> Result<(), NoMemory>
+    ensures { OnOk result (HeadMayStand name.now head.now × (head.now.length ≡ length)) }
+{
+    if head.length != length {
+        return Err(NoMemory);
+    }
+    check_head(alloc, name, head)?;
+    Ok(())
+}
+
 /// Refuses a duplicate of itself or of a name inside the area.
 fn check_duplicate(alloc: Global, name: &Name, head: &FileHead, from: &Name) -> Result<(), NoMemory>
     ensures { OnOk result (HeadMayStand name.now head.now × (from.now ≢ name.now) × (is_inside from.now ≡ false)) }
@@ -91,7 +102,12 @@ fn check_file(alloc: Global, rec: &Rec) -> Result<(), NoMemory>
     match rec {
         Rec::Put(_, _) => Ok(()),
         Rec::Drop(_) => Ok(()),
-        Rec::Copy { name, head, .. } => check_head(alloc, name, head),
+        Rec::Copy {
+            name,
+            head,
+            length,
+            ..
+        } => check_copy(alloc, name, head, *length),
         Rec::Dup { name, head, from } => check_duplicate(alloc, name, head, from),
     }
 }
@@ -125,8 +141,9 @@ fn check_segments(alloc: Global, segments: &[Segment]) -> Result<(), NoMemory>
     Ok(())
 }
 
-/// The plan, whose records may be carried out; want of memory where one lies in the rollback area, or writes a file that
-/// may not stand at its name. The phases aren't expected to make such a record, which no clause of theirs says yet.
+/// The plan, whose records may be carried out; want of memory where one lies in the rollback area, writes a file that
+/// may not stand at its name, or copies another length than its head states. The phases aren't expected to make such a
+/// record, which no clause of theirs says yet.
 pub fn checked(alloc: Global, plan: WalkPlan) -> Result<WalkPlan, NoMemory>
     ensures same { IfOk result (λ p. p ≡ plan) }
     ensures outside { IfOk result (λ p. All (λ s. AreOutside (touched_names s.script)) p.segments.items) }

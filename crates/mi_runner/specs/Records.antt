@@ -10,11 +10,12 @@ use Rattle.mi_script.specs.declared.rec.Rec.{Rec}
 use Rattle.mi_script.specs.declared.rec.Rec.TheVariants.{Put, Drop, Copy, Dup}
 use Rattle.mi_undo.specs.Names.{is_inside}
 
--- A file is written under the name of its head, and a duplicate is that of another file, which is no name of the rollback area.
+-- A file is written under the name of its head, a copy with as many bytes as its head states, and a duplicate is that of another file, which is no
+-- name of the rollback area.
 abbrev pub MayCarry : Rec → Type 0
 MayCarry (Put name bytes) = Unit {0}
 MayCarry (Drop name) = Unit {0}
-MayCarry (Copy name h file path n) = HeadMayStand name h
+MayCarry (Copy name h file path n) = HeadMayStand name h × (h.length ≡ n)
 MayCarry (Dup name h from) = HeadMayStand name h × (from ≢ name) × (is_inside from ≡ false)
 
 -- the source has what the record copies, with as many bytes as the record states

@@ -1,12 +1,15 @@
-use Rattle.std.proofs.Common.{ℕ, IsNone, Option, Err, refl, sym, ap, subst, ◌∙◌, arith}
+use Rattle.std.proofs.Common.{ℕ, Err, refl, sym, ap, subst, ◌∙◌, arith}
 use Rattle.mi_volume.specs.Maps.{Map}
-use Rattle.mi_undo.specs.Area.{CanGoBack}
+use Rattle.mi_undo.specs.Area.{CanGoBack, Works}
 use Rattle.mi_model.specs.Causes.{BelowCount}
-use Rattle.mi_carry.specs.Segments.{after_segments}
-use Rattle.mi_carry.specs.Causes.{Differs, MayStop}
+use Rattle.mi_carry.specs.Segments.{after_segments, Reaches}
+use Rattle.mi_carry.specs.Causes.{Differs}
 use Rattle.mi_carry.specs.Falls.{AnswersStop}
-use Rattle.mi_carry.specs.Halts.{Goes, IfBack, HaltCaused}
-use Rattle.mi_carry.proofs.EndLemmas.{all_outside, lifted, declined_ends, done_ends, fell_ends, unknown_ends, stop_before, fell_caused}
+use Rattle.mi_carry.specs.Halts.{Goes, IfBack, HaltCaused, reached_by}
+use Rattle.mi_carry.specs.Rooms.{HasRoom, IsRoomy, FitsBack}
+use Rattle.mi_carry.proofs.CauseLemmas.{raised}
+use Rattle.mi_carry.proofs.EndLemmas.{begun_caused, all_outside, lifted, declined_ends, done_ends, fell_ends, unknown_ends, stop_before, stop_room, answers_room, fell_caused}
+use Rattle.mi_carry.proofs.RoomLemmas.{begun_roomy, walked_goes, fallen_goes, not_begun}
 use Rattle.mi_carry.proofs.carried.work.Goals as goal
 
 pub returns-in-Err-clause-ends : goal.returns-in-Err-clause-ends
@@ -49,6 +52,7 @@ returns-in-Err-Back-clause-ends g c = λ told.
     (ap (λ (m : Map). after_segments (g.S.Source.files c.args.src.now) m c.args.parts.now) (opens.outside ∙ all_outside s (c.requires.free told))) opens.goes goes))
     (c.fall_back.ensures.falls told s.held (subst (λ r. IfBack r (CanGoBack (g.V.Volume.state c.carry_walk.new.area.vol.now) c.carry_walk.new.area.kept s.held)) fails goes.back)))
 
+-- where there is room for the walk, so there is for the walk over the area that was begun
 pub returns-in-Err-Back-clause-caused : goal.returns-in-Err-Back-clause-caused
 returns-in-Err-Back-clause-caused g c =
     let s = g.V.Volume.state c.args.vol.now in
@@ -56,14 +60,72 @@ returns-in-Err-Back-clause-caused g c =
     let u = g.V.Volume.state c.carry_walk.new.area.vol.now in
     let fails = c.in-Err-Back.is ∙ ap Err c.in-Err-Back.field-0-is in
     let source = BelowCount (g.S.Source.faults c.args.src.now) (g.S.Source.faults c.carry_walk.new.src) in
-    let may = subst (λ (o : Option ℕ). MayStop (Differs g.S.Source.told c.args.parts.now) (IsNone o) source c.args.refusal c.args.begun c.in-Err-Back.stopped.reached (BelowCount t.faults u.faults) c.in-Err-Back.stopped.why) c.in-Ok.ensures.passes.capacity
-    (subst (HaltCaused (Differs g.S.Source.told c.args.parts.now) (IsNone t.capacity) source c.args.refusal c.args.begun t.faults u.faults) fails c.carry_walk.ensures.caused) in
+    let room : Type 0 = g.V.Volume.told → HasRoom s c.args.parts.now in
+    let begun : Type 0 = g.V.Volume.told → (F : Map) × Works t c.in-Ok.area.kept F × IsRoomy t F c.args.parts.now in
+    let back : Type 0 = g.V.Volume.told → (F : Map) × CanGoBack u c.carry_walk.new.area.kept F × FitsBack u F in
+    let roomy : (told : g.V.Volume.told) → HasRoom s c.args.parts.now → IsRoomy t s.held c.args.parts.now =
+    λ told has. begun_roomy s c.args.parts.now c.requires.some has t (c.in-Ok.ensures.room told) ((c.in-Ok.ensures.opens told).outside ∙ all_outside s (c.requires.free told)) in
+    let to_begun : room → begun = λ has told. (s.held, (c.in-Ok.ensures.opens told).works, roomy told (has told)) in
+    let to_back : room → back = λ has told.
+    let works = (c.in-Ok.ensures.opens told).works in
+    let goes = c.carry_walk.ensures.goes told s.held works in
+    let ends = c.carry_walk.ensures.roomy told s.held works (roomy told (has told)) in
+    (s.held, subst (λ r. IfBack r (CanGoBack u c.carry_walk.new.area.kept s.held)) fails goes.back, subst (λ r. IfBack r (FitsBack u s.held)) fails ends.back) in
+    let may = stop_room (Differs g.S.Source.told c.args.parts.now) begun room source c.args.refusal c.args.begun c.in-Err-Back.stopped.reached (BelowCount t.faults u.faults) c.in-Err-Back.stopped.why to_begun
+    (subst (HaltCaused (Differs g.S.Source.told c.args.parts.now) begun source c.args.refusal c.args.begun t.faults u.faults) fails c.carry_walk.ensures.caused) in
     rw (c.vol-in-Err-Back-1.given.1 (sym (c.carry_walk.ensures.reference ∙ c.in-Ok.ensures.reference)))
-    (fell_caused (Differs g.S.Source.told c.args.parts.now) (IsNone s.capacity) source c.args.refusal c.args.begun c.in-Err-Back.stopped.reached s.faults u.faults _ c.in-Err-Back.stopped.why c.fall_back.result
+    (fell_caused (Differs g.S.Source.told c.args.parts.now) room source c.args.refusal c.args.begun c.in-Err-Back.stopped.reached s.faults u.faults _ c.in-Err-Back.stopped.why c.fall_back.result
     (omega (arith, c.in-Ok.ensures.passes.faults, c.carry_walk.ensures.passes.faults)) c.fall_back.ensures.passes.faults
-    (stop_before (Differs g.S.Source.told c.args.parts.now) (IsNone s.capacity) source c.args.refusal c.args.begun c.in-Err-Back.stopped.reached s.faults t.faults u.faults c.in-Err-Back.stopped.why c.in-Ok.ensures.passes.faults c.carry_walk.ensures.passes.faults may)
-    (subst (λ (o : Option ℕ). AnswersStop (IsNone o) c.in-Err-Back.stopped.why s.faults u.faults (g.V.Volume.state c.fall_back.new.area.0).faults c.fall_back.result) (c.carry_walk.ensures.passes.capacity ∙ c.in-Ok.ensures.passes.capacity)
-    (subst (λ (n : ℕ). AnswersStop (IsNone u.capacity) c.in-Err-Back.stopped.why n u.faults (g.V.Volume.state c.fall_back.new.area.0).faults c.fall_back.result) c.faults-first.ensures c.fall_back.ensures.answers)))
+    (stop_before (Differs g.S.Source.told c.args.parts.now) room source c.args.refusal c.args.begun c.in-Err-Back.stopped.reached s.faults t.faults u.faults c.in-Err-Back.stopped.why c.in-Ok.ensures.passes.faults c.carry_walk.ensures.passes.faults may)
+    (answers_room back room c.in-Err-Back.stopped.why s.faults u.faults (g.V.Volume.state c.fall_back.new.area.0).faults c.fall_back.result to_back
+    (subst (λ (n : ℕ). AnswersStop back c.in-Err-Back.stopped.why n u.faults (g.V.Volume.state c.fall_back.new.area.0).faults c.fall_back.result) c.faults-first.ensures c.fall_back.ensures.answers)))
+
+pub returns-in-Err-clause-caused : goal.returns-in-Err-clause-caused
+returns-in-Err-clause-caused g c =
+    let s = g.V.Volume.state c.args.vol.now in
+    let r = g.V.Volume.state c.in-Err.refused.vol.now in
+    rw (c.vol-1.given.1 (sym c.in-Err.ensures.handed_back), c.give_up.ensures, c.from.ensures)
+    (begun_caused (Differs g.S.Source.told c.args.parts.now) (g.V.Volume.told → HasRoom s c.args.parts.now) (BelowCount (g.S.Source.faults c.args.src.now) (g.S.Source.faults c.args.src.now)) c.args.refusal c.args.begun c.first_reached.result s.faults r.faults c.in-Err.refused.fault
+    (λ is. raised s r c.in-Err.ensures.passes.faults (c.in-Err.ensures.fault is))
+    (λ is has. let full = c.in-Err.ensures.full is in not_begun s c.args.parts.now c.requires.some (has full.0) full.1))
+
+pub returns-in-Err-clause-recovers : goal.returns-in-Err-clause-recovers
+returns-in-Err-clause-recovers g c = λ told has. rw (c.vol-1.given.1 (sym c.in-Err.ensures.handed_back)) (c.in-Err.ensures.room_declined told)
+
+pub returns-in-Ok-carry_walk-clause-recovers : goal.returns-in-Ok-carry_walk-clause-recovers
+returns-in-Ok-carry_walk-clause-recovers g c = λ told has.
+    let s = g.V.Volume.state c.args.vol.now in
+    let t = g.V.Volume.state c.in-Ok.area.vol.now in
+    let opens = c.in-Ok.ensures.opens told in
+    let keeps = c.in-Ok.ensures.room told in
+    let roomy = begun_roomy s c.args.parts.now c.requires.some has t keeps (opens.outside ∙ all_outside s (c.requires.free told)) in
+    rw (c.vol-in-Ok-carry_walk-1.given.1 (sym (c.carry_walk.ensures.reference ∙ c.in-Ok.ensures.reference)), c.end.ensures)
+    (walked_goes s c.args.parts.now c.requires.some has t _ c.carry_walk.result keeps (c.carry_walk.ensures.roomy told s.held opens.works roomy))
+
+pub returns-in-Err-Unknown-clause-recovers : goal.returns-in-Err-Unknown-clause-recovers
+returns-in-Err-Unknown-clause-recovers g c = λ told has.
+    let s = g.V.Volume.state c.args.vol.now in
+    let t = g.V.Volume.state c.in-Ok.area.vol.now in
+    let opens = c.in-Ok.ensures.opens told in
+    let keeps = c.in-Ok.ensures.room told in
+    let roomy = begun_roomy s c.args.parts.now c.requires.some has t keeps (opens.outside ∙ all_outside s (c.requires.free told)) in
+    rw (c.vol-in-Err-Unknown-1.given.1 (sym (c.carry_walk.ensures.reference ∙ c.in-Ok.ensures.reference)), c.end-in-Err-Unknown.ensures)
+    (walked_goes s c.args.parts.now c.requires.some has t _ c.carry_walk.result keeps (c.carry_walk.ensures.roomy told s.held opens.works roomy))
+
+pub returns-in-Err-Back-clause-recovers : goal.returns-in-Err-Back-clause-recovers
+returns-in-Err-Back-clause-recovers g c = λ told has.
+    let s = g.V.Volume.state c.args.vol.now in
+    let t = g.V.Volume.state c.in-Ok.area.vol.now in
+    let u = g.V.Volume.state c.carry_walk.new.area.vol.now in
+    let opens = c.in-Ok.ensures.opens told in
+    let keeps = c.in-Ok.ensures.room told in
+    let roomy = begun_roomy s c.args.parts.now c.requires.some has t keeps (opens.outside ∙ all_outside s (c.requires.free told)) in
+    let goes = c.carry_walk.ensures.goes told s.held opens.works in
+    let ends = c.carry_walk.ensures.roomy told s.held opens.works roomy in
+    let fails = c.in-Err-Back.is ∙ ap Err c.in-Err-Back.field-0-is in
+    rw (c.vol-in-Err-Back-1.given.1 (sym (c.carry_walk.ensures.reference ∙ c.in-Ok.ensures.reference)))
+    (fallen_goes s c.args.parts.now c.requires.some has t u _ c.carry_walk.result keeps ends
+    (c.fall_back.ensures.recovers told s.held (subst (λ r. IfBack r (CanGoBack u c.carry_walk.new.area.kept s.held)) fails goes.back) (subst (λ r. IfBack r (FitsBack u s.held)) fails ends.back)))
 
 pub returns-in-Err-Unknown-clause-ends : goal.returns-in-Err-Unknown-clause-ends
 returns-in-Err-Unknown-clause-ends g c = λ told.
@@ -76,3 +138,11 @@ returns-in-Err-Unknown-clause-ends g c = λ told.
     (subst (Goes g.S.Source.told s (g.V.Volume.state c.carry_walk.new.area.vol.now) c.carry_walk.new.area.kept s.held _ c.args.refusal) fails
     (lifted g.S.Source.told s (g.V.Volume.state c.in-Ok.area.vol.now) _ _ s.held _ _ c.args.refusal c.carry_walk.result c.in-Ok.ensures.passes.faults c.carry_walk.ensures.passes.faults
     (ap (λ (m : Map). after_segments (g.S.Source.files c.args.src.now) m c.args.parts.now) (opens.outside ∙ all_outside s (c.requires.free told))) opens.goes goes)))
+
+pub returns-in-Err-Back-clause-reached : goal.returns-in-Err-Back-clause-reached
+returns-in-Err-Back-clause-reached g c =
+    subst (λ r. Reaches c.args.begun c.args.parts.now (reached_by c.args.begun r)) (c.in-Err-Back.is ∙ ap Err c.in-Err-Back.field-0-is) c.carry_walk.ensures.reached
+
+pub returns-in-Err-Unknown-clause-reached : goal.returns-in-Err-Unknown-clause-reached
+returns-in-Err-Unknown-clause-reached g c =
+    subst (λ r. Reaches c.args.begun c.args.parts.now (reached_by c.args.begun r)) (c.in-Err-Unknown.is ∙ ap Err c.in-Err-Unknown.field-0-is) c.carry_walk.ensures.reached

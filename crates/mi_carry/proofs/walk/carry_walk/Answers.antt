@@ -2,6 +2,7 @@ use Rattle.std.proofs.Common.{inr}
 use Rattle.std.proofs.lemmas.Result.{err_from_is_err_and}
 use Rattle.mi_carry.proofs.EndLemmas.{free_then}
 use Rattle.mi_carry.proofs.HaltLemmas.{stopped_goes, refused_goes, stop_caused, done_goes, failed_goes}
+use Rattle.mi_carry.proofs.RoomLemmas.{stopped_room, done_room, failed_room}
 use Rattle.mi_carry.proofs.walk.carry_walk.Goals as goal
 
 pub returns-in_err-carry_parts-clause-goes : goal.returns-in_err-carry_parts-clause-goes
@@ -40,3 +41,21 @@ returns-in-Err-clause-goes g c = λ t F w.
     rw (c.in-None.is, c.of.ensures)
     (failed_goes g.S.Source.told (g.V.Volume.state c.args.area.now.vol.now) (g.V.Volume.state c.carry_parts.new.area.vol.now) (g.V.Volume.state c.commit.new.self.vol.now) c.commit.new.self.kept F _ along.goes
     c.carry_parts.ensures.passes.faults c.commit.ensures.passes.faults (λ s. c.in_ok-carry_parts.ensures.map t s F w) c.in-Err.fault _ commits c.in-Err.ensures.undoable)
+
+pub returns-in_err-carry_parts-clause-roomy : goal.returns-in_err-carry_parts-clause-roomy
+returns-in_err-carry_parts-clause-roomy g c = λ t F w roomy.
+    let p = err_from_is_err_and c.from_residual.result c.from_residual.ensures.1 in
+    rw (p.1, p.2) (stopped_room _ _ F _ (c.in_err-carry_parts.ensures.roomy t F w roomy))
+
+pub returns-in-Some-clause-roomy : goal.returns-in-Some-clause-roomy
+returns-in-Some-clause-roomy g c = λ t F w roomy. stopped_room _ _ F _ (c.in_ok-carry_parts.ensures.roomy t F w roomy)
+
+pub returns-in-Ok-clause-roomy : goal.returns-in-Ok-clause-roomy
+returns-in-Ok-clause-roomy g c = λ t F w roomy.
+    let stays = c.in_ok-carry_parts.ensures.roomy t F w roomy in
+    done_room _ _ (g.V.Volume.state c.commit.new.self.vol.now) F stays _ _ (c.in-Ok.ensures.room t F stays.back.n (c.in_ok-carry_parts.ensures.along t F w).works stays.back.takes)
+
+pub returns-in-Err-clause-roomy : goal.returns-in-Err-clause-roomy
+returns-in-Err-clause-roomy g c = λ t F w roomy.
+    let stays = c.in_ok-carry_parts.ensures.roomy t F w roomy in
+    rw c.of.ensures (failed_room _ _ (g.V.Volume.state c.commit.new.self.vol.now) F stays c.in-Err.fault _ (c.in-Err.ensures.room t F stays.back.n (c.in_ok-carry_parts.ensures.along t F w).works stays.back.takes))
