@@ -1,9 +1,10 @@
 -- Room for a planned walk: what is counted is what the outcome asks for.
-use Rattle.std.proofs.Common.{◌≡◌, ◌⊎◌, inl, inr, ℕ, ◌+◌, ◌-◌, ◌^◌, ◌<◌, ◌≤◌, min, arith, Bool, true, false, cond, not, List, [], ◌∷◌, ◌++◌, length, map, Option, None, Some, Result, Ok, Err, refl, sym, ap, subst, ◌∙◌}
-use Rattle.std.specs.Prelude.{◌==◌, IsOk, IfSome, MatchOption, nat_lt, option_map}
+use Rattle.std.proofs.Common.{◌≡◌, ◌⊎◌, inl, inr, eqb, ℕ, ◌+◌, ◌-◌, ◌^◌, ◌<◌, ◌≤◌, min, arith, Bool, true, false, cond, not, List, [], ◌∷◌, ◌++◌, length, map, Option, None, Some, Result, Ok, Err, refl, sym, ap, subst, ◌∙◌}
+use Rattle.std.specs.Prelude.{IsOk, IfSome, MatchOption, nat_lt, option_map}
 use Rattle.std.specs.List.{All}
 use Rattle.std.specs.FinMap.{keys}
 use Rattle.std.proofs.lemmas.List.Elements.{All-weaker}
+use Rattle.std.proofs.lemmas.Bool.{eqb-true}
 use Rattle.std.proofs.lemmas.Bool.Decides.{nat_tests}
 use Rattle.mi_text.specs.Maps.{Name}
 use Rattle.mi_volume.specs.Maps.{Map, Fits, size}
@@ -28,7 +29,6 @@ use Rattle.mi_model_laws.specs.WalkLaws.{WalksOver}
 use Rattle.mi_model_laws.proofs.WalkLemmas.{walks_over}
 use Rattle.mi_plan.specs.Made.{as_planned}
 use Rattle.mi_plan.specs.declared.segment.Segment.{Segment}
-use Rattle.mi_carry.specs.Rooms.{HasRoom}
 use Rattle.mi_cost.specs.CostLaw.{CostsTheSame}
 use Rattle.mi_engine.specs.declared.room.Lack.{Lack}
 use Rattle.mi_engine.specs.Calls.{IsCosted}
@@ -50,9 +50,9 @@ pub none_fit : (capacity : Option ℕ) (held : Map) → Fits capacity (size held
 none_fit None held fits = tt
 none_fit (Some c) held fits = let none = no_cost held in omega (arith, fits, none)
 
-pub no_scripts : (scripts : List (List Rec)) → (length scripts == 0) ≡ true → scripts ≡ []
+pub no_scripts : (scripts : List (List Rec)) → eqb (length scripts) 0 ≡ true → scripts ≡ []
 no_scripts [] is = refl
-no_scripts (rs ∷ scripts) is = absurd cc
+no_scripts (rs ∷ scripts) is = absurd (let none : length (rs ∷ scripts) ≡ 0 = eqb-true (length (rs ∷ scripts)) 0 is in omega (arith, none))
 
 -- what is free is enough
 pub enough : (capacity : Option ℕ) (held : Map) (scripts : List (List Rec)) (free n : ℕ) → IsFreeRoom capacity held free → n ≡ counted (stated_cost held scripts) → n ≤ free → Fits capacity (size held + stated_cost held scripts)
@@ -168,11 +168,11 @@ module _ (costs : CostsTheSame) (files : Files) (capacity : Option ℕ) (held : 
 
 -- ---- the same room behind steps that only looked
 
-pub room_then : (s t : State) (plans kept : List Planned) → kept ≡ plans → t.held ≡ s.held → t.capacity ≡ s.capacity → Lacks s.capacity s.held (scripts_in plans) None → HasRoom t kept
-room_then s t plans kept same held capacity fits =
-    subst (λ (c : Option ℕ). Fits c (size t.held + stated_cost t.held (scripts_in kept))) (sym capacity)
-    (subst (λ (d : Map). Fits s.capacity (size d + stated_cost d (scripts_in kept))) (sym held)
-    (subst (λ (l : List Planned). Fits s.capacity (size s.held + stated_cost s.held (scripts_in l))) (sym same) fits))
+pub lacks_then : (s t : State) (plans kept : List Planned) (r : Option Lack) → kept ≡ plans → t.held ≡ s.held → t.capacity ≡ s.capacity → Lacks s.capacity s.held (scripts_in plans) r → Lacks t.capacity t.held (scripts_in kept) r
+lacks_then s t plans kept r same held capacity lacks =
+    subst (λ (c : Option ℕ). Lacks c t.held (scripts_in kept) r) (sym capacity)
+    (subst (λ (d : Map). Lacks s.capacity d (scripts_in kept) r) (sym held)
+    (subst (λ (l : List Planned). Lacks s.capacity s.held (scripts_in l) r) (sym same) lacks))
 
 -- ---- a machine that is read twice
 

@@ -27,7 +27,7 @@ use Rattle.mi_model.specs.Words.{Command, Package, Selftest, Clients, Products, 
 use Rattle.mi_engine.specs.declared.stop.Stop.{Stop}
 use Rattle.mi_engine.specs.declared.stop.Stop.TheVariants as stop
 use Rattle.mi_engine.specs.declared.reply.Reply.{Reply}
-use Rattle.mi_engine.specs.Answers.{IsTold, Begins}
+use Rattle.mi_engine.specs.Answers.{IsTold, SourceFails, Begins}
 use Rattle.mi_engine.specs.Calls.{CausedStop}
 use Rattle.mi_engine.specs.Endings.{kind_unscanned, kind_stopped}
 use Rattle.mi_engine.specs.Looks.{Looks}
@@ -197,6 +197,14 @@ module _ (volume told : Type 0) (of_told : told → volume) (s u : State) (h : H
       ∙ ap (λ (y : Assigned). of_package (selftest_files files) (free_room s.capacity s.held) now m' false (codes "self") y) of_sets
       ∙ package_is (selftest_files files) false (codes "self") sets v)
       (serves_command volume told' s u (of_package made (free_room s.capacity s.held) now m' false (codes "self") sets') (Selftest files sets) (Package false (codes "self") sets') (λ y. y ≡ found) x' kind n bytes (λ answers. answers) refl serves)
+
+-- whatever the handed-in source tells, which isn't looked at
+pub test_told : (volume source : Type 0) (s u : State) (files : ℕ) (sets : Assigned) (out : Outcome) (found : Settled) (n : ℕ) (free : volume → IsFree s) → Passes s u → (kind : Kind) (reached : ℕ) (bytes : List ℕ)
+    → Serves volume (IsTold volume ⊥ (Ok (Selftest files sets))) s u out (Selftest files sets) (λ y. y ≡ found) (SourceFails (Ok (Selftest files sets)) n n) kind reached bytes
+    → Serves volume (IsTold volume source (Ok (Selftest files sets))) s u out (Selftest files sets) (λ y. y ≡ found) (SourceFails (Ok (Selftest files sets)) n n) kind reached bytes
+test_told volume source s u files sets out found n free pass kind reached bytes =
+    serves_from volume (IsTold volume source (Ok (Selftest files sets))) (IsTold volume ⊥ (Ok (Selftest files sets))) (λ t. (t.0, λ asks. asks)) (λ t. t.0) s s u out out (Selftest files sets) (λ y. y ≡ found) (SourceFails (Ok (Selftest files sets)) n n) (SourceFails (Ok (Selftest files sets)) n n) (λ x. x)
+    kind reached bytes free (λ v. looks_none s) (passes_none s) pass (λ v. refl)
 
 -- ---- before the package for tests is made
 

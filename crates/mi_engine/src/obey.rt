@@ -101,8 +101,8 @@ fn test<V: Volume>(
     requires spelled { V.told → IsOk (machine_of (V.state vol.old).held) }
     requires machine { V.told → (files : Files) → volume_of (machine_over (V.state vol.old).held files image) ≡ (V.state vol.old).held }
     requires contents { V.told → (files : Files) → HasContents (V.state vol.old).held files image }
-    ensures serves { (h : Handed) (m : Machine) (source : Type 0) (files : Files) (n : ℕ) → IsHanded V.told h files (V.state vol.old).capacity now settled → (V.told → (from : Files) → machine_over (V.state vol.old).held from image ≡ m)
-        → Serves V.told (IsTold V.told source (Ok (Tests asked.now.files (of_words asked.now.words)))) (V.state vol.old) (V.state vol.new) (of_command h (free_room h.capacity (V.state vol.old).held) m (found_in h.held) (Tests asked.now.files (of_words asked.now.words))) (Tests asked.now.files (of_words asked.now.words)) (λ s. s ≡ settled) (SourceFails (Ok (Tests asked.now.files (of_words asked.now.words))) n n) result.kind result.reached (log_in result) }
+    ensures serves { (h : Handed) (m : Machine) (files : Files) (n : ℕ) → IsHanded V.told h files (V.state vol.old).capacity now settled → (V.told → (from : Files) → machine_over (V.state vol.old).held from image ≡ m)
+        → Serves V.told (IsTold V.told ⊥ (Ok (Tests asked.now.files (of_words asked.now.words)))) (V.state vol.old) (V.state vol.new) (of_command h (free_room h.capacity (V.state vol.old).held) m (found_in h.held) (Tests asked.now.files (of_words asked.now.words))) (Tests asked.now.files (of_words asked.now.words)) (λ s. s ≡ settled) (SourceFails (Ok (Tests asked.now.files (of_words asked.now.words))) n n) result.kind result.reached (log_in result) }
     ensures passes { Passes (V.state vol.old) (V.state vol.new) }
 {
     match package_of(alloc, asked.files) {

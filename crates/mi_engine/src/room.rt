@@ -22,7 +22,7 @@ use mi_volume::Volume;
 use std::alloc::Global;
 
 /// What a run needs of room, and the less that is free, in bytes (this project's own).
-#[derive(Clone, Copy)]
+#[derive(Drop)]
 pub struct Lack {
     pub need: u64,
     pub free: u64,

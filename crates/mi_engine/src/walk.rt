@@ -27,6 +27,7 @@ ghost use Rattle.mi_report.specs.WalkLogs.{IsMadeFor, IsWalkKind};
 ghost use Rattle.mi_engine.specs.Answers.{IsTold};
 ghost use Rattle.mi_engine.specs.Calls.{IsCosted, IsPlanned};
 ghost use Rattle.mi_engine.specs.Replies.{Serves, log_in};
+ghost use Rattle.mi_engine.specs.Room.{Lacks, scripts_in};
 ghost use Rattle.mi_engine.specs.Walks.{AreThere, IsReady, MayClose, MayRun, SaysKind, first_end, is_sized, is_sized_fault};
 
 use crate::ending::unscanned;
@@ -161,17 +162,45 @@ fn carry_made<S: Source, V: Volume>(
     ensures passes { Passes (V.state vol.old) (V.state vol.new) }
     ensures counts { S.faults src.old ≤ S.faults src.new }
 {
-    scripts_cost_what_the_walk_needs();
     match lacking(alloc, planned, vol) {
-        Ok(None) => carry_ready(alloc, ready, refusal, src, vol),
-        Ok(Some(lack)) => {
-            drop(refusal);
-            full(alloc, ready, lack)
-        }
+        Ok(lack) => carry_where(alloc, ready, lack, refusal, src, vol),
         Err(error) => {
             drop(ready);
             drop(refusal);
             logged(alloc, unscanned(error), settled, true)
+        }
+    }
+}
+
+/// Carries out a walk for which all is made, where nothing is lacking of its room.
+fn carry_where<S: Source, V: Volume>(
+    alloc: Global,
+    ready: Ready,
+    lack: Option<Lack>,
+    refusal: Option<Cause>,
+    src: &mut S,
+    vol: &mut V,
+) -> Reply
+    requires free { V.told → IsFree (V.state vol.old) }
+    requires lacks { V.told → Lacks (V.state vol.old).capacity (V.state vol.old).held (scripts_in ready.segments.items) lack }
+    requires few { length ready.segments.items ≤ most_entries }
+    requires outside { All (λ s. AreOutside (touched_names s.records)) ready.segments.items }
+    requires records { All (λ s. All MayCarry s.records) ready.segments.items }
+    requires there { S.told → All (λ s. All (HasLength (S.files src.old)) s.records) ready.segments.items }
+    requires refusal { IsWalkRefusal refusal }
+    ensures serves { (recorded : Bool) (folder : List ℕ) (sets : Assigned) (g : Given) (out : Outcome) (names : List (List ℕ)) (settled : Found)
+        → IsMadeFor settled names refusal ready.log → ready.begun ≡ length names
+        → (V.told → S.told → IsCosted (S.files src.old) (free_room (V.state vol.old).capacity (V.state vol.old).held) g out names ready.segments.items refusal) → (V.told → volume_of g.former ≡ (V.state vol.old).held)
+        → Serves V.told (IsTold V.told S.told (Ok (Package recorded folder sets))) (V.state vol.old) (V.state vol.new) out (Package recorded folder sets) (λ s. s ≡ settled) (Rose (S.faults src.old) (S.faults src.new)) result.kind result.reached (log_in result) }
+    ensures passes { Passes (V.state vol.old) (V.state vol.new) }
+    ensures counts { S.faults src.old ≤ S.faults src.new }
+{
+    scripts_cost_what_the_walk_needs();
+    match lack {
+        None => carry_ready(alloc, ready, refusal, src, vol),
+        Some(lack) => {
+            drop(refusal);
+            full(alloc, ready, lack)
         }
     }
 }

@@ -7,11 +7,12 @@ use Rattle.mi_model.specs.Outcome.{free_room, of_command}
 use Rattle.mi_model.specs.Words.{Clients, Products, Recover, Package, Selftest}
 use Rattle.mi_words.specs.Asked.{asked, of_words}
 use Rattle.mi_words.specs.declared.command.Command.{Command}
+use Rattle.mi_words.specs.declared.command.Command.TheVariants as variant
 use Rattle.mi_engine.specs.Answers.{IsTold, SourceFails}
 use Rattle.mi_engine.specs.Asked.{MayAsk}
 use Rattle.mi_engine.specs.Calls.{sets_of}
 use Rattle.mi_engine.specs.Replies.{Serves, log_in}
-use Rattle.mi_engine.proofs.ServeLemmas.{list_serves, recover_serves, package_as}
+use Rattle.mi_engine.proofs.ServeLemmas.{list_serves, recover_serves, package_as, test_told}
 use Rattle.mi_engine.proofs.obey.obey.Goals as goal
 
 pub returns-in-Clients-clause-serves : goal.returns-in-Clients-clause-serves
@@ -75,4 +76,5 @@ returns-in-Selftest-clause-serves g c h m is_handed same =
     let n = g.S.Source.faults c.args.src.now in
     let r = c.test.result in
     subst (λ (x : Command). Serves g.V.Volume.told (IsTold g.V.Volume.told g.S.Source.told (Ok (asked x))) s u (of_command h (free_room h.capacity s.held) m (settled h.held) (asked x)) (asked x) (λ y. y ≡ c.args.settled) (SourceFails (Ok (asked x)) n n) r.kind r.reached (log_in r)) (sym c.in-Selftest.is)
-    (c.test.ensures.serves h m g.S.Source.told (g.S.Source.files c.args.src.now) n is_handed same)
+    (test_told g.V.Volume.told g.S.Source.told s u c.in-Selftest.request.files (of_words c.in-Selftest.request.words) (of_command h (free_room h.capacity s.held) m (settled h.held) (asked (variant.Selftest c.in-Selftest.request))) c.args.settled n c.requires.free c.test.ensures.passes r.kind r.reached (log_in r)
+    (c.test.ensures.serves h m (g.S.Source.files c.args.src.now) n is_handed same))

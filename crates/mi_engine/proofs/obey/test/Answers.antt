@@ -20,7 +20,7 @@ pub install_made-requires-clause-contents : goal.install_made-requires-clause-co
 install_made-requires-clause-contents g c = λ v. c.requires.contents v (held c.in-Ok.made)
 
 pub returns-in-Ok-clause-serves : goal.returns-in-Ok-clause-serves
-returns-in-Ok-clause-serves g c h m source files n is_handed same =
+returns-in-Ok-clause-serves g c h m files n is_handed same =
     let s = g.V.Volume.state c.args.vol.now in
     let u = g.V.Volume.state c.install_made.new.vol in
     let r = c.install_made.result in
@@ -28,12 +28,12 @@ returns-in-Ok-clause-serves g c h m source files n is_handed same =
     let made = held c.in-Ok.made in
     let command = Selftest t.files (of_words t.words) in
     let own = Package false (codes "self") (of_words t.words ++ []) in
-    test_as g.V.Volume.told (IsTold g.V.Volume.told source (Ok command)) (λ x. x.0) s u h files c.args.now c.args.settled m (machine_over s.held made c.args.image) c.requires.free c.install_made.ensures.passes is_handed (λ v. same v made) r.kind r.reached (log_in r)
+    test_as g.V.Volume.told (IsTold g.V.Volume.told ⊥ (Ok command)) (λ x. x.0) s u h files c.args.now c.args.settled m (machine_over s.held made c.args.image) c.requires.free c.install_made.ensures.passes is_handed (λ v. same v made) r.kind r.reached (log_in r)
     (IsTold g.V.Volume.told (Unit {0}) (Ok own)) (λ x. (x.0, λ asks. tt)) made t.files (of_words t.words) (of_words t.words ++ []) (SourceFails (Ok command) n n) (Rose 0 0) (λ rose. absurd (no_rise rose)) c.in-Ok.ensures (append-nil (of_words t.words)) c.install_made.ensures.serves
 
 pub returns-in-Err-clause-serves : goal.returns-in-Err-clause-serves
-returns-in-Err-clause-serves g c h m source files n is_handed same =
+returns-in-Err-clause-serves g c h m files n is_handed same =
     let s = g.V.Volume.state c.args.vol.now in
     let t = c.args.asked.now in
     let command = Selftest t.files (of_words t.words) in
-    memory_serves g.V.Volume.told (IsTold g.V.Volume.told source (Ok command)) s (of_command h (free_room h.capacity s.held) m (settled h.held) command) command c.args.settled (SourceFails (Ok command) n n) c.requires.free c.out_of_memory.result c.out_of_memory.ensures.wants c.out_of_memory.ensures.reached
+    memory_serves g.V.Volume.told (IsTold g.V.Volume.told ⊥ (Ok command)) s (of_command h (free_room h.capacity s.held) m (settled h.held) command) command c.args.settled (SourceFails (Ok command) n n) c.requires.free c.out_of_memory.result c.out_of_memory.ensures.wants c.out_of_memory.ensures.reached

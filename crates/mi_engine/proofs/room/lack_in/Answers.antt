@@ -1,4 +1,4 @@
-use Rattle.std.proofs.Common.{◌≡◌, List, [], sym, subst}
+use Rattle.std.proofs.Common.{◌≡◌, List, [], sym, subst, ◌∙◌}
 use Rattle.mi_script.specs.declared.rec.Rec.{Rec}
 use Rattle.mi_engine.specs.declared.room.Lack.{Lack}
 use Rattle.mi_engine.specs.Room.{Lacks}
