@@ -166,7 +166,10 @@ fn check_record(alloc: Global, rec: &Rec) -> Result<(), Ill>
         Rec::Put(_, _) => Ok(()),
         Rec::Drop(_) => Ok(()),
         Rec::Copy {
-            name, head, length, ..
+            name,
+            head,
+            length,
+            ..
         } => check_copy(alloc, name, head, *length),
         Rec::Dup { name, head, from } => check_dup(alloc, name, head, from),
     }

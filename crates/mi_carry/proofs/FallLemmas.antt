@@ -1,5 +1,5 @@
 -- The answer after going back.
-use Rattle.std.proofs.Common.{inl, inr, ℕ, ◌≤◌, Option, None, Some, Result, Ok, Err, IsErrOf, refl}
+use Rattle.std.proofs.Common.{inl, inr, ℕ, ◌≤◌, Result, Ok, Err, IsErrOf, refl}
 use Rattle.mi_volume.specs.Maps.{Map}
 use Rattle.mi_volume.specs.State.{State, Rose}
 use Rattle.mi_undo.specs.Answers.{GoesBack}

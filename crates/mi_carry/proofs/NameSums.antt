@@ -7,7 +7,7 @@ use Rattle.std.specs.declared.cmp.Ordering.TheVariants.{Less, Equal, Greater}
 use Rattle.std.specs.FinMap.{keys, entries, entries_sorted, get}
 use Rattle.std.specs.FinMap.Entries.{is_sorted, below_all}
 use Rattle.std.proofs.lemmas.Bool.{or_left, or_right}
-use Rattle.std.proofs.lemmas.List.Sums.{sum_by-cons, sum_by-append}
+use Rattle.std.proofs.lemmas.List.Sums.{sum_by-cons}
 use Rattle.mi_text.specs.Maps as names
 use Rattle.mi_text.specs.Maps.{Name, name_cmp, same_name, is_among, set_to}
 use Rattle.mi_text.proofs.MapLemmas.{from_same, same_itself, is_among-append, get-set_to}
@@ -104,8 +104,8 @@ among-new seen [] q = is_among-append q seen []
 among-new seen (n ∷ names) q = elim (is_among n seen) as (λ b. is_among n seen ≡ b → is_among q (seen ++ cond b (new_names seen names) (n ∷ new_names (seen ++ n ∷ []) names)) ≡ (is_among q seen || (same_name q n || is_among q names))) [
   | true ↦ λ old. among-new seen names q ∙ or_known (is_among q seen) (same_name q n) (is_among q names) (λ is. ap (λ (x : Name). is_among x seen) (from_same q n is) ∙ old)
   | false ↦ λ new.
-    ap (is_among q) (moved seen n (new_names (seen ++ n ∷ []) names)) ∙ among-new (seen ++ n ∷ []) names q
-    ∙ ap (λ (b : Bool). b || is_among q names) (is_among-append q seen (n ∷ [])) ∙ or_moved (is_among q seen) (same_name q n) (is_among q names)
+      ap (is_among q) (moved seen n (new_names (seen ++ n ∷ []) names)) ∙ among-new (seen ++ n ∷ []) names q
+      ∙ ap (λ (b : Bool). b || is_among q names) (is_among-append q seen (n ∷ [])) ∙ or_moved (is_among q seen) (same_name q n) (is_among q names)
 ] refl
 
 -- where all are seen, none is new
@@ -161,8 +161,8 @@ unfolding without
 without_among n [] q other is = is
 without_among n (y ∷ ys) q other is = elim (same_name n y) as (λ b. same_name n y ≡ b → is_among q (cond b ys (y ∷ without n ys)) ≡ true) [
   | true ↦ λ e.
-    let apart : same_name q y ≡ false = ap (same_name q) (sym (from_same n y e)) ∙ other in
-    sym (ap (λ (b : Bool). b || is_among q ys) apart) ∙ is
+      let apart : same_name q y ≡ false = ap (same_name q) (sym (from_same n y e)) ∙ other in
+      sym (ap (λ (b : Bool). b || is_among q ys) apart) ∙ is
   | false ↦ λ e. elim (same_name q y) as (λ b. (b || is_among q ys) ≡ true → (b || is_among q (without n ys)) ≡ true) [
     | true ↦ λ i. refl
     | false ↦ λ i. without_among n ys q other i

@@ -1,5 +1,5 @@
 -- Room, from call to call of a walk.
-use Rattle.std.proofs.Common.{◌≡◌, ℕ, ◌+◌, ◌≤◌, ◌<◌, false, List, [], ◌∷◌, ◌++◌, length, map, take, drop, get_or, Option, None, Some, Result, Ok, Err, IsErrOf, refl, sym, ap, subst, ◌∙◌, arith}
+use Rattle.std.proofs.Common.{◌≡◌, ℕ, ◌+◌, ◌≤◌, ◌<◌, false, List, [], ◌∷◌, ◌++◌, length, map, take, drop, get_or, Option, None, Some, Result, Ok, Err, refl, sym, ap, subst, ◌∙◌, arith}
 use Rattle.std.specs.List.{All, AllByRecursion}
 use Rattle.std.proofs.lemmas.List.{take_more, take-append-drop, map-append}
 use Rattle.std.proofs.lemmas.List.Elements.{All-from_recursion}
@@ -13,7 +13,7 @@ use Rattle.mi_script.specs.Scripts.{name_at, touched_names}
 use Rattle.mi_undo.specs.Notes.{notes_for, new_names}
 use Rattle.mi_undo.specs.Stands.{outside, area_of}
 use Rattle.mi_undo.specs.Area.{AreOutside}
-use Rattle.mi_undo.specs.Room.{TakesAtMost, KeepsRoom, NeverShort, GoesOnWithRoom, CommitsRoom, entry_size}
+use Rattle.mi_undo.specs.Room.{TakesAtMost, KeepsRoom, NeverShort, CommitsRoom, entry_size}
 use Rattle.mi_undo.specs.declared.fault.CommitFault.{CommitFault}
 use Rattle.mi_undo.specs.declared.fault.CommitFault.TheVariants as commit
 use Rattle.mi_runner.specs.Records.{MayCarry}
@@ -21,7 +21,7 @@ use Rattle.mi_runner.specs.Sizes.{most_held, IsNoLonger}
 use Rattle.mi_model.specs.Plans.{Planned}
 use Rattle.mi_model.specs.StatedSizes.{all_records, stated_cost}
 use Rattle.mi_carry.specs.declared.stop.Halt.{Halt}
-use Rattle.mi_carry.specs.declared.stop.Halt.TheVariants.{Back, Unknown}
+use Rattle.mi_carry.specs.declared.stop.Halt.TheVariants.{Back}
 use Rattle.mi_carry.specs.declared.stop.Stopped.{Stopped}
 use Rattle.mi_carry.specs.Halts.{halt_of}
 use Rattle.mi_carry.specs.Rooms.{HasRoom, scripts_of, IsRoomy, FitsBack, StaysRoomy, EndsRoomy}

@@ -17,7 +17,7 @@ use Rattle.mi_script.specs.declared.rec.Rec.{Rec}
 use Rattle.mi_script.specs.declared.rec.Rec.TheVariants.{Put, Drop, Copy, Dup}
 use Rattle.mi_script.specs.Scripts.{name_at, touched_names}
 use Rattle.mi_undo.specs.Names.{is_inside}
-use Rattle.mi_undo.specs.Notes.{Note, notes_for, new_names, spelled, spelled_note}
+use Rattle.mi_undo.specs.Notes.{notes_for, new_names, spelled, spelled_note}
 use Rattle.mi_undo.specs.Stands.{outside, area_of}
 use Rattle.mi_undo.specs.Area.{AreOutside}
 use Rattle.mi_undo.specs.Room.{entry_size}
@@ -282,9 +282,9 @@ module _ (F held : Map) (noted : List Name) (n : ℕ) (front : List (List Rec)) 
     names = all_names;
     bytes = next_bytes;
     longest = λ q.
-    let grown : greatest_stated q (all_records (front ++ rs ∷ [])) ≡ max (greatest_stated q (all_records front)) (greatest_stated q rs) =
-    ap (greatest_stated q) (records-append front (rs ∷ []) ∙ ap (λ (l : List Rec). all_records front ++ l) (nothing_more rs)) ∙ greatest-append (all_records front) rs q in
-    omega (arith, longest q, so_far.longest q, grown, same_greatest rs q (recursion_from_All MayCarry rs may));
+        let grown : greatest_stated q (all_records (front ++ rs ∷ [])) ≡ max (greatest_stated q (all_records front)) (greatest_stated q rs) =
+        ap (greatest_stated q) (records-append front (rs ∷ []) ∙ ap (λ (l : List Rec). all_records front ++ l) (nothing_more rs)) ∙ greatest-append (all_records front) rs q in
+        omega (arith, longest q, so_far.longest q, grown, same_greatest rs q (recursion_from_All MayCarry rs may));
     others = λ q free. at q free (is_among q noted) refl (is_among q (touched_names rs)) refl;
   }
     where

@@ -1,5 +1,5 @@
 -- The clauses of the top call, over what its parameters are before and after, and the outcome that the run comes to. Each field is a
--- clause; they stand in a record, so that they are read together. The top call has them over StageOutcome, until all tables are built.
+-- clause; they stand in a record, so that they are read together, and the top call has each of them.
 -- (Rollback Installation; this project's own.)
 use Rattle.std.specs.Prelude.{◌≡◌, ℕ, ◌≤◌, Bool, List, Ok, Err}
 use Rattle.std.specs.Bool.{OnTrue}
@@ -8,6 +8,8 @@ use Rattle.mi_volume.specs.State.{State, NothingDirty, GoesOn, Passes, Rose}
 use Rattle.mi_source.specs.Paths.{Files}
 use Rattle.mi_undo.specs.Stands.{stands, settled}
 use Rattle.mi_undo.specs.Keeps.{Each}
+use Rattle.mi_undo.specs.Room.{NeverShort}
+use Rattle.mi_undo.specs.Short.{IsShort}
 use Rattle.mi_model.specs.Texts.{Text}
 use Rattle.mi_base.specs.declared.answers.Kind.{Kind}
 use Rattle.mi_model.specs.Words.{command_of, Installs, walks}
@@ -38,6 +40,9 @@ pub record Run (asked : List Text) (now : ℕ) (V : Type 0) (old new : State) (S
   pub stops : V → NothingDirty old → (F : Map) → stands old.held ≡ Ok F
       → GoesOn old new (MayStand (IsTold V S asked) F out (BelowCount old.faults new.faults) kind)
   pub leaves : V → NothingDirty old → (F : Map) → stands old.held ≡ Ok F → Each new (AtExit (IsTold V S asked) F out kind)
+  -- Recovery of a crash image of the run never wants room, where recovery at the run's own start didn't, and the image's first gate that isn't
+  -- open is small.
+  pub recovers : V → NothingDirty old → ((name : Text) → ¬ IsShort old.capacity old.held name) → GoesOn old new (NeverShort old.capacity)
   pub unread : V → NothingDirty old → (bad : Text) → stands old.held ≡ Err bad → GoesOn old new (λ d. d ≡ old.held)
   pub reads : V → (F : Map) → stands old.held ≡ Ok F → ReadsAfter (IsTold V S asked) old.held F out kind new.held
   pub unread_stays : V → (bad : Text) → stands old.held ≡ Err bad → new.held ≡ old.held

@@ -141,8 +141,9 @@ fn check_segments(alloc: Global, segments: &[Segment]) -> Result<(), NoMemory>
     Ok(())
 }
 
-/// The plan, whose records may be carried out; want of memory where one lies in the rollback area, or writes a file that
-/// may not stand at its name. The phases aren't expected to make such a record, which no clause of theirs says yet.
+/// The plan, whose records may be carried out; want of memory where one lies in the rollback area, writes a file that
+/// may not stand at its name, or copies another length than its head states. The phases aren't expected to make such a
+/// record, which no clause of theirs says yet.
 pub fn checked(alloc: Global, plan: WalkPlan) -> Result<WalkPlan, NoMemory>
     ensures same { IfOk result (λ p. p ≡ plan) }
     ensures outside { IfOk result (λ p. All (λ s. AreOutside (touched_names s.script)) p.segments.items) }

@@ -1,7 +1,7 @@
 use Rattle.std.proofs.Common.{List, [], ◌∷◌, ◌++◌, ◌+◌, ap, subst, ◌∙◌, arith}
 use Rattle.std.proofs.lemmas.Result.{err_from_is_err_and}
-use Rattle.mi_text.specs.Maps.{Name, is_among}
-use Rattle.mi_volume.specs.Maps.{Map, Exceeds}
+use Rattle.mi_text.specs.Maps.{is_among}
+use Rattle.mi_volume.specs.Maps.{Exceeds}
 use Rattle.mi_undo.specs.Notes.{notes_for, new_names}
 use Rattle.mi_undo.specs.Area.{noted_names}
 use Rattle.mi_undo.specs.Room.{KeepsRoom, entry_size}
