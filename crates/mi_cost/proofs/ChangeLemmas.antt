@@ -16,7 +16,7 @@ use Rattle.mi_changes.specs.Changes.{Change, written}
 use Rattle.mi_script.specs.Spelled.{same_record, writes_file, recorded, is_left_out, spelled, spelled_changes}
 use Rattle.mi_script.proofs.SpellLemmas.{written-spelled_one}
 use Rattle.mi_model.specs.Cost.{record_at, size_at}
-use Rattle.mi_cost.specs.CostOfChanges.{Segment, names_changed, greatest_size}
+use Rattle.mi_cost.proofs.CostOfChanges.{Segment, names_changed, greatest_size}
 use Rattle.mi_model.specs.Plain.{times}
 use Rattle.mi_cost.proofs.NameLemmas.{same_truth}
 

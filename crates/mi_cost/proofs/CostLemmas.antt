@@ -1,4 +1,4 @@
--- What the program counts is what the changes of scripts cost.
+-- What the program counts is what scripts cost by what they state.
 use Rattle.std.proofs.Common.{◌≡◌, ℕ, ◌+◌, ◌*◌, ◌-◌, Bool, true, false, cond, ◌||◌, List, [], ◌∷◌, ◌++◌, length, map, Option, Some, None, refl, sym, ap, ◌∙◌, arith, sum_by, T, subst}
 use Rattle.std.specs.Prelude.{◌&&◌, max, is_some, unwrap_or, option_map}
 use Rattle.std.specs.FinMap.{get, keys, empty, entries, get-empty, entries_sorted, from_sorted, get-from_sorted, entries-from_sorted}
@@ -21,9 +21,10 @@ use Rattle.mi_image.specs.Items.{Items, content_bytes, entry_over, machine_over,
 use Rattle.mi_image.proofs.LookupLemmas.{get_over}
 use Rattle.mi_base.specs.Names.{file_name}
 use Rattle.mi_script.specs.declared.rec.Rec.{Rec}
+use Rattle.mi_script.specs.Scripts.{name_at}
 use Rattle.mi_model.specs.Cost.{note_size, set_of}
-use Rattle.mi_cost.specs.CostOfChanges.{Segment, all_changes, names_changed, greatest_size, cost_at, entries_of, cost_of_names, cost_of_changes, changes_of_scripts, scripts_cost, former_map}
-use Rattle.mi_cost.specs.Stated.{AllHaveBytes}
+use Rattle.mi_model.specs.StatedSizes.{all_records, greatest_stated, stated_cost_at, entries_in, stated_cost_of, stated_cost}
+use Rattle.mi_cost.specs.FormerMap.{former_map}
 use Rattle.mi_cost.specs.Tallies.{Sizes, size_in, is_known, item_length, tally, note_length, held_size, length_at, counted, counted_all}
 use Rattle.mi_cost.proofs.NameLemmas.{get-set_of}
 use Rattle.mi_cost.proofs.TallyLemmas.{known_all, size_all, entries_all}
@@ -104,13 +105,13 @@ size_by_length : (q : Name) (o : Option (List ℕ)) → slot_size q o ≡ held_s
 size_by_length q None = refl
 size_by_length q (Some bytes) = refl
 
-counted_is : (held files : Map (List ℕ)) (items : Items) (cs : Segment) (q : Name) → AreThere held files items → counted items (q, greatest_size q cs) ≡ cost_at (volume_of (machine_over held files items)) cs q
-counted_is held files items cs q there =
-    let old = get (volume_of (machine_over held files items)) q in
+counted_is : (held files : Map (List ℕ)) (items : Items) (rs : List Rec) (q : Name) → AreThere held files items → counted items (q, greatest_stated q rs) ≡ stated_cost_at (former_map held files items) rs q
+counted_is held files items rs q there =
+    let old = get (former_map held files items) q in
     let long : length_at items q ≡ option_map length old = sym (length_held held files items q there) in
-    ap (λ (o : Option ℕ). note_length q o + (greatest_size q cs - held_size q o)) long
-    ∙ ap (λ (n : ℕ). n + (greatest_size q cs - held_size q (option_map length old))) (sym (note_by_length q old))
-    ∙ ap (λ (n : ℕ). note_size q old + (greatest_size q cs - n)) (sym (size_by_length q old))
+    ap (λ (o : Option ℕ). note_length q o + (greatest_stated q rs - held_size q o)) long
+    ∙ ap (λ (n : ℕ). n + (greatest_stated q rs - held_size q (option_map length old))) (sym (note_by_length q old))
+    ∙ ap (λ (n : ℕ). note_size q old + (greatest_stated q rs - n)) (sym (size_by_length q old))
 
 -- ---- the whole
 
@@ -119,33 +120,31 @@ summed f g cost [] each = refl
 summed f g cost (e ∷ es) each =
     rw (sum_by-cons f (with_size g e) (map (with_size g) es), sum_by-cons cost e.0 (map (λ (e : Name × ℕ). e.0) es), each e.0, summed f g cost es each) refl
 
-counted_whole : (d : Map (List ℕ)) (items : Items) (segments : List Segment) (n : ℕ) (g : Name → ℕ) (es : List (Name × ℕ)) → n ≡ entries_of [] segments → ((q : Name) → counted items (q, g q) ≡ cost_at d (all_changes segments) q)
-    → counted_all items n (map (with_size g) es) ≡ cost_of_names d segments (map (λ (e : Name × ℕ). e.0) es)
-counted_whole d items segments n g [] is each = refl
-counted_whole d items segments n g (e ∷ es) is each =
+counted_whole : (d : Map (List ℕ)) (items : Items) (scripts : List (List Rec)) (n : ℕ) (g : Name → ℕ) (es : List (Name × ℕ)) → n ≡ entries_in [] scripts → ((q : Name) → counted items (q, g q) ≡ stated_cost_at d (all_records scripts) q)
+    → counted_all items n (map (with_size g) es) ≡ stated_cost_of d scripts (map (λ (e : Name × ℕ). e.0) es)
+counted_whole d items scripts n g [] is each = refl
+counted_whole d items scripts n g (e ∷ es) is each =
     ap (λ (k : ℕ). 4 + 25 * k + sum_by (counted items) (map (with_size g) (e ∷ es))) is
-    ∙ ap (λ (s : ℕ). 4 + 25 * entries_of [] segments + s) (summed (counted items) g (cost_at d (all_changes segments)) (e ∷ es) each)
+    ∙ ap (λ (s : ℕ). 4 + 25 * entries_in [] scripts + s) (summed (counted items) g (stated_cost_at d (all_records scripts)) (e ∷ es) each)
 
--- what is counted over the image of the former machine is what the scripts' changes cost
-counts_the_cost : (held files : Map (List ℕ)) (items : Items) (scripts : List (List Rec)) → AreThere held files items → AllHaveBytes files (volume_of (machine_over held files items)) scripts
-    → counted_all items (tally scripts).1 (entries (tally scripts).0) ≡ cost_of_changes (volume_of (machine_over held files items)) (changes_of_scripts files (volume_of (machine_over held files items)) scripts)
-unfolding cost_of_changes
-counts_the_cost held files items scripts there have =
-    let d = volume_of (machine_over held files items) in
-    let segments = changes_of_scripts files d scripts in
+-- what is counted over the image of the former machine is what the scripts cost
+counts_the_cost : (held files : Map (List ℕ)) (items : Items) (scripts : List (List Rec)) → AreThere held files items → counted_all items (tally scripts).1 (entries (tally scripts).0) ≡ stated_cost (former_map held files items) scripts
+unfolding stated_cost
+counts_the_cost held files items scripts there =
+    let d = former_map held files items in
+    let records = all_records scripts in
     let sizes = (tally scripts).0 in
-    let known : (q : Name) → is_known sizes q ≡ is_among q (names_changed (all_changes segments)) =
-    λ q. known_all files d (empty, 0) scripts q ∙ ap (λ (o : Option ℕ). is_some o || is_among q (names_changed (all_changes segments))) (get-empty name_cmp q) in
-    let great : (q : Name) → size_in sizes q ≡ greatest_size q (all_changes segments) =
-    λ q. size_all files d (empty, 0) scripts q have ∙ ap (λ (o : Option ℕ). max (unwrap_or o 0) (greatest_size q (all_changes segments))) (get-empty name_cmp q) ∙ omega arith in
-    let ended : (tally scripts).1 ≡ entries_of [] segments = entries_all files d (empty, 0) [] scripts (λ q. ap is_some (get-empty name_cmp q)) ∙ omega arith in
+    let known : (q : Name) → is_known sizes q ≡ is_among q (map name_at records) =
+    λ q. known_all (empty, 0) scripts q ∙ ap (λ (o : Option ℕ). is_some o || is_among q (map name_at records)) (get-empty name_cmp q) in
+    let great : (q : Name) → size_in sizes q ≡ greatest_stated q records =
+    λ q. size_all (empty, 0) scripts q ∙ ap (λ (o : Option ℕ). max (unwrap_or o 0) (greatest_stated q records)) (get-empty name_cmp q) ∙ omega arith in
+    let ended : (tally scripts).1 ≡ entries_in [] scripts = entries_all (empty, 0) [] scripts (λ q. ap is_some (get-empty name_cmp q)) ∙ omega arith in
     ap (counted_all items (tally scripts).1) (entries_are sizes)
-    ∙ counted_whole d items segments (tally scripts).1 (size_in sizes) (entries sizes) ended (λ q. ap (λ (n : ℕ). counted items (q, n)) (great q) ∙ counted_is held files items (all_changes segments) q there)
-    ∙ ap (cost_of_names d segments) (names_are sizes (names_changed (all_changes segments)) known)
+    ∙ counted_whole d items scripts (tally scripts).1 (size_in sizes) (entries sizes) ended (λ q. ap (λ (n : ℕ). counted items (q, n)) (great q) ∙ counted_is held files items records q there)
+    ∙ ap (stated_cost_of d scripts) (names_are sizes (map name_at records) known)
 
-pub told_cost : (held files : Map (List ℕ)) (items : Items) (scripts : List (List Rec)) (sizes : Sizes) (n : ℕ) → sizes ≡ (tally scripts).0 → n ≡ (tally scripts).1 → AreThere held files items → AllHaveBytes files (former_map held files items) scripts
-    → counted_all items n (entries sizes) ≡ scripts_cost files (former_map held files items) scripts
-told_cost held files items scripts sizes n is_sizes is_n there have =
+pub told_cost : (held files : Map (List ℕ)) (items : Items) (scripts : List (List Rec)) (sizes : Sizes) (n : ℕ) → sizes ≡ (tally scripts).0 → n ≡ (tally scripts).1 → AreThere held files items → counted_all items n (entries sizes) ≡ stated_cost (former_map held files items) scripts
+told_cost held files items scripts sizes n is_sizes is_n there =
     ap (λ (s : Sizes). counted_all items n (entries s)) is_sizes
     ∙ ap (λ (k : ℕ). counted_all items k (entries (tally scripts).0)) is_n
-    ∙ counts_the_cost held files items scripts there have
+    ∙ counts_the_cost held files items scripts there

@@ -1,6 +1,8 @@
 pub mod NameLemmas
+pub mod CostOfChanges
 pub mod ChangeLemmas
 pub mod RowLemmas
+pub mod StatedLemmas
 pub mod WholeLemmas
 pub mod SizeLemmas
 pub mod TallyLemmas

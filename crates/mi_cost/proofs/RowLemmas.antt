@@ -19,7 +19,7 @@ use Rattle.mi_script.proofs.SpellLemmas.{written-spelled, spelled-append}
 use Rattle.mi_model.specs.PhaseRows.{Touches, after_rows}
 use Rattle.mi_model.specs.Plans.{all_touches}
 use Rattle.mi_model.specs.Cost.{size_at, touches_name, touched_by, touched_in, greatest}
-use Rattle.mi_cost.specs.CostOfChanges.{Segment, names_changed, greatest_size}
+use Rattle.mi_cost.proofs.CostOfChanges.{Segment, names_changed, greatest_size}
 use Rattle.mi_model.specs.Plain.{times, ArePlain}
 use Rattle.mi_cost.proofs.NameLemmas.{among-filter}
 use Rattle.mi_cost.proofs.ChangeLemmas.{differs, names_are, sizes_are}

@@ -1,8 +1,9 @@
--- The cost of the changes of planned scripts is the need of the parts that they spell.
+-- What planned scripts cost by what they state is the need of the parts that they spell.
 use Rattle.std.proofs.Common.{◌≡◌, ℕ, ◌+◌, ◌*◌, ◌-◌, ◌^◌, Bool, cond, ◌||◌, List, [], ◌∷◌, ◌++◌, map, refl, sym, ap, ◌∙◌, arith, sum_by}
 use Rattle.std.specs.Prelude.{min, max}
-use Rattle.std.specs.List.{list_all}
+use Rattle.std.specs.List.{All, AllZip, list_all}
 use Rattle.std.specs.FinMap.{keys}
+use Rattle.std.proofs.lemmas.List.Elements.{All-head, All-tail}
 use Rattle.mi_text.specs.Maps.{Name, is_among}
 use Rattle.mi_text.proofs.MapLemmas.{is_among-append}
 use Rattle.mi_volume.specs.Maps.{slot_size}
@@ -10,17 +11,17 @@ use Rattle.mi_base.specs.Machine.{Machine, volume_of}
 use Rattle.mi_base.proofs.MachineLemmas.{get-volume_of}
 use Rattle.mi_source.specs.Paths.{Files}
 use Rattle.mi_script.specs.declared.rec.Rec.{Rec}
-use Rattle.mi_script.specs.Scripts.{script_changes}
 use Rattle.mi_changes.specs.Touches.{after_touches}
 use Rattle.mi_model.specs.PhaseRows.{Touches, after_rows}
 use Rattle.mi_model.specs.Walk.{Part}
 use Rattle.mi_model.specs.Cost.{record_at, size_at, note_size, touched_in, set_of, greatest, name_cost, all_rows, entries_from, sum_of, need}
 use Rattle.mi_model.specs.Plans.{Planned, ArePlanned}
-use Rattle.mi_model_laws.proofs.SpellLemmas.{after_spells}
-use Rattle.mi_cost.specs.CostOfChanges.{Segment, all_changes, names_changed, greatest_size, cost_at, entries_of, cost_of_names, cost_of_changes, changes_of_scripts}
+use Rattle.mi_model.specs.StatedSizes.{HasCopied}
+use Rattle.mi_cost.proofs.CostOfChanges.{Segment, all_changes, names_changed, greatest_size, cost_at, entries_of, cost_of_names, cost_of_changes}
 use Rattle.mi_model.specs.Plain.{ArePlain}
 use Rattle.mi_cost.specs.CostLaw.{CostsTheSame}
 use Rattle.mi_cost.proofs.NameLemmas.{Alike, all_alike, keys_alike, sum_alike}
+use Rattle.mi_cost.proofs.StatedLemmas.{States, size_after, script_names, states_the_cost}
 use Rattle.mi_cost.proofs.RowLemmas.{row_changes, rows_append, rows_names, rows_sizes}
 
 -- ---- the segments
@@ -33,15 +34,19 @@ segments_of m (p ∷ parts) = row_changes m p.rows ∷ segments_of (after_rows m
 abbrev pub scripts_of : List Planned → List (List Rec)
 scripts_of plans = map (λ (p : Planned). p.records) plans
 
-segments_are : (files : Files) (m : Machine) (parts : List Part) (plans : List Planned) → ArePlanned files m parts plans → changes_of_scripts files (volume_of m) (scripts_of plans) ≡ segments_of m parts
-segments_are files m [] [] are = refl
-segments_are files m [] (x ∷ plans) are = absurd are
-segments_are files m (p ∷ parts) [] are = absurd are
-segments_are files m (p ∷ parts) (x ∷ plans) are =
-    let n = after_rows m p.rows in
-    ap (λ d. script_changes files (volume_of m) x.records ∷ changes_of_scripts files d (scripts_of plans)) (after_spells files m p.rows x.records are.0.spells)
-    ∙ ap (λ (s : List Segment). script_changes files (volume_of m) x.records ∷ s) (segments_are files n parts plans are.1)
-    ∙ ap (λ (s : Segment). s ∷ segments_of n parts) are.0.spells.is
+-- the plans' scripts state the sizes that the segments leave
+they_state : (files : Files) (m : Machine) (parts : List Part) (plans : List Planned) → ArePlanned files m parts plans → All (λ (p : Planned). All (HasCopied files) p.records) plans
+    → AllZip States (scripts_of plans) (segments_of m parts)
+they_state files m [] [] are have = tt
+they_state files m [] (x ∷ plans) are have = absurd are
+they_state files m (p ∷ parts) [] are have = absurd are
+they_state files m (p ∷ parts) (x ∷ plans) are have = (
+  record {
+    names = ap names_changed (sym are.0.spells.is) ∙ script_names files (volume_of m) x.records;
+    sizes = ap (map size_after) (sym are.0.spells.is) ∙ are.0.spells.sizes (All-head (λ (p : Planned). All (HasCopied files) p.records) x plans have);
+  },
+  they_state files (after_rows m p.rows) parts plans are.1 (All-tail (λ (p : Planned). All (HasCopied files) p.records) x plans have),
+)
 
 all_are : (m : Machine) (parts : List Part) → all_changes (segments_of m parts) ≡ row_changes m (all_rows parts)
 all_are m [] = refl
@@ -108,4 +113,4 @@ same_whole m parts plain =
     ∙ ap (λ (n : ℕ). min n (2 ^ 64 - 1)) (same_sum m parts (keys (set_of changed)) plain)
 
 pub costs_the_same : CostsTheSame
-costs_the_same files m parts plans plain are = same_whole m parts plain ∙ ap (λ s. min (cost_of_changes (volume_of m) s) (2 ^ 64 - 1)) (sym (segments_are files m parts plans are))
+costs_the_same files m parts plans plain are have = same_whole m parts plain ∙ ap (λ (n : ℕ). min n (2 ^ 64 - 1)) (sym (states_the_cost (volume_of m) (scripts_of plans) (segments_of m parts) (they_state files m parts plans are have)))

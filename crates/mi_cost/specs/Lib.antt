@@ -1,4 +1,3 @@
-pub mod CostOfChanges
 pub mod CostLaw
-pub mod Stated
+pub mod FormerMap
 pub mod Tallies

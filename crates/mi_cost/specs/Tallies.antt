@@ -10,17 +10,10 @@ use Rattle.mi_image.specs.Items.{Items}
 use Rattle.mi_image.specs.declared.item.Item.{Item}
 use Rattle.mi_image.specs.declared.item.Item.TheVariants.{Head, Whole}
 use Rattle.mi_script.specs.declared.rec.Rec.{Rec}
-use Rattle.mi_script.specs.declared.rec.Rec.TheVariants.{Put, Drop, Copy, Dup}
 use Rattle.mi_script.specs.Scripts.{name_at}
+use Rattle.mi_model.specs.StatedSizes.{stated_size}
 
 -- ---- sizes
-
--- what a record states of the size of its name
-abbrev pub stated_size : Rec → ℕ
-stated_size (Put name bytes) = length name + length bytes
-stated_size (Drop name) = 0
-stated_size (Copy name h file path n) = length name + (length (head_bytes h) + h.length)
-stated_size (Dup name h from) = length name + (length (head_bytes h) + h.length)
 
 -- the bytes of the record of what an item stands for
 abbrev pub item_length : Item → ℕ

@@ -3,8 +3,8 @@
 ghost use Rattle.std.specs.Prelude.{◌≡◌, ◌≤◌, ◌^◌, IfOk, IsErrOf, OnOk, List, ℕ, if◌then◌else◌};
 ghost use Rattle.mi_text.specs.Maps.{Map};
 ghost use Rattle.mi_image.specs.Items.{AreThere};
-ghost use Rattle.mi_cost.specs.CostOfChanges.{former_map, scripts_cost};
-ghost use Rattle.mi_cost.specs.Stated.{AllHaveBytes};
+ghost use Rattle.mi_model.specs.StatedSizes.{stated_cost};
+ghost use Rattle.mi_cost.specs.FormerMap.{former_map};
 ghost use Rattle.mi_cost.specs.declared.error.CostError.TheVariants as CostError;
 ghost use Rattle.mi_cost.specs.Tallies.{with_records, are_known, tally};
 
@@ -38,14 +38,11 @@ fn tally(alloc: Global, scripts: &[Script]) -> Result<(Sizes, u64), NoMemory>
     Ok((sizes, entries))
 }
 
-/// What the changes of scripts cost over the former machine's image, in bytes: their rollback area, and what their names get greater on
-/// the way (this project's own). That is said of scripts whose copied files have as many bytes as their heads state. TooBig exactly where
-/// it passes 64 bits. n log n in the records.
+/// What scripts cost over the former machine's image by the sizes that their records state, in bytes: their rollback area, and what their
+/// names get greater on the way (this project's own). TooBig exactly where it passes 64 bits. n log n in the records.
 pub fn need(alloc: Global, scripts: &[Script], image: &Image) -> Result<u64, CostError>
-    ensures ok { (held files : Map (List ℕ)) → AreThere held files image.now → AllHaveBytes files (former_map held files image.now) scripts.now
-        → IfOk result (λ n. n ≡ scripts_cost files (former_map held files image.now) scripts.now) }
-    ensures too_big { (held files : Map (List ℕ)) → AreThere held files image.now → AllHaveBytes files (former_map held files image.now) scripts.now
-        → IsErrOf result CostError.TooBig → 2 ^ 64 ≤ scripts_cost files (former_map held files image.now) scripts.now }
+    ensures ok { (held files : Map (List ℕ)) → AreThere held files image.now → IfOk result (λ n. n ≡ stated_cost (former_map held files image.now) scripts.now) }
+    ensures too_big { (held files : Map (List ℕ)) → AreThere held files image.now → IsErrOf result CostError.TooBig → 2 ^ 64 ≤ stated_cost (former_map held files image.now) scripts.now }
 {
     let (sizes, entries) = tally(alloc, scripts)?;
     sizes.cost(alloc, image, entries)

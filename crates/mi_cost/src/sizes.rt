@@ -5,7 +5,8 @@ ghost use Rattle.mi_base.specs.Spelling.{head_bytes, record_of};
 ghost use Rattle.mi_base.specs.Limits.{fits};
 ghost use Rattle.mi_base.specs.Fields.{version as version_bytes};
 ghost use Rattle.mi_image.specs.Items.{item_fits};
-ghost use Rattle.mi_cost.specs.Tallies.{stated_size, item_length};
+ghost use Rattle.mi_model.specs.StatedSizes.{stated_size};
+ghost use Rattle.mi_cost.specs.Tallies.{item_length};
 
 use mi_base::{EncError, Entry, FileHead, NoMemory, Version, enc_entry};
 use mi_image::Item;

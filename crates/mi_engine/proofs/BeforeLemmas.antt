@@ -1,4 +1,4 @@
--- What was done before the rest of a run.
+-- What was done before the rest of a run, and what is told of it.
 use Rattle.std.proofs.Common.{◌≡◌, ◌⊎◌, inl, inr, ⊎_elim, ℕ, ◌≤◌, Bool, List, Option, None, Some, Ok, sym, ap, subst, ◌∙◌, arith}
 use Rattle.mi_text.specs.declared.answers.Settled.{Settled}
 use Rattle.mi_volume.specs.Maps.{Map}
@@ -6,22 +6,22 @@ use Rattle.mi_volume.specs.State.{State, Passes, Rose, GoesOn}
 use Rattle.mi_volume.proofs.Moments.{rose_before, joined, weaker}
 use Rattle.mi_undo.specs.Stands.{StandsFor}
 use Rattle.mi_undo.specs.Keeps.{IsFree, Each}
-use Rattle.std.specs.Prelude.{IsSome}
+use Rattle.mi_undo.specs.Room.{NeverShort}
 use Rattle.mi_base.specs.declared.answers.Cause.{Cause}
 use Rattle.mi_base.specs.declared.answers.Cause.TheVariants.{BadWords, VolumeFault, BadRollback, RecoveryFull, BadImage, SourceFault, Table, Launch, ErrorAction}
 use Rattle.mi_base.specs.declared.answers.Place.{Place}
 use Rattle.mi_base.specs.declared.answers.Place.TheVariants.{InRollback, InCommit}
 use Rattle.mi_base.specs.declared.answers.Kind.{Kind}
 use Rattle.mi_base.specs.declared.answers.Kind.TheVariants.{Done, Listed, Recovered, Refused, Suspended, NoMemory}
-use Rattle.mi_model.specs.Causes.{BelowCount, IsDone, IsRefused, CausedRefusal, Met, MetAt, Caused}
+use Rattle.mi_model.specs.Causes.{BelowCount, IsDone, IsRefused, CausedRefusal, Met, MetAt, Caused, AnswersCommand}
 use Rattle.mi_model.specs.Leaves.{StandsAfter, MayStand, AtPause, AtExit, Cleans}
 use Rattle.mi_model.specs.Logs.{Tells, IsReport, IsLog}
 use Rattle.mi_model.specs.PackageOutcome.{Outcome}
 use Rattle.mi_model.specs.Words.{Command, walks}
-use Rattle.mi_engine.specs.Answers.{IsPausedFull, IsFullKind, MeetsFull, Begins}
+use Rattle.mi_engine.specs.Answers.{Begins}
 use Rattle.mi_engine.specs.Looks.{Looks}
 use Rattle.mi_engine.specs.Replies.{Says, SettledReads, Serves}
-use Rattle.mi_engine.proofs.EndLemmas.{may_commit, below_before, looks_go, free_then}
+use Rattle.mi_engine.proofs.EndLemmas.{may_commit, below_before, looks_go, looks_recover, free_then}
 
 -- ---- the same outcome
 
@@ -34,97 +34,78 @@ refused_as out out' is cause refused = sym (ap (λ (x : Outcome). x.end) is) ∙
 stands_as : (out out' : Outcome) → out' ≡ out → (d : Map) → StandsAfter out' d → StandsAfter out d
 stands_as out out' is d (m, made, stands) = (m, sym (ap (λ (x : Outcome). x.end) is) ∙ made, stands)
 
-module _ (volume told : Type 0) (out out' : Outcome) (of_told : told → volume) (is : volume → out' ≡ out) where
+-- where less is told, of an outcome that is the same where the volume tells what it holds
+module _ (volume told told' : Type 0) (less : told → told') (of_told : told → volume) (out out' : Outcome) (is : volume → out' ≡ out) where
   -- ---- images
 
-  pub may_stand_as : (F : Map) (rose rose' : Type 0) (kind : Kind) (d : Map) → (rose' → rose) → MayStand told F out' rose' kind d → MayStand told F out rose kind d
+  pub may_stand_as : (F : Map) (rose rose' : Type 0) (kind : Kind) (d : Map) → (rose' → rose) → MayStand told' F out' rose' kind d → MayStand told F out rose kind d
   may_stand_as F rose rose' kind d f (inl stands) = inl stands
-  may_stand_as F rose rose' kind d f (inr may) = inr (may_commit rose' rose f kind may.0, λ t. stands_as out out' (is (of_told t)) d (may.1 t))
+  may_stand_as F rose rose' kind d f (inr may) = inr (may_commit rose' rose f kind may.0, λ t. stands_as out out' (is (of_told t)) d (may.1 (less t)))
 
-  pause_as : (F : Map) (place : Place) (d : Map) → AtPause told F out' place d → AtPause told F out place d
+  pause_as : (F : Map) (place : Place) (d : Map) → AtPause told' F out' place d → AtPause told F out place d
   pause_as F InRollback d at = at
   pause_as F InCommit d (inl stands) = inl stands
-  pause_as F InCommit d (inr after) = inr (λ t. stands_as out out' (is (of_told t)) d (after t))
+  pause_as F InCommit d (inr after) = inr (λ t. stands_as out out' (is (of_told t)) d (after (less t)))
 
-  pub exit_as : (F : Map) (kind : Kind) (d : Map) → AtExit told F out' kind d → AtExit told F out kind d
-  exit_as F Done d at = λ t. stands_as out out' (is (of_told t)) d (at t)
+  pub exit_as : (F : Map) (kind : Kind) (d : Map) → AtExit told' F out' kind d → AtExit told F out kind d
+  exit_as F Done d at = λ t. stands_as out out' (is (of_told t)) d (at (less t))
   exit_as F Listed d at = at
   exit_as F (Recovered settled) d at = at
   exit_as F (Refused cause) d at = at
   exit_as F (Suspended pause) d at = pause_as F pause.place d at
   exit_as F NoMemory d at = at
 
-  pub reads_as : (F : Map) (kind : Kind) (h : Map) → SettledReads told F out' kind h → SettledReads told F out kind h
-  reads_as F Done h reads = λ t. let r = reads t in (r.0, sym (ap (λ (x : Outcome). x.end) (is (of_told t))) ∙ r.1, r.2)
+  pub reads_as : (F : Map) (kind : Kind) (h : Map) → SettledReads told' F out' kind h → SettledReads told F out kind h
+  reads_as F Done h reads = λ t. let r = reads (less t) in (r.0, sym (ap (λ (x : Outcome). x.end) (is (of_told t))) ∙ r.1, r.2)
   reads_as F Listed h reads = reads
   reads_as F (Recovered settled) h reads = reads
   reads_as F (Refused cause) h reads = reads
   reads_as F (Suspended pause) h reads = tt
   reads_as F NoMemory h reads = tt
 
-  -- ---- causes: n is an earlier count than k
+  -- ---- causes: n is an earlier count than k, and x' says that the source failed in a later step
 
-  met_as : (fell source_fails : Type 0) (cause : Cause) → Met told out' fell source_fails cause → Met told out fell source_fails cause
-  met_as fell source_fails VolumeFault met = met
-  met_as fell source_fails SourceFault met = met
-  met_as fell source_fails (Table fault) met = λ t. refused_as out out' (is (of_told t)) (Table fault) (met t)
-  met_as fell source_fails (Launch text) met = λ t. refused_as out out' (is (of_told t)) (Launch text) (met t)
-  met_as fell source_fails (ErrorAction action text) met = λ t. refused_as out out' (is (of_told t)) (ErrorAction action text) (met t)
-  met_as fell source_fails other met = absurd met
+  module _ (x x' : Type 0) (source : x' → x) where
+    met_as : (fell : Type 0) (cause : Cause) → Met told' out' fell x' cause → Met told out fell x cause
+    met_as fell VolumeFault met = met
+    met_as fell SourceFault met = source met
+    met_as fell (Table fault) met = λ t. refused_as out out' (is (of_told t)) (Table fault) (met (less t))
+    met_as fell (Launch text) met = λ t. refused_as out out' (is (of_told t)) (Launch text) (met (less t))
+    met_as fell (ErrorAction action text) met = λ t. refused_as out out' (is (of_told t)) (ErrorAction action text) (met (less t))
+    met_as fell other met = absurd met
 
-  met_at_as : (fell source_fails : Type 0) (place : Place) (why : Option Cause) → MetAt place told out' fell source_fails why → MetAt place told out fell source_fails why
-  met_at_as fell source_fails InRollback (Some cause) met = met_as fell source_fails cause met
-  met_at_as fell source_fails InRollback None met = absurd met
-  met_at_as fell source_fails InCommit why met = (met.0, met.1, λ t. done_as out out' (is (of_told t)) (met.2 t))
+    met_at_as : (fell : Type 0) (place : Place) (why : Option Cause) → MetAt place told' out' fell x' why → MetAt place told out fell x why
+    met_at_as fell InRollback (Some cause) met = met_as fell cause met
+    met_at_as fell InRollback None met = absurd met
+    met_at_as fell InCommit why met = (met.0, met.1, λ t. done_as out out' (is (of_told t)) (met.2 (less t)))
 
-  module _ (n k m : ℕ) (le : n ≤ k) (fails fails' source_fails : Type 0) (rises : fails' → fails) where
-    refusal_as : (cause : Cause) → CausedRefusal volume told out' fails' source_fails cause → CausedRefusal volume told out fails source_fails cause
-    refusal_as VolumeFault c = rises c
-    refusal_as SourceFault c = c
-    refusal_as (BadRollback name) c = λ v. refused_as out out' (is v) (BadRollback name) (c v)
-    refusal_as (RecoveryFull name) c = λ v. refused_as out out' (is v) (RecoveryFull name) (c v)
-    refusal_as (BadImage name) c = λ v. refused_as out out' (is v) (BadImage name) (c v)
-    refusal_as other c = λ t. refused_as out out' (is (of_told t)) other (c t)
+    module _ (n k m : ℕ) (le : n ≤ k) (fails fails' : Type 0) (rises : fails' → fails) where
+      refusal_as : (cause : Cause) → CausedRefusal volume told' out' fails' x' cause → CausedRefusal volume told out fails x cause
+      refusal_as VolumeFault c = rises c
+      refusal_as SourceFault c = source c
+      refusal_as (BadRollback name) c = λ v. refused_as out out' (is v) (BadRollback name) (c v)
+      refusal_as (RecoveryFull name) c = λ v. refused_as out out' (is v) (RecoveryFull name) (c v)
+      refusal_as (BadImage name) c = λ v. refused_as out out' (is v) (BadImage name) (c v)
+      refusal_as other c = λ t. refused_as out out' (is (of_told t)) other (c (less t))
 
-    pub caused_as : (kind : Kind) → Caused k m volume told out' fails' source_fails kind → Caused n m volume told out fails source_fails kind
-    caused_as Done c = λ t. done_as out out' (is (of_told t)) (c t)
-    caused_as Listed c = λ v. ((c v).0, sym (ap (λ (x : Outcome). x.end) (is v)) ∙ (c v).1)
-    caused_as (Recovered settled) c = λ v. sym (ap (λ (x : Outcome). x.end) (is v)) ∙ c v
-    caused_as (Refused cause) c = refusal_as cause c
-    caused_as (Suspended pause) c = record {
-      entry = omega (arith, le, c.entry);
-      between = c.between;
-      exit = c.exit;
-      rose = c.rose;
-      met = met_at_as (BelowCount pause.begun pause.again) source_fails pause.place pause.why c.met;
-    }
-    caused_as NoMemory c = tt
-
-  full_pause : (source_fails : Type 0) (place : Place) (why : Option Cause) → IsPausedFull told out' source_fails place why → IsPausedFull told out source_fails place why
-  full_pause source_fails InRollback (Some cause) is = met_as (Unit {0}) source_fails cause is
-  full_pause source_fails InRollback None is = absurd is
-  full_pause source_fails InCommit why is = absurd is
-
-  full_kind : (source_fails : Type 0) (kind : Kind) → IsFullKind told out' source_fails kind → IsFullKind told out source_fails kind
-  full_kind source_fails Done is = is
-  full_kind source_fails Listed is = is
-  full_kind source_fails (Recovered settled) is = is
-  full_kind source_fails (Refused VolumeFault) is = is
-  full_kind source_fails (Refused other) is = absurd is
-  full_kind source_fails (Suspended pause) is = full_pause source_fails pause.place pause.why is
-  full_kind source_fails NoMemory is = is
-
-  pub full_as : (s t : State) (source_fails : Type 0) (kind : Kind) → t.capacity ≡ s.capacity → MeetsFull told t out' source_fails kind → MeetsFull told s out source_fails kind
-  full_as s t source_fails kind same full = record {
-    limited = subst (λ (c : Option ℕ). IsSome c) same full.limited;
-    walks = λ x. let walks = full.walks x in (walks.0, sym (is (of_told x)) ∙ walks.1);
-    is = full_kind source_fails kind full.is;
-  }
+      pub caused_as : (kind : Kind) → Caused k m volume told' out' fails' x' kind → Caused n m volume told out fails x kind
+      caused_as Done c = λ t. done_as out out' (is (of_told t)) (c (less t))
+      caused_as Listed c = λ v. ((c v).0, sym (ap (λ (y : Outcome). y.end) (is v)) ∙ (c v).1)
+      caused_as (Recovered settled) c = λ v. sym (ap (λ (y : Outcome). y.end) (is v)) ∙ c v
+      caused_as (Refused cause) c = refusal_as cause c
+      caused_as (Suspended pause) c = record {
+        entry = omega (arith, le, c.entry);
+        between = c.between;
+        exit = c.exit;
+        rose = c.rose;
+        met = met_at_as (BelowCount pause.begun pause.again) pause.place pause.why c.met;
+      }
+      caused_as NoMemory c = tt
 
   -- ---- begun actions
 
-  pub begins_as : (n : ℕ) (kind : Kind) → (told → Begins out' n kind) → told → Begins out n kind
-  begins_as n kind begins t = subst (λ (x : Outcome). Begins x n kind) (is (of_told t)) (begins t)
+  pub begins_as : (n : ℕ) (kind : Kind) → (told' → Begins out' n kind) → told → Begins out n kind
+  begins_as n kind begins t = subst (λ (x : Outcome). Begins x n kind) (is (of_told t)) (begins (less t))
 
   -- ---- the log
 
@@ -144,16 +125,16 @@ module _ (volume told : Type 0) (out out' : Outcome) (of_told : told → volume)
     tells_as (Suspended pause) s tells = f s tells
     tells_as NoMemory s tells = f s tells
 
-    report_as : (kind : Kind) (log : List ℕ) → IsReport told found' says out' kind n log → IsReport told found says out kind n log
+    report_as : (kind : Kind) (log : List ℕ) → IsReport told' found' says out' kind n log → IsReport told found says out kind n log
     report_as kind log r = record {
       settled = r.settled;
       begun = r.begun;
       tells = tells_as kind r.settled r.tells;
-      begins = λ t. r.begins t ∙ ap (λ (x : Outcome). x.begun) (is (of_told t));
+      begins = λ t. r.begins (less t) ∙ ap (λ (x : Outcome). x.begun) (is (of_told t));
       is = r.is;
     }
 
-    log_as : (kind : Kind) (log : List ℕ) → IsLog volume told found' says out' kind n log → IsLog volume told found says out kind n log
+    log_as : (kind : Kind) (log : List ℕ) → IsLog volume told' found' says out' kind n log → IsLog volume told found says out kind n log
     log_as Done log l = report_as Done log l
     log_as Listed log l = λ v. sym (ap (λ (x : Outcome). x.end) (is v)) ∙ l v
     log_as (Recovered settled) log l = report_as (Recovered settled) log l
@@ -161,7 +142,7 @@ module _ (volume told : Type 0) (out out' : Outcome) (of_told : told → volume)
     log_as (Suspended pause) log l = report_as (Suspended pause) log l
     log_as NoMemory log l = report_as NoMemory log l
 
-    pub says_as : (kind : Kind) (bytes : List ℕ) → Says (IsLog volume told found' says out' kind n) kind bytes → Says (IsLog volume told found says out kind n) kind bytes
+    pub says_as : (kind : Kind) (bytes : List ℕ) → Says (IsLog volume told' found' says out' kind n) kind bytes → Says (IsLog volume told found says out kind n) kind bytes
     says_as kind bytes s = record { log = s.log; is = log_as kind s.log s.is; whole = s.whole; front = s.front }
 
 -- ---- what is left
@@ -178,86 +159,48 @@ cleans_from s t u pass (Refused other) c = free_then s t u pass c
 cleans_from s t u pass (Suspended pause) c = c
 cleans_from s t u pass NoMemory c = c
 
--- what licenses the answer of the rest licenses that of the whole
-pub licensed_from : (volume told : Type 0) (s t u : State) (out out' : Outcome) (source_fails : Type 0) → (told → volume) → (volume → out' ≡ out) → Passes s t → Passes t u → (kind : Kind)
-    → MeetsFull told t out' source_fails kind ⊎ Caused t.faults u.faults volume told out' (Rose t u) source_fails kind → MeetsFull told s out source_fails kind ⊎ Caused s.faults u.faults volume told out (Rose s u) source_fails kind
-licensed_from volume told s t u out out' source_fails of_told is pass then kind = ⊎_elim
-    (λ full. inl (full_as volume told out out' of_told is s t source_fails kind pass.capacity full))
-    (λ c. inr (caused_as volume told out out' of_told is s.faults t.faults u.faults pass.faults (Rose s u) (Rose t u) source_fails (rose_before s t u pass) kind c))
+-- recovery has room in the rest, of the same capacity
+pub recovers_from : (s t u : State) → t.capacity ≡ s.capacity → GoesOn s t (NeverShort s.capacity) → GoesOn t u (NeverShort t.capacity) → GoesOn s u (NeverShort s.capacity)
+recovers_from s t u same first second = joined s t u (NeverShort s.capacity) first (subst (λ (c : Option ℕ). GoesOn t u (NeverShort c)) same second)
 
--- before a run that goes on from t the volume was only read
-module _ (volume told : Type 0) (s t u : State) (out out' : Outcome) (command : Command) (found : Settled → Type 0) (source_fails : Type 0) (of_told : told → volume) where
-  pub serves_from : (kind : Kind) (n : ℕ) (bytes : List ℕ) → (volume → IsFree s) → (volume → Looks s t) → Passes s t → Passes t u → (volume → out' ≡ out) → Serves volume told t u out' command found source_fails kind n bytes → Serves volume told s u out command found source_fails kind n bytes
+-- what licenses the answer of the rest licenses that of the whole
+pub caused_from : (volume told told' : Type 0) (less : told → told') (of_told : told → volume) (s t u : State) (out out' : Outcome) (x x' : Type 0) → (x' → x) → (volume → out' ≡ out) → Passes s t → (kind : Kind)
+    → Caused t.faults u.faults volume told' out' (Rose t u) x' kind → Caused s.faults u.faults volume told out (Rose s u) x kind
+caused_from volume told told' less of_told s t u out out' x x' source is pass kind =
+    caused_as volume told told' less of_told out out' is x x' source s.faults t.faults u.faults pass.faults (Rose s u) (Rose t u) (rose_before s t u pass) kind
+
+-- Before a run that goes on from t the volume was only read.
+module _ (volume told told' : Type 0) (less : told → told') (of_told : told → volume) (s t u : State) (out out' : Outcome) (command : Command) (found : Settled → Type 0) (x x' : Type 0) (source : x' → x) where
+  pub serves_from : (kind : Kind) (n : ℕ) (bytes : List ℕ) → (volume → IsFree s) → (volume → Looks s t) → Passes s t → Passes t u → (volume → out' ≡ out) → Serves volume told' t u out' command found x' kind n bytes → Serves volume told s u out command found x kind n bytes
   serves_from kind n bytes free looks pass then is serves = record {
     stops = λ v.
         joined s t u (MayStand told s.held out (BelowCount s.faults u.faults) kind)
         (weaker s t (StandsFor s.held) (MayStand told s.held out (BelowCount s.faults u.faults) kind) (λ d standing. inl standing) (looks_go s t (free v) (looks v)))
-        (weaker t u (MayStand told s.held out' (BelowCount t.faults u.faults) kind) (MayStand told s.held out (BelowCount s.faults u.faults) kind)
-        (λ d. may_stand_as volume told out out' of_told is s.held (BelowCount s.faults u.faults) (BelowCount t.faults u.faults) kind d (below_before s.faults t.faults u.faults pass.faults then.faults))
-        (subst (λ (F : Map). GoesOn t u (MayStand told F out' (BelowCount t.faults u.faults) kind)) (looks v).stays.held (serves.stops v)));
-    leaves = λ v d image. exit_as volume told out out' of_told is s.held kind d (subst (λ (F : Map). Each u (AtExit told F out' kind)) (looks v).stays.held (serves.leaves v) d image);
-    reads = λ v. reads_as volume told out out' of_told is s.held kind u.held (subst (λ (F : Map). SettledReads told F out' kind u.held) (looks v).stays.held (serves.reads v));
+        (weaker t u (MayStand told' s.held out' (BelowCount t.faults u.faults) kind) (MayStand told s.held out (BelowCount s.faults u.faults) kind)
+        (λ d. may_stand_as volume told told' less of_told out out' is s.held (BelowCount s.faults u.faults) (BelowCount t.faults u.faults) kind d (below_before s.faults t.faults u.faults pass.faults then.faults))
+        (subst (λ (F : Map). GoesOn t u (MayStand told' F out' (BelowCount t.faults u.faults) kind)) (looks v).stays.held (serves.stops v)));
+    leaves = λ v d image. exit_as volume told told' less of_told out out' is s.held kind d (subst (λ (F : Map). Each u (AtExit told' F out' kind)) (looks v).stays.held (serves.leaves v) d image);
+    reads = λ v. reads_as volume told told' less of_told out out' is s.held kind u.held (subst (λ (F : Map). SettledReads told' F out' kind u.held) (looks v).stays.held (serves.reads v));
     cleans = λ v. cleans_from s t u pass kind (serves.cleans v);
-    caused = licensed_from volume told s t u out out' source_fails of_told is pass then kind serves.caused;
+    recovers = λ v. recovers_from s t u pass.capacity (looks_recover s t (free v) (looks v)) (serves.recovers v);
+    caused = caused_from volume told told' less of_told s t u out out' x x' source is pass kind serves.caused;
     answers = serves.answers;
-    begins = begins_as volume told out out' of_told is n kind serves.begins;
-    log = says_as volume told out out' of_told is found found (λ x found_is. found_is) (walks (Ok command)) n kind bytes serves.log;
+    begins = begins_as volume told told' less of_told out out' is n kind serves.begins;
+    log = says_as volume told told' less of_told out out' is found found (λ y found_is. found_is) (walks (Ok command)) n kind bytes serves.log;
   }
 
--- ---- the source fails, where it failed in a later step
+-- ---- the same, of another command that walks
 
-module _ (volume told : Type 0) (out : Outcome) (x y : Type 0) (f : x → y) where
-  refusal_on : (v : Type 0) (cause : Cause) → CausedRefusal volume told out v x cause → CausedRefusal volume told out v y cause
-  refusal_on v VolumeFault c = c
-  refusal_on v SourceFault c = f c
-  refusal_on v (BadRollback name) c = c
-  refusal_on v (RecoveryFull name) c = c
-  refusal_on v (BadImage name) c = c
-  refusal_on v other c = c
-
-  met_on : (fell : Type 0) (cause : Cause) → Met told out fell x cause → Met told out fell y cause
-  met_on fell VolumeFault met = met
-  met_on fell SourceFault met = f met
-  met_on fell (Table fault) met = met
-  met_on fell (Launch text) met = met
-  met_on fell (ErrorAction action text) met = met
-  met_on fell other met = absurd met
-
-  met_at_on : (fell : Type 0) (place : Place) (why : Option Cause) → MetAt place told out fell x why → MetAt place told out fell y why
-  met_at_on fell InRollback (Some cause) met = met_on fell cause met
-  met_at_on fell InRollback None met = absurd met
-  met_at_on fell InCommit why met = met
-
-  caused_on : (n m : ℕ) (v : Type 0) (kind : Kind) → Caused n m volume told out v x kind → Caused n m volume told out v y kind
-  caused_on n m v Done c = c
-  caused_on n m v Listed c = c
-  caused_on n m v (Recovered settled) c = c
-  caused_on n m v (Refused cause) c = refusal_on v cause c
-  caused_on n m v (Suspended pause) c = record { entry = c.entry; between = c.between; exit = c.exit; rose = c.rose; met = met_at_on (BelowCount pause.begun pause.again) pause.place pause.why c.met }
-  caused_on n m v NoMemory c = c
-
-  full_pause_on : (place : Place) (why : Option Cause) → IsPausedFull told out x place why → IsPausedFull told out y place why
-  full_pause_on InRollback (Some cause) is = met_on (Unit {0}) cause is
-  full_pause_on InRollback None is = absurd is
-  full_pause_on InCommit why is = absurd is
-
-  full_kind_on : (kind : Kind) → IsFullKind told out x kind → IsFullKind told out y kind
-  full_kind_on Done is = is
-  full_kind_on Listed is = is
-  full_kind_on (Recovered settled) is = is
-  full_kind_on (Refused VolumeFault) is = is
-  full_kind_on (Refused other) is = absurd is
-  full_kind_on (Suspended pause) is = full_pause_on pause.place pause.why is
-  full_kind_on NoMemory is = is
-
-  pub fails_on : (s u : State) (command : Command) (found : Settled → Type 0) (kind : Kind) (n : ℕ) (bytes : List ℕ) → Serves volume told s u out command found x kind n bytes → Serves volume told s u out command found y kind n bytes
-  fails_on s u command found kind n bytes serves = record {
-    stops = serves.stops;
-    leaves = serves.leaves;
-    reads = serves.reads;
-    cleans = serves.cleans;
-    caused = ⊎_elim (λ full. inl (record { limited = full.limited; walks = full.walks; is = full_kind_on kind full.is })) (λ c. inr (caused_on s.faults u.faults (Rose s u) kind c)) serves.caused;
-    answers = serves.answers;
-    begins = serves.begins;
-    log = serves.log;
-  }
+pub serves_command : (volume told : Type 0) (s u : State) (out : Outcome) (command command' : Command) (found : Settled → Type 0) (x : Type 0) (kind : Kind) (n : ℕ) (bytes : List ℕ) → (AnswersCommand command' kind → AnswersCommand command kind) → walks (Ok command') ≡ walks (Ok command)
+    → Serves volume told s u out command' found x kind n bytes → Serves volume told s u out command found x kind n bytes
+serves_command volume told s u out command command' found x kind n bytes answers same serves = record {
+  stops = serves.stops;
+  leaves = serves.leaves;
+  reads = serves.reads;
+  cleans = serves.cleans;
+  recovers = serves.recovers;
+  caused = serves.caused;
+  answers = answers serves.answers;
+  begins = serves.begins;
+  log = subst (λ (b : Bool). Says (IsLog volume told found b out kind n) kind bytes) same serves.log;
+}

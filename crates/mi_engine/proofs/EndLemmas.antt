@@ -1,5 +1,5 @@
 -- What holds behind steps that only looked at a volume.
-use Rattle.std.proofs.Common.{◌≡◌, inl, inr, ⊎_elim, ℕ, ◌≤◌, true, false, List, None, cond, not, refl, sym, ap, subst, ◌∙◌, arith}
+use Rattle.std.proofs.Common.{◌≡◌, inl, inr, ⊎_elim, ℕ, ◌≤◌, true, false, List, [], ◌∷◌, ◌++◌, None, Result, Ok, cond, not, refl, sym, ap, subst, ◌∙◌, arith}
 use Rattle.std.specs.FinMap.{get}
 use Rattle.mi_text.proofs.MapLemmas.{same}
 use Rattle.mi_volume.specs.Maps.{Map}
@@ -10,6 +10,9 @@ use Rattle.mi_undo.specs.Names.{marker, is_inside}
 use Rattle.mi_undo.specs.Stands.{StandsFor, outside}
 use Rattle.mi_undo.specs.Keeps.{Each, IsFree}
 use Rattle.mi_undo.specs.Answers.{IsFreeUnlessRose}
+use Rattle.mi_undo.specs.Notes.{Note}
+use Rattle.mi_undo.specs.Room.{NeverShort}
+use Rattle.mi_undo.proofs.ClearLemmas.{noted_unmarked}
 use Rattle.mi_undo.proofs.StandsLemmas.{get-outside, stands_unmarked}
 use Rattle.mi_undo.proofs.NoteLemmas.{shut_gate}
 use Rattle.mi_base.specs.declared.answers.Kind.{Kind}
@@ -55,6 +58,14 @@ free_each s free d image = stands_unmarked d s.held
     (λ q out. image.agrees q (free.clean q))
     (λ q inside. free.nothing_inside q inside)
 
+not_empty : (front rest : List Note) (note : Note) → ◌≡◌ {A = Result (List Note) (List ℕ)} (Ok (front ++ note ∷ rest)) (Ok []) → ⊥
+not_empty [] rest note is = cc
+not_empty (n ∷ front) rest note is = cc
+
+-- recovery of it has nothing to put back
+free_recovers : (s : State) → IsFree s → Each s (NeverShort s.capacity)
+free_recovers s free d image = λ small name short. not_empty short.front short.rest short.note (sym short.read ∙ noted_unmarked d (shut_gate (get d marker) (image.agrees marker (free.clean marker) ∙ free.nothing_inside marker refl)))
+
 -- steps that only looked at it
 module _ (s t : State) (free : IsFree s) (looks : Looks s t) where
   pub free_looks : IsFree t
@@ -62,6 +73,9 @@ module _ (s t : State) (free : IsFree s) (looks : Looks s t) where
 
   pub looks_go : GoesOn s t (StandsFor s.held)
   looks_go = weaker s t (Images s) (StandsFor s.held) (free_each s free) looks.moments
+
+  pub looks_recover : GoesOn s t (NeverShort s.capacity)
+  looks_recover = weaker s t (Images s) (NeverShort s.capacity) (free_recovers s free) looks.moments
 
   pub looks_leave : Each t (StandsFor s.held)
   looks_leave = subst (λ (m : Map). Each t (StandsFor m)) looks.stays.held (free_each t free_looks)

@@ -7,6 +7,8 @@ mod BeforeLemmas
 mod QuietLemmas
 mod ReplyLemmas
 mod PackageLemmas
+mod ReachLemmas
+mod RoomLemmas
 mod WalkLemmas
 mod ServeLemmas
 mod RunLemmas

@@ -1,6 +1,6 @@
 -- The machine that is read of a volume is spelled by the map that is held.
 use Rattle.std.proofs.Common.{◌≡◌, ℕ, Bool, true, false, cond, ◌&&◌, eqb, arith, List, [], ◌∷◌, None, Result, Ok, Err, refl, sym, ap, ◌∙◌, subst}
-use Rattle.std.specs.Prelude.{option_map, option_and_then, IsOkAnd}
+use Rattle.std.specs.Prelude.{option_map, option_and_then, IsOk, IsOkAnd}
 use Rattle.std.proofs.lemmas.Bool.Decides.{nat_tests}
 use Rattle.std.specs.FinMap.{get}
 use Rattle.mi_text.specs.Maps.{Name, Map}
@@ -51,3 +51,11 @@ scanned_spells files h h' image (Err name) free is read of = absurd of
 pub scanned_contents : (files : Files) (h h' : Map (List ℕ)) (image : Items) (r : Result Machine Name) → h' ≡ h → IsOkAnd r (ImageOf h files image) → AreThere h' files image
 scanned_contents files h h' image (Ok m) is of = subst (λ (x : Map (List ℕ)). AreThere x files image) (sym is) of.there
 scanned_contents files h h' image (Err name) is of = absurd of
+
+-- and every held name is spelled
+pub scanned_ok : (files : Files) (h h' : Map (List ℕ)) (image : Items) → h' ≡ h → IsOkAnd (machine_of h) (ImageOf h files image) → IsOk (machine_of h')
+scanned_ok files h h' image is of = subst (λ (x : Map (List ℕ)). IsOk (machine_of x)) (sym is) (by (machine_of h) of)
+  where
+    by : (r : Result Machine Name) → IsOkAnd r (ImageOf h files image) → IsOk r
+    by (Ok m) of = refl
+    by (Err name) of = absurd of

@@ -23,10 +23,11 @@ use Rattle.mi_model.specs.Properties.{first_properties}
 use Rattle.mi_model.specs.World.{Given}
 use Rattle.mi_model.specs.Walk.{walk}
 use Rattle.mi_model.specs.Assignments.{Assigned}
+use Rattle.mi_model.specs.Cost.{all_rows}
+use Rattle.mi_model.specs.Plain.{ArePlain}
 use Rattle.mi_model.specs.Planning.{IsPlan}
-use Rattle.mi_model.specs.PackageOutcome.{Outcome, Refused, only, of_walk, of_given, of_loaded, given_of}
+use Rattle.mi_model.specs.PackageOutcome.{Outcome, Refused, only, of_walk, of_given, of_loaded, given_of, of_package}
 use Rattle.mi_model.specs.Settings.{is_recorded}
-use Rattle.mi_engine.specs.StageOutcome.{of_package}
 use Rattle.mi_engine.specs.declared.stop.Stop.{Stop}
 use Rattle.mi_engine.specs.declared.stop.Stop.TheVariants.{NoMemory, Refuse}
 use Rattle.mi_engine.specs.Calls.{CausedStop, FailsBy, IsOver, Judges, Prepares, Readies, Walks, first_cause, unknown_product}
@@ -44,10 +45,6 @@ AreFirst None = Unit {0}
 AreFirst (Some cause) = IsFirst cause
 
 module _ (recorded : Bool) (g : Given) where
-  -- what a package that is loaded comes to
-  abbrev pub loaded_out : Outcome
-  loaded_out = of_given None recorded g
-
   abbrev unrecorded : Bool
   unrecorded = recorded && not (is_recorded g.rows g.former)
 
@@ -58,18 +55,24 @@ module _ (recorded : Bool) (g : Given) where
   recorded_so true n is = absurd cc
   recorded_so false n is = refl
 
-  of_product : (b : Bool) → unrecorded ≡ b → of_given None recorded g ≡ (if b then only (Refused (UnknownProduct (record { number = own_code }))) else of_walk None (walk g))
-  of_product b is = ap (λ (x : Bool). if x then only (Refused (UnknownProduct (record { number = own_code }))) else of_walk None (walk g)) is
+  -- where so much room is free
+  module _ (free : Option ℕ) where
+    -- what a package that is loaded comes to
+    abbrev pub loaded_out : Outcome
+    loaded_out = of_given free recorded g
 
-  pub walks_on : first_cause recorded g ≡ None → loaded_out ≡ of_walk None (walk g)
-  walks_on is = of_product false (recorded_so unrecorded own_code is)
+    of_product : (b : Bool) → unrecorded ≡ b → of_given free recorded g ≡ (if b then only (Refused (UnknownProduct (record { number = own_code }))) else of_walk free (walk g))
+    of_product b is = ap (λ (x : Bool). if x then only (Refused (UnknownProduct (record { number = own_code }))) else of_walk free (walk g)) is
 
-  by_product : (b : Bool) (cause : Cause) → unrecorded ≡ b → unknown_product b own_code ≡ Some cause → of_given None recorded g ≡ only (Refused cause)
-  by_product true cause is some = let same : UnknownProduct (record { number = own_code }) ≡ cause = cc in of_product true is ∙ ap (λ (c : Cause). only (Refused c)) same
-  by_product false cause is some = absurd cc
+    pub walks_on : first_cause recorded g ≡ None → loaded_out ≡ of_walk free (walk g)
+    walks_on is = of_product false (recorded_so unrecorded own_code is)
 
-  pub refused_so : (cause : Cause) → first_cause recorded g ≡ Some cause → loaded_out ≡ only (Refused cause)
-  refused_so cause is = by_product unrecorded cause refl is
+    by_product : (b : Bool) (cause : Cause) → unrecorded ≡ b → unknown_product b own_code ≡ Some cause → of_given free recorded g ≡ only (Refused cause)
+    by_product true cause is some = let same : UnknownProduct (record { number = own_code }) ≡ cause = cc in of_product true is ∙ ap (λ (c : Cause). only (Refused c)) same
+    by_product false cause is some = absurd cc
+
+    pub refused_so : (cause : Cause) → first_cause recorded g ≡ Some cause → loaded_out ≡ only (Refused cause)
+    refused_so cause is = by_product unrecorded cause refl is
 
   first_product : (b : Bool) (n : ℕ) → AreFirst (unknown_product b n)
   first_product true n = tt
@@ -150,15 +153,15 @@ on_ok (Err e) p = tt
 
 -- ---- from the source
 
-module _ (told source volume_fails source_fails : Type 0) (files : Files) (folder : Name) (sets : Assigned) (m : Machine) (now : ℕ) (recorded : Bool) where
+module _ (told source volume_fails source_fails : Type 0) (free : Option ℕ) (files : Files) (folder : Name) (sets : Assigned) (m : Machine) (now : ℕ) (recorded : Bool) where
   abbrev pub given : Given
   given = given_of files folder sets m now
 
   abbrev pub package_out : Outcome
-  package_out = of_package files now m recorded folder sets
+  package_out = of_package files free now m recorded folder sets
 
-  loaded_so : load_fault files folder ≡ None → package_out ≡ loaded_out recorded given
-  loaded_so none = ap (λ (o : Option Fault). of_loaded o (loaded_out recorded given)) none
+  loaded_so : load_fault files folder ≡ None → package_out ≡ loaded_out recorded given free
+  loaded_so none = ap (λ (o : Option Fault). of_loaded o (loaded_out recorded given free)) none
 
   abbrev IsLoaded : Result WalkPlan Stop → Type 0
   IsLoaded r = source → (load_fault files folder ≡ None) × Walks volume_fails source_fails recorded given r
@@ -166,15 +169,15 @@ module _ (told source volume_fails source_fails : Type 0) (files : Files) (folde
   refused : (untold : Given) (cause : Cause) → Walks volume_fails source_fails recorded untold (Err (Refuse cause)) → IsLoaded (Err (Refuse cause)) → CausedStop source volume_fails source_fails package_out (Refuse cause)
   refused untold VolumeFault w loaded = w
   refused untold SourceFault w loaded = w
-  refused untold (Table fault) w loaded = λ s. let x = loaded s in loaded_so x.0 ∙ refused_so recorded given (Table fault) x.1
-  refused untold (UnknownProduct code) w loaded = λ s. let x = loaded s in loaded_so x.0 ∙ refused_so recorded given (UnknownProduct code) x.1
+  refused untold (Table fault) w loaded = λ s. let x = loaded s in loaded_so x.0 ∙ refused_so recorded given free (Table fault) x.1
+  refused untold (UnknownProduct code) w loaded = λ s. let x = loaded s in loaded_so x.0 ∙ refused_so recorded given free (UnknownProduct code) x.1
   refused untold other w loaded = absurd (is_first recorded untold other w)
 
   pub prepared : (untold : Given) (r : Result WalkPlan Stop) → Walks volume_fails source_fails recorded untold r → IsLoaded r → (told → source)
-      → (told → IfOk r (λ (p : WalkPlan). IsPlan files (walk given) p.begun.items (map as_planned p.segments.items) p.refusal)) → Prepares told source volume_fails source_fails files given package_out r
-  prepared untold (Ok plan) w loaded of planned = λ t. let x = loaded (of t) in record { is = loaded_so x.0 ∙ walks_on recorded given x.1; whole = planned t }
-  prepared untold (Err NoMemory) w loaded of planned = tt
-  prepared untold (Err (Refuse cause)) w loaded of planned = refused untold cause w loaded
+      → (told → ArePlain given.former (all_rows (walk given).parts)) → (told → IfOk r (λ (p : WalkPlan). IsPlan files (walk given) p.begun.items (map as_planned p.segments.items) p.refusal)) → Prepares told source volume_fails source_fails files free given package_out r
+  prepared untold (Ok plan) w loaded of plain planned = λ t. let x = loaded (of t) in record { is = loaded_so x.0 ∙ walks_on recorded given free x.1; plain = plain t; whole = planned t }
+  prepared untold (Err NoMemory) w loaded of plain planned = tt
+  prepared untold (Err (Refuse cause)) w loaded of plain planned = refused untold cause w loaded
 
 -- ---- over the source as it was before the package was loaded
 

@@ -20,7 +20,7 @@ use Rattle.mi_engine.specs.Answers.{Begins}
 use Rattle.mi_engine.specs.declared.reply.Reply.{Reply}
 use Rattle.mi_engine.specs.Looks.{Looks}
 use Rattle.mi_engine.specs.Replies.{log_in, log_of, IsFront, WantsMemory, Says, SettledReads, Serves}
-use Rattle.mi_engine.proofs.EndLemmas.{free_looks, looks_go, looks_leave, looks_read}
+use Rattle.mi_engine.proofs.EndLemmas.{free_looks, looks_go, looks_recover, looks_leave, looks_read}
 
 -- an answer behind which the volume is as it was
 abbrev pub IsQuiet : Kind → Type 0
@@ -88,13 +88,14 @@ module _ (volume told : Type 0) (found : Settled → Type 0) (says : Bool) (out 
   memory_log settled is = record { settled = settled; begun = out.begun; tells = is; begins = λ t. refl; is = refl }
 
 module _ (volume told : Type 0) (s t : State) (out : Outcome) (command : Command) (found : Settled → Type 0) (settled : Settled) (is_found : found settled) (source_fails : Type 0) (free : volume → IsFree s) (looks : volume → Looks s t) where
-  pub quiet_serves : (kind : Kind) (bytes : List ℕ) → IsQuiet kind → Caused s.faults t.faults volume told out (Rose s t) source_fails kind → AnswersCommand command kind → (told → Begins out 0 kind) → Says (IsLog volume told found (walks (Ok command)) out kind 0) kind bytes → Serves volume told s t out command found source_fails kind 0 bytes
-  quiet_serves kind bytes quiet caused answers begins log = record {
+  pub quiet_serves : (kind : Kind) (n : ℕ) (bytes : List ℕ) → IsQuiet kind → Caused s.faults t.faults volume told out (Rose s t) source_fails kind → AnswersCommand command kind → (told → Begins out n kind) → Says (IsLog volume told found (walks (Ok command)) out kind n) kind bytes → Serves volume told s t out command found source_fails kind n bytes
+  quiet_serves kind n bytes quiet caused answers begins log = record {
     stops = λ v. weaker s t (StandsFor s.held) (MayStand told s.held out (BelowCount s.faults t.faults) kind) (λ d is. inl is) (looks_go s t (free v) (looks v));
     leaves = λ v d image. at_exit told s.held out kind quiet d (looks_leave s t (free v) (looks v) d image);
     reads = λ v. quiet_reads told s.held out kind quiet t.held (looks_read s t (free v) (looks v));
     cleans = λ v. quiet_cleans s t kind quiet (free_looks s t (free v) (looks v));
-    caused = inr caused;
+    recovers = λ v. looks_recover s t (free v) (looks v);
+    caused = caused;
     answers = answers;
     begins = begins;
     log = log;
@@ -104,8 +105,8 @@ module _ (volume told : Type 0) (s t : State) (out : Outcome) (command : Command
   pub replied : (kind : Kind) (log : List ℕ) (r : Reply) → IsQuiet kind → Caused s.faults t.faults volume told out (Rose s t) source_fails kind → AnswersCommand command kind → (told → Begins out 0 kind) → IsLog volume told found (walks (Ok command)) out kind 0 log → ((r.kind ≡ kind) × (log_in r ≡ log)) ⊎ WantsMemory (walks (Ok command)) r → r.reached ≡ 0
       → Serves volume told s t out command found source_fails r.kind r.reached (log_in r)
   replied kind log r quiet caused answers begins is_log is none = ⊎_elim
-      (λ e. at kind e.0 (quiet_serves kind (log_in r) quiet caused answers begins (says_whole (IsLog volume told found (walks (Ok command)) out kind 0) kind (log_in r) log e.1 is_log)))
-      (λ e. at NoMemory e.0 (quiet_serves NoMemory (log_in r) tt tt (answers_memory command) (λ t. memory_begins out) (says_front (IsLog volume told found (walks (Ok command)) out NoMemory 0) (log_in r) (log_of (walks (Ok command)) settled NoMemory) (e.1 settled) (memory_log volume told found (walks (Ok command)) out settled is_found))))
+      (λ e. at kind e.0 (quiet_serves kind 0 (log_in r) quiet caused answers begins (says_whole (IsLog volume told found (walks (Ok command)) out kind 0) kind (log_in r) log e.1 is_log)))
+      (λ e. at NoMemory e.0 (quiet_serves NoMemory 0 (log_in r) tt tt (answers_memory command) (λ t. memory_begins out) (says_front (IsLog volume told found (walks (Ok command)) out NoMemory 0) (log_in r) (log_of (walks (Ok command)) settled NoMemory) (e.1 settled) (memory_log volume told found (walks (Ok command)) out settled is_found))))
       is
     where
       at : (k : Kind) → r.kind ≡ k → Serves volume told s t out command found source_fails k 0 (log_in r) → Serves volume told s t out command found source_fails r.kind r.reached (log_in r)

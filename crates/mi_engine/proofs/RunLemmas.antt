@@ -12,6 +12,7 @@ use Rattle.mi_source.specs.Paths.{Files}
 use Rattle.mi_undo.specs.Names.{is_inside}
 use Rattle.mi_undo.specs.Notes.{Note, note_of}
 use Rattle.mi_undo.specs.Short.{IsShort}
+use Rattle.mi_undo.specs.Room.{NeverShort, ShortAs}
 use Rattle.mi_undo.specs.Stands.{StandsFor, stands, back_by, settled, noted, outside}
 use Rattle.mi_undo.specs.Keeps.{Each}
 use Rattle.mi_undo.specs.Answers.{IfBad, IfFull}
@@ -26,18 +27,17 @@ use Rattle.mi_base.specs.declared.answers.Kind.TheVariants.{Done, Listed, Recove
 use Rattle.mi_model.specs.Causes.{BelowCount, AnswersCommand, Caused}
 use Rattle.mi_model.specs.Leaves.{MayStand, AtExit, UnnotedStay, ReadsAfter, Cleans}
 use Rattle.mi_model.specs.Logs.{IsLog}
-use Rattle.mi_model.specs.Outcome.{Handed}
+use Rattle.mi_model.specs.Outcome.{Handed, of_machine, of_former, of_words, outcome, IsWithoutRoom, ComesTo}
 use Rattle.mi_model.specs.PackageOutcome.{Outcome, only}
 use Rattle.mi_model.specs.PackageOutcome as o
-use Rattle.mi_engine.specs.StageOutcome.{command_of, of_machine, of_former, of_words, IsWithoutRoom, ComesTo}
 use Rattle.mi_model.specs.Texts.{Text}
 use Rattle.mi_model.specs.TopCall.{handed}
-use Rattle.mi_model.specs.Words.{Command, Package, Selftest, Clients, Products, Recover, walks}
+use Rattle.mi_model.specs.Words.{Command, Package, Selftest, Clients, Products, Recover, walks, command_of}
 use Rattle.mi_engine.specs.declared.reply.Reply.{Reply}
-use Rattle.mi_engine.specs.Answers.{IsTold, Begins}
+use Rattle.mi_engine.specs.Answers.{IsTold, SourceFails, Begins}
 use Rattle.mi_engine.specs.Endings.{RepliesUnsettled}
 use Rattle.mi_engine.specs.Replies.{log_in, log_of, WantsMemory, Replies, Says, SettledReads, IsHanded, Serves, Leaves, Runs}
-use Rattle.mi_engine.proofs.BeforeLemmas.{may_stand_as, exit_as, reads_as, licensed_from, begins_as, says_as, cleans_from}
+use Rattle.mi_engine.proofs.BeforeLemmas.{may_stand_as, exit_as, reads_as, caused_from, begins_as, says_as, cleans_from, recovers_from}
 use Rattle.mi_engine.proofs.EndLemmas.{below_before}
 use Rattle.mi_engine.proofs.QuietLemmas.{says_whole, says_front, memory_log, memory_begins, answers_memory}
 
@@ -49,6 +49,20 @@ not_bad r F bad is was = let clash = sym is ∙ was in cc
 
 get_outer : (h F : Map) → outside h ≡ F → (q : List ℕ) → is_inside q ≡ false → get h q ≡ get F q
 get_outer h F is q out = sym (get-outside h q ∙ ap (λ b. cond (not b) (get h q) None) out) ∙ ap (λ (m : Map). get m q) is
+
+-- recovery has room where nothing is short that wasn't so before
+still_recovers : (s t : State) → GoesOn s t (ShortAs s.capacity s.held) → ((name : List ℕ) → ¬ IsShort s.capacity s.held name) → GoesOn s t (NeverShort s.capacity)
+still_recovers s t goes room = weaker s t (ShortAs s.capacity s.held) (NeverShort s.capacity) (λ d as small name short. room name (as name short)) goes
+
+-- ---- what is asked for
+
+of_asked : (h : Handed) (command : Command) (r : Result Map Name) → command_of h.words ≡ Ok command → stands h.held ≡ r → outcome h ≡ of_former h command r
+unfolding outcome
+of_asked h command r asked is = ap (of_words h) asked ∙ ap (of_former h command) is
+
+of_refused : (h : Handed) (place : ℕ) → command_of h.words ≡ Err place → outcome h ≡ only (o.Refused (BadWords place))
+unfolding outcome
+of_refused h place bad = ap (of_words h) bad
 
 -- ---- behind a settled volume
 
@@ -69,17 +83,17 @@ module _ (volume source : Type 0) (s t u : State) (files : Files) (words : List 
   h = handed words files s now
 
   abbrev inner : Outcome
-  inner = of_machine h command (machine_of t.held)
+  inner = of_machine h t.held command (machine_of t.held)
 
   abbrev told : Type 0
   told = IsTold volume source (Ok command)
 
-  pub is_handed : (volume → found ≡ settled s.held) → IsHanded volume h files now found
-  is_handed is = record { same_files = refl; same_now = refl; finds = λ v. sym (is v) }
+  pub is_handed : Passes s t → (volume → found ≡ settled s.held) → IsHanded volume h files t.capacity now found
+  is_handed pass is = record { same_files = refl; same_capacity = sym pass.capacity; same_now = refl; finds = λ v. sym (is v) }
 
   same_outcome : (out : Outcome) → command_of words ≡ Ok command → ComesTo h out → (volume → stands s.held ≡ Ok t.held) → (volume → (name : Name) → ¬ IsShort s.capacity s.held name) → volume → inner ≡ out
   same_outcome out asked comes value room v =
-      ap (of_former h command) (sym (value v)) ∙ ap (of_words h) (sym asked) ∙ sym (comes.room (λ name without. room v name without.short))
+      sym (comes.room (λ name without. room v name without.short) ∙ of_asked h command (Ok t.held) asked (value v))
 
   pub served_runs : (volume → found ≡ settled s.held) → (volume → stands s.held ≡ Ok t.held) → (volume → (name : Name) → ¬ IsShort s.capacity s.held name) → (volume → NothingDirty s → (F : Map) → StandsFor F s.held → GoesOn s t (StandsFor F)) → Passes s t → Passes t u
       → Serves volume told t u inner command (λ x. x ≡ found) source_fails kind n bytes → (out : Outcome) → command_of words ≡ Ok command → ComesTo h out → Runs volume told s u out (Ok command) source_fails kind n bytes
@@ -89,27 +103,28 @@ module _ (volume source : Type 0) (s t u : State) (files : Files) (words : List 
         joined s t u (MayStand told F out (BelowCount s.faults u.faults) kind)
         (weaker s t (StandsFor F) (MayStand told F out (BelowCount s.faults u.faults) kind) (λ d standing. inl standing) (goes v clean F stood))
         (weaker t u (MayStand told F inner (BelowCount t.faults u.faults) kind) (MayStand told F out (BelowCount s.faults u.faults) kind)
-        (λ d. may_stand_as volume told out inner (λ x. x.0) same F (BelowCount s.faults u.faults) (BelowCount t.faults u.faults) kind d (below_before s.faults t.faults u.faults pass.faults then.faults))
+        (λ d. may_stand_as volume told told (λ x. x) (λ x. x.0) out inner same F (BelowCount s.faults u.faults) (BelowCount t.faults u.faults) kind d (below_before s.faults t.faults u.faults pass.faults then.faults))
         (subst (λ (x : Map). GoesOn t u (MayStand told x inner (BelowCount t.faults u.faults) kind)) at (serves.stops v)));
     leaves = λ v clean F stood d image.
         let at : t.held ≡ F = ok_same (stands s.held) t.held F (value v) stood in
-        exit_as volume told out inner (λ x. x.0) same F kind d (subst (λ (x : Map). Each u (AtExit told x inner kind)) at (serves.leaves v) d image);
+        exit_as volume told told (λ x. x) (λ x. x.0) out inner same F kind d (subst (λ (x : Map). Each u (AtExit told x inner kind)) at (serves.leaves v) d image);
     reads = λ v F stood.
         let at : t.held ≡ F = ok_same (stands s.held) t.held F (value v) stood in
-        reads_after told s.held F out kind u.held (reads_as volume told out inner (λ x. x.0) same F kind u.held (subst (λ (x : Map). SettledReads told x inner kind u.held) at (serves.reads v)));
-    caused = licensed_from volume told s t u out inner source_fails (λ x. x.0) same pass then kind serves.caused;
-    begins = begins_as volume told out inner (λ x. x.0) same n kind serves.begins;
-    log = says_as volume told out inner (λ x. x.0) same (λ x. volume → x ≡ settled s.held) (λ x. x ≡ found) (λ x e v. e ∙ is v) (walks (Ok command)) n kind bytes serves.log;
+        reads_after told s.held F out kind u.held (reads_as volume told told (λ x. x) (λ x. x.0) out inner same F kind u.held (subst (λ (x : Map). SettledReads told x inner kind u.held) at (serves.reads v)));
+    caused = caused_from volume told told (λ x. x) (λ x. x.0) s t u out inner source_fails source_fails (λ x. x) same pass kind serves.caused;
+    begins = begins_as volume told told (λ x. x) (λ x. x.0) out inner same n kind serves.begins;
+    log = says_as volume told told (λ x. x) (λ x. x.0) out inner same (λ x. volume → x ≡ settled s.held) (λ x. x ≡ found) (λ x e v. e ∙ is v) (walks (Ok command)) n kind bytes serves.log;
   }
     where
       same : volume → inner ≡ out
       same = same_outcome out asked comes value room
 
-  pub served_leaves : (volume → stands s.held ≡ Ok t.held) → Passes s t → Serves volume told t u inner command (λ x. x ≡ found) source_fails kind n bytes → Leaves volume s u (Ok command) kind
-  served_leaves value pass serves = record {
+  pub served_leaves : (volume → stands s.held ≡ Ok t.held) → (volume → NothingDirty s → GoesOn s t (ShortAs s.capacity s.held)) → Passes s t → Serves volume told t u inner command (λ x. x ≡ found) source_fails kind n bytes → Leaves volume s u (Ok command) kind
+  served_leaves value short pass serves = record {
     unread = λ v clean bad stood. absurd (not_bad (stands s.held) t.held bad (value v) stood);
     unread_stays = λ v bad stood. absurd (not_bad (stands s.held) t.held bad (value v) stood);
     cleans = λ v. cleans_from s t u pass kind (serves.cleans v);
+    recovers = λ v clean room. recovers_from s t u pass.capacity (still_recovers s t (short v clean) room) (serves.recovers v);
     answers = serves.answers;
   }
 
@@ -124,6 +139,7 @@ pub record Unsettled (volume : Type 0) (s t : State) (e : UndoError) : Type 0 wh
   pub unread_stays : volume → (bad : List ℕ) → stands s.held ≡ Err bad → t.held ≡ s.held
   pub bad : volume → (name : List ℕ) → e ≡ undo.BadRollback name → stands s.held ≡ Err name
   pub fault : e ≡ undo.Fault → Rose s t
+  pub short : volume → NothingDirty s → GoesOn s t (ShortAs s.capacity s.held)
   pub full : (name : List ℕ) → e ≡ undo.Full name → IsShort s.capacity s.held name
 
 -- a refusal while settling
@@ -147,7 +163,7 @@ module _ (volume source : Type 0) (s t : State) (files : Files) (words : List Te
 
   -- the refusal of a name that is read and bad
   bad_outcome : (out : Outcome) → command_of words ≡ Ok command → ComesTo asked_of out → (name : Name) → stands s.held ≡ Err name → out ≡ only (o.Refused (BadRollback name))
-  bad_outcome out asked comes name is = comes.room (λ other without. bad_not_short s.capacity s.held name other is without.short) ∙ ap (of_words asked_of) asked ∙ ap (of_former asked_of command) is
+  bad_outcome out asked comes name is = comes.room (λ other without. bad_not_short s.capacity s.held name other is without.short) ∙ of_asked asked_of command (Err name) asked is
 
   full_outcome : (out : Outcome) → command_of words ≡ Ok command → ComesTo asked_of out → (name : Name) → IsShort s.capacity s.held name → out ≡ only (o.Refused (RecoveryFull name))
   full_outcome out asked comes name short = comes.short name (record { command = command; asked = asked; short = short })
@@ -177,7 +193,7 @@ module _ (volume source : Type 0) (s t : State) (files : Files) (words : List Te
     stops = λ v clean F stood. weaker s t (StandsFor F) (MayStand asked_told F out (BelowCount s.faults t.faults) kind) (λ d standing. inl standing) (u.goes v clean F stood);
     leaves = λ v clean F stood d image. exit F d (u.leaves v clean F stood d image);
     reads = λ v F stood. reads F (λ ns is q outer none. u.others v F ns stood is q outer none);
-    caused = inr caused;
+    caused = caused;
     begins = begins;
     log = log;
   }
@@ -237,7 +253,7 @@ module _ (volume source : Type 0) (s t : State) (files : Files) (words : List Te
   early_leaves e cause r early u is = ⊎_elim (λ x. at (Refused cause) x.0 (refused_cleans cause early) (before_answers cause early command)) (λ x. at NoMemory x.0 tt (answers_memory command)) is.answers
     where
       at : (kind : Kind) → r.kind ≡ kind → Cleans s t kind → AnswersCommand command kind → Leaves volume s t (Ok command) r.kind
-      at kind is cleans answers = subst (λ (k : Kind). Leaves volume s t (Ok command) k) (sym is) (record { unread = u.unread; unread_stays = u.unread_stays; cleans = λ v. cleans; answers = answers })
+      at kind is cleans answers = subst (λ (k : Kind). Leaves volume s t (Ok command) k) (sym is) (record { unread = u.unread; unread_stays = u.unread_stays; cleans = λ v. cleans; recovers = λ v clean room. still_recovers s t (u.short v clean) room; answers = answers })
 
       refused_cleans : (cause : Cause) → IsEarly cause → Cleans s t (Refused cause)
       refused_cleans VolumeFault is = tt
@@ -246,7 +262,7 @@ module _ (volume source : Type 0) (s t : State) (files : Files) (words : List Te
       refused_cleans other is = absurd is
 
   pub unsettled_leaves : (e : UndoError) (r : Reply) → Unsettled volume s t e → RepliesUnsettled (walks (Ok command)) e r → Leaves volume s t (Ok command) r.kind
-  unsettled_leaves undo.NoMemory r u is = subst (λ (k : Kind). Leaves volume s t (Ok command) k) (sym is.0.0) (record { unread = u.unread; unread_stays = u.unread_stays; cleans = λ v. tt; answers = answers_memory command })
+  unsettled_leaves undo.NoMemory r u is = subst (λ (k : Kind). Leaves volume s t (Ok command) k) (sym is.0.0) (record { unread = u.unread; unread_stays = u.unread_stays; cleans = λ v. tt; recovers = λ v clean room. still_recovers s t (u.short v clean) room; answers = answers_memory command })
   unsettled_leaves undo.Fault r u is = early_leaves undo.Fault VolumeFault r tt u is
   unsettled_leaves (undo.BadRollback name) r u is = early_leaves (undo.BadRollback name) (BadRollback name) r tt u is
   unsettled_leaves (undo.Full name) r u is = early_leaves (undo.Full name) (RecoveryFull name) r tt u is
@@ -263,7 +279,7 @@ module _ (volume source : Type 0) (s : State) (files : Files) (words : List Text
     stops = λ v clean F stood. started s (MayStand words_told F out (BelowCount s.faults s.faults) kind);
     leaves = λ v clean F stood d image. exit F d (ap stands (clean_same s s.held refl clean d image) ∙ stood);
     reads = λ v F stood. reads F;
-    caused = inr caused;
+    caused = caused;
     begins = begins;
     log = log;
   }
@@ -284,7 +300,7 @@ module _ (volume source : Type 0) (s : State) (files : Files) (words : List Text
       no_command name without = let clash : Err place ≡ Ok without.command = sym bad ∙ without.asked in cc
 
       refused : out ≡ only (o.Refused (BadWords place))
-      refused = comes.room no_command ∙ ap (of_words (handed words files s now)) bad
+      refused = comes.room no_command ∙ of_refused (handed words files s now) place bad
 
       at : (kind : Kind) → r.kind ≡ kind → Runs volume words_told s s out (Err place) source_fails kind 0 (log_in r) → Runs volume words_told s s out (Err place) source_fails r.kind r.reached (log_in r)
       at kind is_kind runs =
@@ -299,14 +315,15 @@ module _ (volume source : Type 0) (s : State) (files : Files) (words : List Text
         unread = λ v clean bad stood. started s (λ d. d ≡ s.held);
         unread_stays = λ v bad stood. refl;
         cleans = λ v. cleans;
+        recovers = λ v clean room. started s (NeverShort s.capacity);
         answers = answers;
       })
 
 -- ---- the same, of the words
 
-pub runs_as_read : (volume source : Type 0) (s u : State) (out : Outcome) (words words' : Result Command ℕ) (source_fails : Type 0) (kind : Kind) (n : ℕ) (bytes : List ℕ) → words ≡ words'
-    → Runs volume (IsTold volume source words') s u out words' source_fails kind n bytes → Runs volume (IsTold volume source words) s u out words source_fails kind n bytes
-runs_as_read volume source s u out words words' source_fails kind n bytes is runs = subst (λ (w : Result Command ℕ). Runs volume (IsTold volume source w) s u out w source_fails kind n bytes) (sym is) runs
+pub runs_as_read : (volume source : Type 0) (s u : State) (out : Outcome) (words words' : Result Command ℕ) (a b : ℕ) (kind : Kind) (n : ℕ) (bytes : List ℕ) → words ≡ words'
+    → Runs volume (IsTold volume source words') s u out words' (SourceFails words' a b) kind n bytes → Runs volume (IsTold volume source words) s u out words (SourceFails words a b) kind n bytes
+runs_as_read volume source s u out words words' a b kind n bytes is runs = subst (λ (w : Result Command ℕ). Runs volume (IsTold volume source w) s u out w (SourceFails w a b) kind n bytes) (sym is) runs
 
 pub leaves_as_read : (volume : Type 0) (s u : State) (words words' : Result Command ℕ) (kind : Kind) → words ≡ words' → Leaves volume s u words' kind → Leaves volume s u words kind
 leaves_as_read volume s u words words' kind is leaves = subst (λ (w : Result Command ℕ). Leaves volume s u w kind) (sym is) leaves

@@ -7,13 +7,12 @@ use Rattle.mi_base.specs.declared.answers.Cause.{Cause}
 use Rattle.mi_base.specs.declared.answers.Cause.TheVariants.{BadWords, VolumeFault, BadRollback, RecoveryFull, BadImage, SourceFault}
 use Rattle.mi_base.specs.declared.answers.Kind.{Kind}
 use Rattle.mi_base.specs.declared.answers.Kind.TheVariants.{Done, Listed, Recovered, Refused, Suspended, NoMemory}
-use Rattle.mi_model.specs.Causes.{SameCount, AnswersWords, Caused, CausedRefusal, Completes}
+use Rattle.mi_model.specs.Causes.{SameCount, Caused, CausedRefusal, Completes}
 use Rattle.mi_model.specs.Logs.{WritesFront, Logs}
 use Rattle.mi_model.specs.PackageOutcome.{Outcome, kind_of}
-use Rattle.mi_model.specs.Words.{Command, Package, Selftest, Clients, Products, Recover}
-use Rattle.mi_engine.specs.Answers.{IsTold, IsStill, MeetsFull, IsOwn, Begins}
+use Rattle.mi_model.specs.Words.{Command}
+use Rattle.mi_engine.specs.Answers.{IsTold, IsStill, SourceFails, IsOwn, Begins}
 use Rattle.mi_engine.specs.Replies.{Says}
-use Rattle.mi_engine.proofs.WordLemmas.{IsBuilt}
 
 -- ---- what is written
 
@@ -65,42 +64,33 @@ fault_rose s u rose same = grind (arith, rose.rose, same.0, same.1)
 source_rose : (n m : ℕ) → counts.Rose n m → SameCount n m → ⊥
 source_rose n m rose same = grind (arith, rose.rose, same.0, same.1)
 
--- a fault of the source comes only where the words ask for a package
-no_source_fault : (source : Type 0) (words : Result Command ℕ) (n m : ℕ) → IsBuilt words → AnswersWords words (Refused SourceFault) → IsStill source words n m → counts.Rose n m → ⊥
-no_source_fault source (Ok (Package recorded folder words)) n m built is still rose = source_rose n m rose (still tt).1
-no_source_fault source (Ok (Selftest files words)) n m built is still rose = built
-no_source_fault source (Ok Clients) n m built is still rose = is
-no_source_fault source (Ok Products) n m built is still rose = is
-no_source_fault source (Ok Recover) n m built is still rose = is
-no_source_fault source (Err place) n m built (inl is) still rose = let clash : Refused SourceFault ≡ Refused (BadWords place) = is in cc
-no_source_fault source (Err place) n m built (inr is) still rose = let clash : Refused SourceFault ≡ NoMemory = is in cc
+-- a fault of the source comes only where the words ask for a package of it
+no_source_fault : (source : Type 0) (words : Result Command ℕ) (n m : ℕ) → IsStill source words n m → SourceFails words n m → ⊥
+no_source_fault source words n m still fails = source_rose n m fails.1 (still fails.0).1
 
-module _ (volume source : Type 0) (s u : State) (out : Outcome) (words : Result Command ℕ) (n m : ℕ) (v : volume) (same : SameCount s.faults u.faults) (still : IsStill source words n m) (built : IsBuilt words) where
+module _ (volume source : Type 0) (s u : State) (out : Outcome) (words : Result Command ℕ) (n m : ℕ) (v : volume) (same : SameCount s.faults u.faults) (still : IsStill source words n m) where
   told : IsTold volume source words
   told = (v, λ asks. (still asks).0)
 
   abbrev fails : Type 0
-  fails = counts.Rose n m
+  fails = SourceFails words n m
 
   module _ (reached : ℕ) where
     decided : (kind : Kind) → IsOwn kind → kind ≡ kind_of out.end → (IsTold volume source words → Begins out reached kind) → Completes out kind reached
     decided kind own is begins = inl (is, (begins told).own own)
 
-    refused : (cause : Cause) → AnswersWords words (Refused cause) → (IsTold volume source words → Begins out reached (Refused cause)) → CausedRefusal volume (IsTold volume source words) out (Rose s u) fails cause → Completes out (Refused cause) reached
-    refused VolumeFault answers begins c = absurd (fault_rose s u c same)
-    refused SourceFault answers begins c = absurd (no_source_fault source words n m built answers still c)
-    refused (BadRollback name) answers begins c = decided (Refused (BadRollback name)) tt (sym (ap kind_of (c v))) begins
-    refused (RecoveryFull name) answers begins c = decided (Refused (RecoveryFull name)) tt (sym (ap kind_of (c v))) begins
-    refused (BadImage name) answers begins c = decided (Refused (BadImage name)) tt (sym (ap kind_of (c v))) begins
-    refused other answers begins c = decided (Refused other) tt (sym (ap kind_of (c told))) begins
+    refused : (cause : Cause) → (IsTold volume source words → Begins out reached (Refused cause)) → CausedRefusal volume (IsTold volume source words) out (Rose s u) fails cause → Completes out (Refused cause) reached
+    refused VolumeFault begins c = absurd (fault_rose s u c same)
+    refused SourceFault begins c = absurd (no_source_fault source words n m still c)
+    refused (BadRollback name) begins c = decided (Refused (BadRollback name)) tt (sym (ap kind_of (c v))) begins
+    refused (RecoveryFull name) begins c = decided (Refused (RecoveryFull name)) tt (sym (ap kind_of (c v))) begins
+    refused (BadImage name) begins c = decided (Refused (BadImage name)) tt (sym (ap kind_of (c v))) begins
+    refused other begins c = decided (Refused other) tt (sym (ap kind_of (c told))) begins
 
-    by_cause : (kind : Kind) → AnswersWords words kind → (IsTold volume source words → Begins out reached kind) → Caused s.faults u.faults volume (IsTold volume source words) out (Rose s u) fails kind → Completes out kind reached
-    by_cause Done answers begins c = decided Done tt (sym (ap kind_of (c told).1)) begins
-    by_cause Listed answers begins c = decided Listed tt (sym (ap kind_of (c v).1)) begins
-    by_cause (Recovered settled) answers begins c = decided (Recovered settled) tt (sym (ap kind_of (c v))) begins
-    by_cause (Refused cause) answers begins c = refused cause answers begins c
-    by_cause (Suspended pause) answers begins c = absurd (grind (arith, c.entry, c.between, c.exit, c.rose, same.0, same.1))
-    by_cause NoMemory answers begins c = inr refl
-
-  pub completes : (kind : Kind) (reached : ℕ) → AnswersWords words kind → (IsTold volume source words → Begins out reached kind) → MeetsFull (IsTold volume source words) s out fails kind ⊎ Caused s.faults u.faults volume (IsTold volume source words) out (Rose s u) fails kind → MeetsFull (IsTold volume source words) s out fails kind ⊎ Completes out kind reached
-  completes kind reached answers begins = ⊎_elim (λ full. inl full) (λ c. inr (by_cause reached kind answers begins c))
+    pub completes : (kind : Kind) → (IsTold volume source words → Begins out reached kind) → Caused s.faults u.faults volume (IsTold volume source words) out (Rose s u) fails kind → Completes out kind reached
+    completes Done begins c = decided Done tt (sym (ap kind_of (c told).1)) begins
+    completes Listed begins c = decided Listed tt (sym (ap kind_of (c v).1)) begins
+    completes (Recovered settled) begins c = decided (Recovered settled) tt (sym (ap kind_of (c v))) begins
+    completes (Refused cause) begins c = refused cause begins c
+    completes (Suspended pause) begins c = absurd (grind (arith, c.entry, c.between, c.exit, c.rose, same.0, same.1))
+    completes NoMemory begins c = inr refl

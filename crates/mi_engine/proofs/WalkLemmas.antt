@@ -1,6 +1,5 @@
 -- What a planned walk that was carried out leaves on a settled volume.
 use Rattle.std.proofs.Common.{◌≡◌, ◌⊎◌, inl, inr, ⊎_elim, ℕ, ◌≤◌, arith, min, Bool, true, false, List, [], ◌∷◌, length, map, Option, Some, None, Ok, refl, sym, ap, subst, ◌∙◌}
-use Rattle.std.specs.Prelude.{IsNone, IsSome}
 use Rattle.std.specs.List.{All}
 use Rattle.std.proofs.lemmas.List.Elements.{All-map}
 use Rattle.mi_script.specs.declared.rec.Rec.{Rec}
@@ -15,6 +14,7 @@ use Rattle.mi_source.specs.Paths.{Files}
 use Rattle.mi_source.specs.Counts as counts
 use Rattle.mi_undo.specs.Stands.{StandsFor, outside}
 use Rattle.mi_undo.specs.Keeps.{Each, IsFree}
+use Rattle.mi_undo.specs.Room.{NeverShort}
 use Rattle.mi_base.specs.Machine.{Machine, volume_of}
 use Rattle.mi_base.specs.declared.answers.Fault.{Fault}
 use Rattle.mi_base.specs.declared.answers.Fault.TheVariants.{SizeDiffers}
@@ -26,10 +26,10 @@ use Rattle.mi_base.specs.declared.answers.Kind.{Kind}
 use Rattle.mi_base.specs.declared.answers.Kind.TheVariants.{Done, Listed, Recovered, Refused, Suspended, NoMemory}
 use Rattle.mi_model.specs.World.{Given}
 use Rattle.mi_model.specs.Assignments.{Assigned}
-use Rattle.mi_model.specs.Walk.{Part, Walked, walk, last_machine}
+use Rattle.mi_model.specs.Walk.{walk, last_machine}
 use Rattle.mi_model.specs.Plans.{Planned}
 use Rattle.mi_model.specs.Planning.{IsPlan}
-use Rattle.mi_model.specs.PackageOutcome.{Outcome, whole, by_refusal, by_parts, of_walk}
+use Rattle.mi_model.specs.PackageOutcome.{Outcome, whole, by_refusal}
 use Rattle.mi_model.specs.PackageOutcome as o
 use Rattle.mi_model.specs.Words.{Package, walks}
 use Rattle.mi_model.specs.Causes.{BelowCount, IsDone, IsRefused, CausedRefusal, Met, Caused, AnswersCommand, IsNotWords}
@@ -42,23 +42,13 @@ use Rattle.mi_report.specs.WalkLogs as report
 use Rattle.mi_carry.specs.Segments.{after_segments}
 use Rattle.mi_carry.specs.Ends as carry
 use Rattle.mi_carry.specs.Causes as carried
-use Rattle.mi_engine.specs.Answers.{IsTold, MeetsFull, IsOwnCause, Begins}
-use Rattle.mi_engine.specs.declared.reply.Reply.{Reply}
-use Rattle.mi_engine.specs.Replies.{log_in, log_of, WantsMemory, SettledReads, Serves}
+use Rattle.mi_engine.specs.Answers.{IsTold, IsOwnCause, Begins}
+use Rattle.mi_engine.specs.Looks.{Looks}
+use Rattle.mi_engine.specs.Replies.{SettledReads, Serves}
 use Rattle.mi_plan.specs.Refusals.{IsWalkCause, IsWalkRefusal}
 use Rattle.mi_engine.specs.Walks.{is_sized_fault, is_sized, IsSized, SaysKind, MayClose}
-use Rattle.mi_engine.proofs.LookLemmas.{looks_none}
-use Rattle.mi_engine.proofs.QuietLemmas.{says_whole, memory_begins, memory_log, replied}
-
--- ---- the outcome of a walk for which no room is asked
-
-by_all : (w : Walked) (parts : List Part) → by_parts None w parts ≡ whole w
-by_all w [] = refl
-by_all w (p ∷ parts) = refl
-
-pub walk_whole : (w : Walked) → of_walk None w ≡ whole w
-unfolding of_walk
-walk_whole w = by_all w w.parts
+use Rattle.mi_engine.proofs.QuietLemmas.{says_whole, quiet_serves}
+use Rattle.mi_engine.proofs.RoomLemmas.{IsFull}
 
 -- the map behind the planned segments of a walk
 pub walk_makes : (files : Files) (g : Given) (names : List Name) (plans : List Planned) (refusal : Option Cause) (F : Map) → IsPlan files (walk g) names plans refusal → volume_of g.former ≡ F → after_segments files F plans ≡ volume_of (last_machine (walk g))
@@ -104,7 +94,7 @@ may_close told room s refusal begun reached n m NoMemory c = inl tt
 -- ---- carried out over a settled volume: f and h are the source's counts
 
 module _ (volume source : Type 0) (recorded : Bool) (folder : Name) (sets : Assigned) (found : Settled) (f h : ℕ) (files : Files) (s u : State) (g : Given) (out : Outcome) (names : List Name) (plans : List Planned) (refusal : Option Cause)
-    (plan : volume → source → (out ≡ of_walk None (walk g)) × IsPlan files (walk g) names plans refusal) (former : volume → volume_of g.former ≡ s.held) (is_walk : IsWalkRefusal refusal) (differs : List ℕ → ℕ → ℕ → Type 0) (untells : (file : List ℕ) (stated size : ℕ) → differs file stated size → source → ⊥) where
+    (plan : volume → source → (out ≡ whole (walk g)) × IsPlan files (walk g) names plans refusal) (former : volume → volume_of g.former ≡ s.held) (is_walk : IsWalkRefusal refusal) (differs : List ℕ → ℕ → ℕ → Type 0) (untells : (file : List ℕ) (stated size : ℕ) → differs file stated size → source → ⊥) (room : Type 0) (has : room) (recovers : volume → GoesOn s u (NeverShort s.capacity)) where
   abbrev told : Type 0
   told = IsTold volume source (Ok (Package recorded folder sets))
 
@@ -120,7 +110,7 @@ module _ (volume source : Type 0) (recorded : Bool) (folder : Name) (sets : Assi
   -- ---- the outcome
 
   out_whole : told → out ≡ whole (walk g)
-  out_whole t = (plan t.0 (sources t)).0 ∙ walk_whole (walk g)
+  out_whole t = (plan t.0 (sources t)).0
 
   out_end : told → out.end ≡ by_refusal (walk g) refusal
   out_end t = ap (λ (x : Outcome). x.end) (out_whole t) ∙ ap (by_refusal (walk g)) (plan t.0 (sources t)).1.refusal
@@ -162,7 +152,7 @@ module _ (volume source : Type 0) (recorded : Bool) (folder : Name) (sets : Assi
 
   module _ (reached : ℕ) where
     abbrev caused_so : Kind → Type 0
-    caused_so kind = carried.Caused differs (IsNone s.capacity) (BelowCount f h) refusal (length names) reached s.faults u.faults kind
+    caused_so kind = carried.Caused differs room (BelowCount f h) refusal (length names) reached s.faults u.faults kind
 
     reads : (kind : Kind) (m : Map) → caused_so kind → carry.Reads source s.held A kind (outside m) → SettledReads told s.held out kind m
     reads Done m c at = λ t. let made = makes t c.0 in (made.0, made.1, at (sources t) ∙ made.2)
@@ -207,72 +197,36 @@ module _ (volume source : Type 0) (recorded : Bool) (folder : Name) (sets : Assi
     device_met fell v (Table fault) le falls met = untold v (BelowCount f h) fault met
     device_met fell v other le falls met = absurd met
 
-    device_refused : IsNone s.capacity → s.faults ≤ u.faults → f ≤ h → (cause : Cause) → carried.IsMet differs (IsNone s.capacity → BelowCount s.faults u.faults) (BelowCount f h) cause → CausedRefusal volume told out (Rose s u) fails cause
-    device_refused none le less VolumeFault met = below_rose le (met none)
-    device_refused none le less SourceFault met = source_rose less met
-    device_refused none le less (Table fault) met = untold (IsNone s.capacity → BelowCount s.faults u.faults) (BelowCount f h) fault met
-    device_refused none le less other met = absurd met
+    device_refused : s.faults ≤ u.faults → f ≤ h → (cause : Cause) → carried.IsMet differs (room → BelowCount s.faults u.faults) (BelowCount f h) cause → CausedRefusal volume told out (Rose s u) fails cause
+    device_refused le less VolumeFault met = below_rose le (met has)
+    device_refused le less SourceFault met = source_rose less met
+    device_refused le less (Table fault) met = untold (room → BelowCount s.faults u.faults) (BelowCount f h) fault met
+    device_refused le less other met = absurd met
 
-    -- where no capacity is told
-    paused_free : (place : Place) (why : Option Cause) (begun again : ℕ) → IsNone s.capacity → f ≤ h → caused_so (Suspended (record { place = place; why = why; begun = begun; again = again }))
+    paused_so : (place : Place) (why : Option Cause) (begun again : ℕ) → f ≤ h → caused_so (Suspended (record { place = place; why = why; begun = begun; again = again }))
         → Caused s.faults u.faults volume told out (Rose s u) fails (Suspended (record { place = place; why = why; begun = begun; again = again }))
-    paused_free InRollback None begun again none less p = absurd p.met
-    paused_free InRollback (Some cause) begun again none less p = record {
+    paused_so InRollback None begun again less p = absurd p.met
+    paused_so InRollback (Some cause) begun again less p = record {
       entry = p.entry;
       between = p.between;
       exit = p.exit;
-      rose = p.rose none;
-      met = ⊎_elim (λ own. own_met (BelowCount begun again) cause (own_cause cause own.0) (λ t. refuses t cause own.0)) (λ met. device_met (BelowCount begun again) (IsNone s.capacity → BelowCount begun again) cause less (λ x. x none) met) p.met;
+      rose = p.rose has;
+      met = ⊎_elim (λ own. own_met (BelowCount begun again) cause (own_cause cause own.0) (λ t. refuses t cause own.0)) (λ met. device_met (BelowCount begun again) (room → BelowCount begun again) cause less (λ x. x has) met) p.met;
     }
-    paused_free InCommit why begun again none less p = record { entry = p.entry; between = p.between; exit = p.exit; rose = p.rose; met = (p.met.0, p.met.1, λ t. done t p.met.2) }
+    paused_so InCommit why begun again less p = record { entry = p.entry; between = p.between; exit = p.exit; rose = p.rose; met = (p.met.0, p.met.1, λ t. done t p.met.2) }
 
-    caused_free : IsNone s.capacity → s.faults ≤ u.faults → f ≤ h → (kind : Kind) → caused_so kind → Caused s.faults u.faults volume told out (Rose s u) fails kind
-    caused_free none le less Done c = λ t. done t c.0
-    caused_free none le less Listed c = absurd c
-    caused_free none le less (Recovered settled) c = absurd c
-    caused_free none le less (Refused cause) (inl own) = own_refused cause (own_cause cause own.0) (λ t. refuses t cause own.0)
-    caused_free none le less (Refused cause) (inr met) = device_refused none le less cause met
-    caused_free none le less (Suspended pause) c = paused_free pause.place pause.why pause.begun pause.again none less c
-    caused_free none le less NoMemory c = tt
-
-    -- and where one is
-    abbrev Either : Kind → Type 0
-    Either kind = MeetsFull told s out fails kind ⊎ Caused s.faults u.faults volume told out (Rose s u) fails kind
-
-    walked : told → (x : Given) × (out ≡ of_walk None (walk x))
-    walked t = (g, (plan t.0 (sources t)).0)
-
-    paused_limited : (place : Place) (why : Option Cause) (begun again : ℕ) → IsSome s.capacity → f ≤ h → caused_so (Suspended (record { place = place; why = why; begun = begun; again = again })) → Either (Suspended (record { place = place; why = why; begun = begun; again = again }))
-    paused_limited InRollback None begun again limited less p = absurd p.met
-    paused_limited InRollback (Some cause) begun again limited less p = inl (record {
-      limited = limited;
-      walks = walked;
-      is = ⊎_elim (λ own. own_met (Unit {0}) cause (own_cause cause own.0) (λ t. refuses t cause own.0)) (λ met. device_met (Unit {0}) (IsNone s.capacity → BelowCount begun again) cause less (λ x. tt) met) p.met;
-    })
-    paused_limited InCommit why begun again limited less p = inr (record { entry = p.entry; between = p.between; exit = p.exit; rose = p.rose; met = (p.met.0, p.met.1, λ t. done t p.met.2) })
-
-    refused_limited : IsSome s.capacity → f ≤ h → (cause : Cause) → carried.IsMet differs (IsNone s.capacity → BelowCount s.faults u.faults) (BelowCount f h) cause → Either (Refused cause)
-    refused_limited limited less VolumeFault met = inl (record { limited = limited; walks = walked; is = tt })
-    refused_limited limited less SourceFault met = inr (source_rose less met)
-    refused_limited limited less (Table fault) met = inr (untold (IsNone s.capacity → BelowCount s.faults u.faults) (BelowCount f h) fault met)
-    refused_limited limited less other met = absurd met
-
-    caused_limited : IsSome s.capacity → f ≤ h → (kind : Kind) → caused_so kind → Either kind
-    caused_limited limited less Done c = inr (λ t. done t c.0)
-    caused_limited limited less Listed c = absurd c
-    caused_limited limited less (Recovered settled) c = absurd c
-    caused_limited limited less (Refused cause) (inl own) = inr (own_refused cause (own_cause cause own.0) (λ t. refuses t cause own.0))
-    caused_limited limited less (Refused cause) (inr met) = refused_limited limited less cause met
-    caused_limited limited less (Suspended pause) c = paused_limited pause.place pause.why pause.begun pause.again limited less c
-    caused_limited limited less NoMemory c = inr tt
-
-    caused_either : (capacity : Option ℕ) → s.capacity ≡ capacity → s.faults ≤ u.faults → f ≤ h → (kind : Kind) → caused_so kind → Either kind
-    caused_either None is le less kind c = inr (caused_free (subst (λ (x : Option ℕ). IsNone x) (sym is) refl) le less kind c)
-    caused_either (Some n) is le less kind c = caused_limited (subst (λ (x : Option ℕ). IsSome x) (sym is) refl) less kind c
+    caused : s.faults ≤ u.faults → f ≤ h → (kind : Kind) → caused_so kind → Caused s.faults u.faults volume told out (Rose s u) fails kind
+    caused le less Done c = λ t. done t c.0
+    caused le less Listed c = absurd c
+    caused le less (Recovered settled) c = absurd c
+    caused le less (Refused cause) (inl own) = own_refused cause (own_cause cause own.0) (λ t. refuses t cause own.0)
+    caused le less (Refused cause) (inr met) = device_refused le less cause met
+    caused le less (Suspended pause) c = paused_so pause.place pause.why pause.begun pause.again less c
+    caused le less NoMemory c = tt
 
     -- ---- answers, begun actions and the log
 
-    not_words : (cause : Cause) → carried.MayRefuse differs (IsNone s.capacity) (BelowCount f h) refusal (length names) reached (BelowCount s.faults u.faults) cause → IsNotWords cause
+    not_words : (cause : Cause) → carried.MayRefuse differs room (BelowCount f h) refusal (length names) reached (BelowCount s.faults u.faults) cause → IsNotWords cause
     not_words (BadWords place) (inl own) = absurd (own_cause (BadWords place) own.0)
     not_words (BadWords place) (inr met) = absurd met
     not_words other c = tt
@@ -303,11 +257,11 @@ module _ (volume source : Type 0) (recorded : Bool) (folder : Name) (sets : Assi
     begins Listed c t = absurd c
     begins (Recovered settled) c t = absurd c
     begins (Refused cause) (inl own) t = record { own = λ is. all_begun t own.1; most = most_begun t }
-    begins (Refused cause) (inr met) t = record { own = λ is. absurd (device_own (IsNone s.capacity → BelowCount s.faults u.faults) cause t met is); most = most_begun t }
+    begins (Refused cause) (inr met) t = record { own = λ is. absurd (device_own (room → BelowCount s.faults u.faults) cause t met is); most = most_begun t }
     begins (Suspended pause) c t = record { own = λ own. absurd own; most = most_begun t }
     begins NoMemory c t = record { own = λ own. absurd own; most = most_begun t }
 
-    tells_refusal : (cause : Cause) → carried.MayRefuse differs (IsNone s.capacity) (BelowCount f h) refusal (length names) reached (BelowCount s.faults u.faults) cause → RefusalTells (λ x. x ≡ found) cause found
+    tells_refusal : (cause : Cause) → carried.MayRefuse differs room (BelowCount f h) refusal (length names) reached (BelowCount s.faults u.faults) cause → RefusalTells (λ x. x ≡ found) cause found
     tells_refusal VolumeFault c = inl refl
     tells_refusal (BadWords place) (inl own) = absurd (own_cause (BadWords place) own.0)
     tells_refusal (BadWords place) (inr met) = absurd met
@@ -336,7 +290,8 @@ module _ (volume source : Type 0) (recorded : Bool) (folder : Name) (sets : Assi
       leaves = λ v d image. at_exit kind d (leaves v d image);
       reads = λ v. reads kind u.held c (at v);
       cleans = cleans;
-      caused = caused_either s.capacity refl le less kind c;
+      recovers = recovers;
+      caused = caused le less kind c;
       answers = answers kind c;
       begins = begins kind c;
       log = says_whole (IsLog volume told (λ x. x ≡ found) true out kind (min reached (length names))) kind bytes bytes refl (log kind (min reached (length names)) bytes c is);
@@ -385,11 +340,41 @@ module _ (volume source : Type 0) (recorded : Bool) (folder : Name) (sets : Assi
 pub all_kept : (P : List Rec → Type 0) (segments : List Segment) (kept : List Planned) → kept ≡ map as_planned segments → All (λ (s : Segment). P s.script) segments → All (λ (s : Planned). P s.records) kept
 all_kept P segments kept is all = subst (λ (l : List Planned). All (λ (s : Planned). P s.records) l) (sym is) (All-map (λ (s : Planned). P s.records) as_planned segments all)
 
--- want of memory before the first write
-pub unready_serves : (volume told : Type 0) (s : State) (out : Outcome) (recorded : Bool) (folder : Name) (sets : Assigned) (found : Settled) (source_fails : Type 0) → (volume → IsFree s) → (r : Reply) → WantsMemory true r → r.reached ≡ 0
-    → Serves volume told s s out (Package recorded folder sets) (λ x. x ≡ found) source_fails r.kind r.reached (log_in r)
-unready_serves volume told s out recorded folder sets found source_fails free r wants none =
-    replied volume told s s out (Package recorded folder sets) (λ x. x ≡ found) found refl source_fails free (λ v. looks_none s) NoMemory (log_of true found NoMemory) r tt tt tt (λ t. memory_begins out) (memory_log volume told (λ x. x ≡ found) true out found refl) (inr wants) none
+-- ---- too little room
+
+module _ (volume source : Type 0) (recorded : Bool) (folder : Name) (sets : Assigned) (found : Settled) (fails : Type 0) (s t : State) (out : Outcome) (names : List Name) (lacks free n : ℕ)
+    (is_free : volume → IsFree s) (looks : volume → Looks s t) (full : volume → source → IsFull out lacks free names n) (le : n ≤ length names) where
+  abbrev full_told : Type 0
+  full_told = IsTold volume source (Ok (Package recorded folder sets))
+
+  full_at : full_told → IsFull out lacks free names n
+  full_at t = full t.0 (t.1 tt)
+
+  full_most : full_told → n ≤ length out.begun
+  full_most t = let same = ap (λ (ns : List Name). length ns) (full_at t).begun in omega (arith, same, le)
+
+  abbrev IsFullLog : Kind → List ℕ → Type 0
+  IsFullLog kind = IsLog volume full_told (λ x. x ≡ found) true out kind n
+
+  pub full_serves : (kind : Kind) (bytes : List ℕ) → (kind ≡ Refused (Full lacks free)) ⊎ (kind ≡ NoMemory) → bytes ≡ report_of kind found true names n
+      → Serves volume full_told s t out (Package recorded folder sets) (λ x. x ≡ found) fails kind n bytes
+  full_serves kind bytes which log_is = ⊎_elim (λ e. at (Refused (Full lacks free)) e (refused (log_at (Refused (Full lacks free)) e))) (λ e. at NoMemory e (wants (log_at NoMemory e))) which
+    where
+      log_at : (k : Kind) → kind ≡ k → bytes ≡ report_of k found true names n
+      log_at k e = log_is ∙ ap (λ (x : Kind). report_of x found true names n) e
+
+      at : (k : Kind) → kind ≡ k → Serves volume full_told s t out (Package recorded folder sets) (λ x. x ≡ found) fails k n bytes → Serves volume full_told s t out (Package recorded folder sets) (λ x. x ≡ found) fails kind n bytes
+      at k e serves = subst (λ (x : Kind). Serves volume full_told s t out (Package recorded folder sets) (λ y. y ≡ found) fails x n bytes) (sym e) serves
+
+      refused : bytes ≡ report_of (Refused (Full lacks free)) found true names n → Serves volume full_told s t out (Package recorded folder sets) (λ x. x ≡ found) fails (Refused (Full lacks free)) n bytes
+      refused log = quiet_serves volume full_told s t out (Package recorded folder sets) (λ x. x ≡ found) found refl fails is_free looks (Refused (Full lacks free)) n bytes tt (λ t. (full_at t).end) tt
+          (λ t. record { own = λ own. sym (full_at t).reached; most = full_most t })
+          (says_whole (IsFullLog (Refused (Full lacks free))) (Refused (Full lacks free)) bytes bytes refl (record { settled = found; begun = names; tells = refl; begins = λ t. sym (full_at t).begun; is = log }))
+
+      wants : bytes ≡ report_of NoMemory found true names n → Serves volume full_told s t out (Package recorded folder sets) (λ x. x ≡ found) fails NoMemory n bytes
+      wants log = quiet_serves volume full_told s t out (Package recorded folder sets) (λ x. x ≡ found) found refl fails is_free looks NoMemory n bytes tt tt tt
+          (λ t. record { own = λ own. absurd own; most = full_most t })
+          (says_whole (IsFullLog NoMemory) NoMemory bytes bytes refl (record { settled = found; begun = names; tells = refl; begins = λ t. sym (full_at t).begun; is = log }))
 
 -- ---- the log behind the walk
 

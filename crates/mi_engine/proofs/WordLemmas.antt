@@ -1,81 +1,141 @@
--- The words of the command line, as far as they are carried out.
-use Rattle.std.proofs.Common.{◌≡◌, ℕ, Bool, true, false, cond, List, [], ◌∷◌, ◌++◌, length, drop, Result, Ok, Err, refl, ◌∙◌}
-use Rattle.std.specs.Prelude.{◌==◌, codes}
+-- Words ask only for what may be asked for.
+use Rattle.std.proofs.Common.{◌≡◌, ℕ, ◌+◌, ◌*◌, ◌-◌, ◌≤◌, ◌&&◌, Bool, true, false, cond, arith, List, [], ◌∷◌, ◌++◌, map, Option, Some, None, Result, Ok, Err, refl, ap, subst, ◌∙◌}
+use Rattle.std.specs.Prelude.{◌==◌, not, nat_le, codes, filter, length, drop}
 use Rattle.std.specs.Str.{bytes_eq}
+use Rattle.std.proofs.lemmas.Bool.Decides.{nat_tests}
+use Rattle.std.proofs.lemmas.List.Folds.{list_all-append}
 use Rattle.mi_text.specs.Fold.{folded}
+use Rattle.mi_text.specs.Maps.{Name}
+use Rattle.mi_text.specs.PropertyNames.{is_public_name}
+use Rattle.mi_idt.specs.Fields.{is_digit, within_on}
+use Rattle.mi_props.specs.Props.{Value, all_names}
 use Rattle.mi_model.specs.Texts.{Text}
-use Rattle.mi_model.specs.Assignments.{Assigned, Placed, kept_words, assignments, with_words}
-use Rattle.mi_engine.specs.StageOutcome.{unless_test, command_of}
-use Rattle.mi_model.specs.Words as words
-use Rattle.mi_model.specs.Words.{Command, Package, Selftest, Clients, Products, Recover, package_in, selftest_in, alone, is_repair, repair_sets, command_in, command_of_kept}
+use Rattle.mi_model.specs.Assignments.{Assigned, Placed, name_in, is_assignment, assigned, kept_words, unless_other, assignments, with_words}
+use Rattle.mi_model.specs.Words.{Command, Package, Selftest, Clients, Products, Recover, package_in, selftest_in, sized_test, test_size, alone, is_repair, repair_sets, command_in, command_of_kept, command_of}
+use Rattle.mi_words.specs.Asked.{asked}
+use Rattle.mi_words.specs.declared.command.Command as read
+use Rattle.mi_words.specs.declared.command.Command.TheVariants as variant
+use Rattle.mi_engine.specs.Asked.{MayAsk}
+use Rattle.mi_engine.specs.Calls.{sets_of}
+use Rattle.mi_engine.proofs.FirstLemmas.{first, both_true}
 
--- no words ask for the package for tests
-abbrev pub IsBuilt : Result Command ℕ → Type 0
-IsBuilt (Ok (Selftest files words)) = ⊥
-IsBuilt other = Unit {0}
+second : (a b : Bool) → (a && b) ≡ true → b ≡ true
+second true b is = is
+second false b is = absurd cc
 
-package_built : (recorded : Bool) (folder : Text) (sets : Assigned) (r : Result Assigned ℕ) → IsBuilt (with_words r (λ words. Package recorded folder (words ++ sets)))
-package_built recorded folder sets (Ok words) = tt
-package_built recorded folder sets (Err place) = tt
+-- what holds of a command of any words
+abbrev Granted : Result Command ℕ → Type 0
+Granted (Ok (Package recorded folder sets)) = all_names is_public_name sets ≡ true
+Granted (Ok (Selftest n sets)) = (1 ≤ n) × (n ≤ 5000) × (all_names is_public_name sets ≡ true)
+Granted other = Unit {0}
 
-in_folder : (all : ℕ) (recorded : Bool) (sets : Assigned) (rest : List Placed) → IsBuilt (package_in all recorded sets rest)
-in_folder all recorded sets [] = tt
-in_folder all recorded sets (w ∷ rest) = by_length (length w.1 == 0)
+-- ---- properties
+
+one_assigns : (w : Placed) (rest left : List Placed) (b : Bool) → is_assignment w.1 ≡ b → (left ≡ [] → all_names is_public_name (map (λ (v : Placed). assigned v.1) rest) ≡ true) → cond (not b) (w ∷ left) left ≡ [] → all_names is_public_name (map (λ (v : Placed). assigned v.1) (w ∷ rest)) ≡ true
+one_assigns w rest left true is more none = both_true (is_public_name (name_in w.1)) (all_names is_public_name (map (λ (v : Placed). assigned v.1) rest)) (first (is_public_name (name_in w.1)) _ is) (more none)
+one_assigns w rest left false is more none = absurd cc
+
+all_assign : (rest : List Placed) → filter (λ (w : Placed). not (is_assignment w.1)) rest ≡ [] → all_names is_public_name (map (λ (w : Placed). assigned w.1) rest) ≡ true
+all_assign [] none = refl
+all_assign (w ∷ rest) none = one_assigns w rest (filter (λ (v : Placed). not (is_assignment v.1)) rest) (is_assignment w.1) refl (λ left. all_assign rest left) none
+
+in_package : (recorded : Bool) (folder : Text) (sets : Assigned) → all_names is_public_name sets ≡ true → (rest others : List Placed) → filter (λ (w : Placed). not (is_assignment w.1)) rest ≡ others
+    → Granted (with_words (unless_other others (map (λ (w : Placed). assigned w.1) rest)) (λ given. Package recorded folder (given ++ sets)))
+in_package recorded folder sets public rest [] is =
+    list_all-append (λ (p : Name × Value). is_public_name p.0) (map (λ (w : Placed). assigned w.1) rest) sets
+    ∙ both_true (all_names is_public_name (map (λ (w : Placed). assigned w.1) rest)) (all_names is_public_name sets) (all_assign rest is) public
+in_package recorded folder sets public rest (w ∷ others) is = tt
+
+in_folder : (all : ℕ) (recorded : Bool) (sets : Assigned) → all_names is_public_name sets ≡ true → (rest : List Placed) → Granted (package_in all recorded sets rest)
+in_folder all recorded sets public [] = tt
+in_folder all recorded sets public (w ∷ rest) = by_length (length w.1 == 0)
   where
-    by_length : (b : Bool) → IsBuilt (cond b (Err w.0) (with_words (assignments rest) (λ words. Package recorded w.1 (words ++ sets))))
+    by_length : (b : Bool) → Granted (cond b (Err w.0) (with_words (assignments rest) (λ given. Package recorded w.1 (given ++ sets))))
     by_length true = tt
-    by_length false = package_built recorded w.1 sets (assignments rest)
+    by_length false = in_package recorded w.1 sets public rest (filter (λ (v : Placed). not (is_assignment v.1)) rest) refl
 
-alone_built : (command : Command) (rest : List Placed) → IsBuilt (Ok command) → IsBuilt (alone command rest)
-alone_built command [] is = is
-alone_built command (w ∷ rest) is = tt
+repair_public : (letters : Text) → all_names is_public_name (repair_sets letters) ≡ true
+repair_public [] = refl
+repair_public (letter ∷ letters) = refl
 
--- each branch but that of `/selftest`
-one_of : (a b c d e f g : Bool) (u v w t x y z : Result Command ℕ) (place : ℕ) → d ≡ false → IsBuilt u → IsBuilt v → IsBuilt w → IsBuilt x → IsBuilt y → IsBuilt z
-    → IsBuilt (cond a u (cond b v (cond c w (cond d t (cond e x (cond f y (cond g z (Err place))))))))
-one_of true b c d e f g u v w t x y z place is is_u is_v is_w is_x is_y is_z = is_u
-one_of false true c d e f g u v w t x y z place is is_u is_v is_w is_x is_y is_z = is_v
-one_of false false true d e f g u v w t x y z place is is_u is_v is_w is_x is_y is_z = is_w
-one_of false false false true e f g u v w t x y z place is is_u is_v is_w is_x is_y is_z = absurd cc
-one_of false false false false true f g u v w t x y z place is is_u is_v is_w is_x is_y is_z = is_x
-one_of false false false false false true g u v w t x y z place is is_u is_v is_w is_x is_y is_z = is_y
-one_of false false false false false false true u v w t x y z place is is_u is_v is_w is_x is_y is_z = is_z
-one_of false false false false false false false u v w t x y z place is is_u is_v is_w is_x is_y is_z = tt
+-- ---- the package for tests
 
-in_word : (all place : ℕ) (word : Text) (rest : List Placed) → bytes_eq word (codes "/selftest") ≡ false → IsBuilt (command_in all place word rest)
-in_word all place word rest is =
+abbrev IsTestSize : Option ℕ → Type 0
+IsTestSize None = Unit {0}
+IsTestSize (Some n) = (1 ≤ n) × (n ≤ 5000)
+
+if_so : (b : Bool) (x : Option ℕ) → (b ≡ true → IsTestSize x) → IsTestSize (cond b x None)
+if_so true x is = is refl
+if_so false x is = tt
+
+small : (d n : ℕ) → (is_digit d && nat_le n 5000) ≡ true → n ≤ 5000
+small d n is = let le : nat_le n 5000 ≡ true = second (is_digit d) (nat_le n 5000) is in grind (arith, nat_tests, le)
+
+sized : (n : ℕ) (ds : Text) → 1 ≤ n → n ≤ 5000 → IsTestSize (within_on 5000 n ds)
+sized n [] some few = (some, few)
+sized n (d ∷ ds) some few = if_so (is_digit d && nat_le (n * 10 + (d - 48)) 5000) (within_on 5000 (n * 10 + (d - 48)) ds) (λ is. sized (n * 10 + (d - 48)) ds (omega (arith, some)) (small d (n * 10 + (d - 48)) is))
+
+not_zero : (d : ℕ) → (d == 48) ≡ false → is_digit d ≡ true → 1 ≤ d - 48
+not_zero d not is = let low : nat_le 48 d ≡ true = first (nat_le 48 d) (nat_le d 57) is in grind (arith, nat_tests, not, low)
+
+test_sizes : (word : Text) → IsTestSize (test_size word)
+test_sizes [] = tt
+test_sizes (d ∷ ds) = by_first (d == 48) refl
+  where
+    by_first : (b : Bool) → (d == 48) ≡ b → IsTestSize (cond b None (within_on 5000 0 (d ∷ ds)))
+    by_first true is = tt
+    by_first false is = if_so (is_digit d && nat_le (d - 48) 5000) (within_on 5000 (d - 48) ds) (λ both. sized (d - 48) ds (not_zero d is (first (is_digit d) _ both)) (small d (d - 48) both))
+
+test_words : (n : ℕ) → 1 ≤ n → n ≤ 5000 → (rest others : List Placed) → filter (λ (w : Placed). not (is_assignment w.1)) rest ≡ others → Granted (with_words (unless_other others (map (λ (w : Placed). assigned w.1) rest)) (Selftest n))
+test_words n some few rest [] is = (some, few, all_assign rest is)
+test_words n some few rest (w ∷ others) is = tt
+
+test_sized : (o : Option ℕ) (place : ℕ) (rest : List Placed) → IsTestSize o → Granted (sized_test o place rest)
+test_sized None place rest size = tt
+test_sized (Some n) place rest size = test_words n size.0 size.1 rest (filter (λ (v : Placed). not (is_assignment v.1)) rest) refl
+
+in_test : (all : ℕ) (rest : List Placed) → Granted (selftest_in all rest)
+in_test all [] = tt
+in_test all (w ∷ rest) = test_sized (test_size w.1) w.0 rest (test_sizes w.1)
+
+-- ---- any command
+
+alone_granted : (command : Command) (rest : List Placed) → Granted (Ok command) → Granted (alone command rest)
+alone_granted command [] is = is
+alone_granted command (w ∷ rest) is = tt
+
+one_of : (a b c d e f g : Bool) (s t u v x y z : Result Command ℕ) (place : ℕ) → Granted s → Granted t → Granted u → Granted v → Granted x → Granted y → Granted z
+    → Granted (cond a s (cond b t (cond c u (cond d v (cond e x (cond f y (cond g z (Err place))))))))
+one_of true b c d e f g s t u v x y z place is_s is_t is_u is_v is_x is_y is_z = is_s
+one_of false true c d e f g s t u v x y z place is_s is_t is_u is_v is_x is_y is_z = is_t
+one_of false false true d e f g s t u v x y z place is_s is_t is_u is_v is_x is_y is_z = is_u
+one_of false false false true e f g s t u v x y z place is_s is_t is_u is_v is_x is_y is_z = is_v
+one_of false false false false true f g s t u v x y z place is_s is_t is_u is_v is_x is_y is_z = is_x
+one_of false false false false false true g s t u v x y z place is_s is_t is_u is_v is_x is_y is_z = is_y
+one_of false false false false false false true s t u v x y z place is_s is_t is_u is_v is_x is_y is_z = is_z
+one_of false false false false false false false s t u v x y z place is_s is_t is_u is_v is_x is_y is_z = tt
+
+in_word : (all place : ℕ) (word : Text) (rest : List Placed) → Granted (command_in all place word rest)
+in_word all place word rest =
     one_of (bytes_eq word (codes "/i")) (bytes_eq word (codes "/x")) (is_repair word) (bytes_eq word (codes "/selftest")) (bytes_eq word (codes "/clients")) (bytes_eq word (codes "/products")) (bytes_eq word (codes "/recover"))
-    (package_in all false [] rest) (package_in all true ((codes "REMOVE", codes "ALL") ∷ []) rest) (package_in all true (repair_sets (drop 2 word)) rest) (selftest_in all rest) (alone Clients rest) (alone Products rest) (alone Recover rest) place is
-    (in_folder all false [] rest) (in_folder all true ((codes "REMOVE", codes "ALL") ∷ []) rest) (in_folder all true (repair_sets (drop 2 word)) rest) (alone_built Clients rest tt) (alone_built Products rest tt) (alone_built Recover rest tt)
+    (package_in all false [] rest) (package_in all true ((codes "REMOVE", codes "ALL") ∷ []) rest) (package_in all true (repair_sets (drop 2 word)) rest) (selftest_in all rest) (alone Clients rest) (alone Products rest) (alone Recover rest) place
+    (in_folder all false [] refl rest) (in_folder all true ((codes "REMOVE", codes "ALL") ∷ []) refl rest) (in_folder all true (repair_sets (drop 2 word)) (repair_public (drop 2 word)) rest) (in_test all rest) (alone_granted Clients rest tt) (alone_granted Products rest tt) (alone_granted Recover rest tt)
 
-in_kept : (all : ℕ) (kept : List Placed) → IsBuilt (unless_test kept (command_of_kept all kept))
+in_kept : (all : ℕ) (kept : List Placed) → Granted (command_of_kept all kept)
 in_kept all [] = tt
-in_kept all (w ∷ rest) = by_word (bytes_eq (folded w.1) (codes "/selftest")) refl
-  where
-    by_word : (b : Bool) → bytes_eq (folded w.1) (codes "/selftest") ≡ b → IsBuilt (cond b (Err w.0) (command_in all w.0 (folded w.1) rest))
-    by_word true is = tt
-    by_word false is = in_word all w.0 (folded w.1) rest is
+in_kept all (w ∷ rest) = in_word all w.0 (folded w.1) rest
 
-pub are_built : (asked : List Text) → IsBuilt (command_of asked)
-unfolding command_of words.command_of
-are_built asked = in_kept (length asked) (kept_words asked)
-
--- where the first word isn't `/selftest`, the words ask for what they ask for
-pub as_read : (asked : List Text) (found : Result Command ℕ) → unless_test (kept_words asked) (words.command_of asked) ≡ words.command_of asked → words.command_of asked ≡ found → command_of asked ≡ found
+are_granted : (words : List Text) → Granted (command_of words)
 unfolding command_of
-as_read asked found is read = is ∙ read
+are_granted words = in_kept (length words) (kept_words words)
 
-pub as_place : (asked : List Text) (place : ℕ) → ((found : Result Command ℕ) → unless_test (kept_words asked) found ≡ Err place) → command_of asked ≡ Err place
-unfolding command_of
-as_place asked place is = is (words.command_of asked)
+pub asked_may : (words : List Text) (c : read.Command) → command_of words ≡ Ok (asked c) → MayAsk c
+asked_may words (variant.Package p) is = subst Granted is (are_granted words)
+asked_may words (variant.Selftest t) is = let g = subst Granted is (are_granted words) in record { some = g.0; few = g.1; public = g.2 }
+asked_may words variant.Clients is = tt
+asked_may words variant.Products is = tt
+asked_may words variant.Recover is = tt
 
-pub never_test : (asked : List Text) (files : ℕ) (sets : Assigned) → command_of asked ≡ Ok (Selftest files sets) → ⊥
-never_test asked files sets is = subst_built (command_of asked) (are_built asked) is
-  where
-    subst_built : (r : Result Command ℕ) → IsBuilt r → r ≡ Ok (Selftest files sets) → ⊥
-    subst_built (Ok (Selftest n w)) built e = built
-    subst_built (Ok (Package recorded folder w)) built e = let clash : ◌≡◌ {A = Result Command ℕ} (Ok (Package recorded folder w)) (Ok (Selftest files sets)) = e in cc
-    subst_built (Ok Clients) built e = let clash : ◌≡◌ {A = Result Command ℕ} (Ok Clients) (Ok (Selftest files sets)) = e in cc
-    subst_built (Ok Products) built e = let clash : ◌≡◌ {A = Result Command ℕ} (Ok Products) (Ok (Selftest files sets)) = e in cc
-    subst_built (Ok Recover) built e = let clash : ◌≡◌ {A = Result Command ℕ} (Ok Recover) (Ok (Selftest files sets)) = e in cc
-    subst_built (Err place) built e = let clash : ◌≡◌ {A = Result Command ℕ} (Err place) (Ok (Selftest files sets)) = e in cc
+-- with none behind them
+pub public_with_none : (sets : Assigned) → all_names is_public_name sets ≡ true → all_names is_public_name (sets ++ []) ≡ true
+public_with_none sets public = list_all-append (λ (p : Name × Value). is_public_name p.0) sets [] ∙ both_true (all_names is_public_name sets) true public refl

@@ -1,5 +1,6 @@
 -- Why a package isn't walked over.
-use Rattle.std.specs.Prelude.{◌≡◌, ℕ, Bool, true, false, not, ◌&&◌, ◌++◌, map, Option, None, Some, Result, Ok, Err}
+use Rattle.std.specs.Prelude.{◌≡◌, ℕ, Bool, true, false, not, ◌&&◌, List, ◌++◌, map, Option, None, Some, Result, Ok, Err}
+use Rattle.mi_text.specs.Maps.{Name}
 use Rattle.mi_source.specs.Paths.{Files}
 use Rattle.mi_base.specs.declared.answers.Cause.{Cause}
 use Rattle.mi_base.specs.declared.answers.Cause.TheVariants.{VolumeFault, SourceFault, Table, UnknownProduct}
@@ -8,6 +9,9 @@ use Rattle.mi_schema.specs.declared.error.LoadError.TheVariants as load
 use Rattle.mi_plan.specs.declared.planned.WalkPlan.{WalkPlan}
 use Rattle.mi_plan.specs.Made.{as_planned}
 use Rattle.mi_model.specs.Planning.{IsPlan}
+use Rattle.mi_model.specs.Plans.{Planned}
+use Rattle.mi_model.specs.Plain.{ArePlain}
+use Rattle.mi_model.specs.Cost.{all_rows}
 use Rattle.mi_model.specs.World.{Given}
 use Rattle.mi_model.specs.Walk.{walk}
 use Rattle.mi_model.specs.PackageOutcome.{Outcome, Refused, only, of_walk}
@@ -74,15 +78,21 @@ CausedStop source volume_fails source_fails out (Refuse (Table fault)) = source 
 CausedStop source volume_fails source_fails out (Refuse (UnknownProduct code)) = source → out ≡ only (Refused (UnknownProduct code))
 CausedStop source volume_fails source_fails out (Refuse other) = ⊥
 
--- the whole walk is planned, and the outcome is its own
-pub record IsPlanned (files : Files) (g : Given) (out : Outcome) (plan : WalkPlan) : Type 0 where
-  pub is : out ≡ of_walk None (walk g)
-  pub whole : IsPlan files (walk g) plan.begun.items (map as_planned plan.segments.items) plan.refusal
+-- the whole walk is planned, by these begun actions, segments and refusal, no row of it changes a name twice, and the outcome is its own where
+-- so much room is free
+pub record IsCosted (files : Files) (free : Option ℕ) (g : Given) (out : Outcome) (names : List Name) (plans : List Planned) (refusal : Option Cause) : Type 0 where
+  pub is : out ≡ of_walk free (walk g)
+  pub plain : ArePlain g.former (all_rows (walk g).parts)
+  pub whole : IsPlan files (walk g) names plans refusal
+
+-- the same of a plan
+abbrev pub IsPlanned : Files → Option ℕ → Given → Outcome → WalkPlan → Type 0
+IsPlanned files free g out plan = IsCosted files free g out plan.begun.items (map as_planned plan.segments.items) plan.refusal
 
 -- `told` says that both devices are told
-abbrev pub Prepares : Type 0 → Type 0 → Type 0 → Type 0 → Files → Given → Outcome → Result WalkPlan Stop → Type 0
-Prepares told source volume_fails source_fails files g out (Ok plan) = told → IsPlanned files g out plan
-Prepares told source volume_fails source_fails files g out (Err stop) = CausedStop source volume_fails source_fails out stop
+abbrev pub Prepares : Type 0 → Type 0 → Type 0 → Type 0 → Files → Option ℕ → Given → Outcome → Result WalkPlan Stop → Type 0
+Prepares told source volume_fails source_fails files free g out (Ok plan) = told → IsPlanned files free g out plan
+Prepares told source volume_fails source_fails files free g out (Err stop) = CausedStop source volume_fails source_fails out stop
 
 -- ---- a loaded package
 

@@ -1,11 +1,13 @@
 -- What a command answers and leaves, with its log.
-use Rattle.std.specs.Prelude.{◌≡◌, ◌≢◌, ◌⊎◌, ℕ, Bool, false, List, [], take, Result, Ok, Err}
+use Rattle.std.specs.Prelude.{◌≡◌, ◌≢◌, ◌⊎◌, ℕ, Bool, false, List, [], take, Option, Result, Ok, Err}
 use Rattle.mi_text.specs.declared.answers.Settled.{Settled}
 use Rattle.mi_volume.specs.Maps.{Map}
 use Rattle.mi_volume.specs.State.{State, GoesOn, NothingDirty, Rose}
 use Rattle.mi_source.specs.Paths.{Files}
 use Rattle.mi_undo.specs.Stands.{stands, settled, outside}
 use Rattle.mi_undo.specs.Keeps.{Each}
+use Rattle.mi_undo.specs.Room.{NeverShort}
+use Rattle.mi_undo.specs.Short.{IsShort}
 use Rattle.mi_base.specs.Machine.{Machine, volume_of}
 use Rattle.mi_base.specs.declared.answers.Kind.{Kind}
 use Rattle.mi_base.specs.declared.answers.Kind.TheVariants.{Done, Listed, Recovered, Refused, Suspended, NoMemory}
@@ -19,7 +21,7 @@ use Rattle.mi_model.specs.Report.{report_of}
 use Rattle.mi_model.specs.Words.{Command, walks}
 use Rattle.mi_report.specs.WalkLogs.{log_text}
 use Rattle.mi_engine.specs.declared.reply.Reply.{Reply}
-use Rattle.mi_engine.specs.Answers.{MeetsFull, Begins}
+use Rattle.mi_engine.specs.Answers.{Begins}
 
 -- ---- logs
 
@@ -58,9 +60,10 @@ pub record Says (is_log : List ℕ → Type 0) (kind : Kind) (bytes : List ℕ) 
 
 -- ---- a command on a settled volume
 
--- what a run is handed beside its volume: the source's files, the moment, and what settling found of the volume
-pub record IsHanded (volume : Type 0) (h : Handed) (files : Files) (now : ℕ) (found : Settled) : Type 0 where
+-- what a run is handed beside what its volume holds: the source's files, the volume's capacity, the moment, and what settling found of the volume
+pub record IsHanded (volume : Type 0) (h : Handed) (files : Files) (capacity : Option ℕ) (now : ℕ) (found : Settled) : Type 0 where
   pub same_files : h.files ≡ files
+  pub same_capacity : h.capacity ≡ capacity
   pub same_now : h.now ≡ now
   pub finds : volume → settled h.held ≡ found
 
@@ -80,7 +83,8 @@ pub record Serves (volume told : Type 0) (old new : State) (out : Outcome) (comm
   pub leaves : volume → Each new (AtExit told old.held out kind)
   pub reads : volume → SettledReads told old.held out kind new.held
   pub cleans : volume → Cleans old new kind
-  pub caused : MeetsFull told old out source_fails kind ⊎ Caused old.faults new.faults volume told out (Rose old new) source_fails kind
+  pub recovers : volume → GoesOn old new (NeverShort old.capacity)
+  pub caused : Caused old.faults new.faults volume told out (Rose old new) source_fails kind
   pub answers : AnswersCommand command kind
   pub begins : told → Begins out reached kind
   pub log : Says (IsLog volume told found (walks (Ok command)) out kind reached) kind bytes
@@ -92,6 +96,7 @@ pub record Leaves (volume : Type 0) (old new : State) (words : Result Command �
   pub unread : volume → NothingDirty old → (bad : List ℕ) → stands old.held ≡ Err bad → GoesOn old new (λ d. d ≡ old.held)
   pub unread_stays : volume → (bad : List ℕ) → stands old.held ≡ Err bad → new.held ≡ old.held
   pub cleans : volume → Cleans old new kind
+  pub recovers : volume → NothingDirty old → ((name : List ℕ) → ¬ IsShort old.capacity old.held name) → GoesOn old new (NeverShort old.capacity)
   pub answers : AnswersWords words kind
 
 -- What a run leaves that comes to this outcome.
@@ -99,6 +104,6 @@ pub record Runs (volume told : Type 0) (old new : State) (out : Outcome) (words 
   pub stops : volume → NothingDirty old → (F : Map) → stands old.held ≡ Ok F → GoesOn old new (MayStand told F out (BelowCount old.faults new.faults) kind)
   pub leaves : volume → NothingDirty old → (F : Map) → stands old.held ≡ Ok F → Each new (AtExit told F out kind)
   pub reads : volume → (F : Map) → stands old.held ≡ Ok F → ReadsAfter told old.held F out kind new.held
-  pub caused : MeetsFull told old out source_fails kind ⊎ Caused old.faults new.faults volume told out (Rose old new) source_fails kind
+  pub caused : Caused old.faults new.faults volume told out (Rose old new) source_fails kind
   pub begins : told → Begins out reached kind
   pub log : Says (IsLog volume told (λ s. volume → s ≡ settled old.held) (walks words) out kind reached) kind bytes

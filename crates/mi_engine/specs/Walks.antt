@@ -1,5 +1,5 @@
 -- What of the plan of a walk may be carried out, and how its answer is made. (InstallExecuteSequence Table.)
-use Rattle.std.specs.Prelude.{◌≡◌, ◌⊎◌, ◌≤◌, Bool, true, false, length, map, Option}
+use Rattle.std.specs.Prelude.{◌≡◌, ◌⊎◌, ◌≤◌, ℕ, Bool, true, false, List, [], ◌∷◌, length, map, Option}
 use Rattle.std.specs.List.{All}
 use Rattle.mi_source.specs.Paths.{Files}
 use Rattle.mi_script.specs.Scripts.{touched_names}
@@ -12,6 +12,7 @@ use Rattle.mi_base.specs.declared.answers.Kind.{Kind}
 use Rattle.mi_base.specs.declared.answers.Kind.TheVariants.{Refused, NoMemory}
 use Rattle.mi_undo.specs.Names.{most_entries}
 use Rattle.mi_report.specs.WalkLogs.{IsMadeFor, IsWalkKind}
+use Rattle.mi_model.specs.Plans.{Planned}
 use Rattle.mi_plan.specs.Made.{as_planned}
 use Rattle.mi_engine.specs.declared.walk.Ready.{Ready}
 use Rattle.mi_plan.specs.declared.planned.WalkPlan.{WalkPlan}
@@ -29,6 +30,11 @@ pub record MayRun (plan : WalkPlan) : Type 0 where
 -- the source has what its scripts copy
 abbrev pub AreThere : Files → WalkPlan → Type 0
 AreThere files plan = All (λ (s : Segment). All (HasLength files) s.script) plan.segments.items
+
+-- how many actions are begun at the end of the first segment
+abbrev pub first_end : List Planned → ℕ
+first_end [] = 0
+first_end (p ∷ plans) = p.reached
 
 -- What is made of a plan before its first write.
 pub record IsReady (settled : Settled) (plan : WalkPlan) (ready : Ready) : Type 0 where

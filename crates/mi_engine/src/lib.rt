@@ -3,15 +3,16 @@
 
 mod answer;
 mod code;
+mod command;
 mod ending;
 mod obey;
 mod package;
 mod reply;
+mod room;
 mod serve;
 mod stop;
 mod top;
 mod walk;
-mod words;
 
 pub use answer::Answer;
 pub use code::answer_code;

@@ -1,18 +1,21 @@
 //! Carrying out a command on a settled volume whose machine is read.
 
-ghost use Rattle.std.specs.Prelude.{◌≡◌, ◌≤◌, List, ℕ, IfOk, Ok};
+ghost use Rattle.std.specs.Prelude.{◌≡◌, ◌≤◌, ◌++◌, List, [], ℕ, IfOk, IsOk, Ok, codes, false};
 ghost use Rattle.mi_text.specs.Maps.{Map};
 ghost use Rattle.mi_volume.specs.State.{Passes};
 ghost use Rattle.mi_source.specs.Counts.{Rose};
+ghost use Rattle.mi_source.specs.Paths.{Files};
 ghost use Rattle.mi_undo.specs.Keeps.{IsFree};
-ghost use Rattle.mi_base.specs.Machine.{volume_of};
+ghost use Rattle.mi_undo.specs.Stands.{settled};
+ghost use Rattle.mi_base.specs.Machine.{Machine, machine_of, volume_of};
 ghost use Rattle.mi_image.specs.Items.{machine_over, AreThere as HasContents};
 ghost use Rattle.mi_model.specs.Listings.{clients_text_of, products_text_of};
-ghost use Rattle.mi_model.specs.Outcome.{Handed};
-ghost use Rattle.mi_engine.specs.StageOutcome.{of_command, of_package};
-ghost use Rattle.mi_model.specs.Words.{Installs, Package};
-ghost use Rattle.mi_engine.specs.Answers.{IsTold};
-ghost use Rattle.mi_engine.specs.Asked.{IsPublic, asked as commanded};
+ghost use Rattle.mi_model.specs.Outcome.{Handed, free_room, of_command};
+ghost use Rattle.mi_model.specs.PackageOutcome.{of_package};
+ghost use Rattle.mi_model.specs.Words.{Installs, Package, Selftest as Tests};
+ghost use Rattle.mi_words.specs.Asked.{asked as commanded, of_words};
+ghost use Rattle.mi_engine.specs.Answers.{IsTold, SourceFails};
+ghost use Rattle.mi_engine.specs.Asked.{MayAsk, MayTest};
 ghost use Rattle.mi_engine.specs.Calls.{ArePublic, sets_of};
 ghost use Rattle.mi_engine.specs.Replies.{IsHanded, Lists, Serves, log_in};
 
@@ -20,39 +23,42 @@ use crate::ending::stopped;
 use crate::package::prepare;
 use crate::reply::{Reply, logged, out_of_memory, told};
 use crate::walk::carry;
-use crate::words::Asked;
 use mi_base::{Bytes, Kind, NoMemory, Settled};
+use mi_gen::package_of;
 use mi_image::Image;
 use mi_report::{clients_text, products_text};
 use mi_source::Source;
 use mi_volume::Volume;
-use mi_words::PackageWords;
+use mi_words::{Command, PackageWords, Sets, TestWords};
 use std::alloc::Global;
 
 /// Carries out a command on a settled volume, of which this is the image, at a moment in seconds.
 pub fn obey<S: Source, V: Volume>(
     alloc: Global,
-    asked: &Asked<'_>,
+    command: &Command<'_>,
     settled: Settled,
     image: Image,
     now: u64,
     src: &mut S,
     vol: &mut V,
 ) -> Reply
-    requires public { IsPublic asked.now }
+    requires words { MayAsk command.now }
     requires free { V.told → IsFree (V.state vol.old) }
-    requires machine { V.told → volume_of (machine_over (V.state vol.old).held (S.files src.old) image) ≡ (V.state vol.old).held }
-    requires contents { V.told → HasContents (V.state vol.old).held (S.files src.old) image }
-    ensures serves { (h : Handed) → IsHanded V.told h (S.files src.old) now settled → Serves V.told (IsTold V.told S.told (Ok (commanded asked.now))) (V.state vol.old) (V.state vol.new) (of_command h (machine_over (V.state vol.old).held (S.files src.old) image) (commanded asked.now)) (commanded asked.now) (λ s. s ≡ settled) (Rose (S.faults src.old) (S.faults src.new)) result.kind result.reached (log_in result) }
-    ensures unread { (Installs (Ok (commanded asked.now)) → ⊥) → src.new ≡ src.old }
+    requires spelled { V.told → IsOk (machine_of (V.state vol.old).held) }
+    requires machine { V.told → (files : Files) → volume_of (machine_over (V.state vol.old).held files image) ≡ (V.state vol.old).held }
+    requires contents { V.told → (files : Files) → HasContents (V.state vol.old).held files image }
+    ensures serves { (h : Handed) (m : Machine) → IsHanded V.told h (S.files src.old) (V.state vol.old).capacity now settled → (V.told → (files : Files) → machine_over (V.state vol.old).held files image ≡ m)
+        → Serves V.told (IsTold V.told S.told (Ok (commanded command.now))) (V.state vol.old) (V.state vol.new) (of_command h (free_room h.capacity (V.state vol.old).held) m (settled h.held) (commanded command.now)) (commanded command.now) (λ s. s ≡ settled) (SourceFails (Ok (commanded command.now)) (S.faults src.old) (S.faults src.new)) result.kind result.reached (log_in result) }
+    ensures unread { (Installs (Ok (commanded command.now)) → ⊥) → src.new ≡ src.old }
     ensures passes { Passes (V.state vol.old) (V.state vol.new) }
     ensures counts { S.faults src.old ≤ S.faults src.new }
 {
-    match asked {
-        Asked::Package(request) => install(alloc, request, settled, image, now, src, vol),
-        Asked::Clients => list_clients(alloc, &image),
-        Asked::Products => list_products(alloc, &image),
-        Asked::Recover => logged(alloc, Kind::Recovered(settled), settled, false),
+    match command {
+        Command::Package(request) => install(alloc, request, settled, image, now, src, vol),
+        Command::Selftest(request) => test(alloc, request, settled, image, now, vol),
+        Command::Clients => list_clients(alloc, &image),
+        Command::Products => list_products(alloc, &image),
+        Command::Recover => logged(alloc, Kind::Recovered(settled), settled, false),
     }
 }
 
@@ -68,9 +74,10 @@ fn install<S: Source, V: Volume>(
 ) -> Reply
     requires public { ArePublic asked.now }
     requires free { V.told → IsFree (V.state vol.old) }
+    requires spelled { V.told → IsOk (machine_of (V.state vol.old).held) }
     requires machine { V.told → volume_of (machine_over (V.state vol.old).held (S.files src.old) image) ≡ (V.state vol.old).held }
     requires contents { V.told → HasContents (V.state vol.old).held (S.files src.old) image }
-    ensures serves { Serves V.told (IsTold V.told S.told (Ok (Package asked.now.recorded asked.now.folder.now (sets_of asked.now)))) (V.state vol.old) (V.state vol.new) (of_package (S.files src.old) now (machine_over (V.state vol.old).held (S.files src.old) image) asked.now.recorded asked.now.folder.now (sets_of asked.now)) (Package asked.now.recorded asked.now.folder.now (sets_of asked.now)) (λ s. s ≡ settled) (Rose (S.faults src.old) (S.faults src.new)) result.kind result.reached (log_in result) }
+    ensures serves { Serves V.told (IsTold V.told S.told (Ok (Package asked.now.recorded asked.now.folder.now (sets_of asked.now)))) (V.state vol.old) (V.state vol.new) (of_package (S.files src.old) (free_room (V.state vol.old).capacity (V.state vol.old).held) now (machine_over (V.state vol.old).held (S.files src.old) image) asked.now.recorded asked.now.folder.now (sets_of asked.now)) (Package asked.now.recorded asked.now.folder.now (sets_of asked.now)) (λ s. s ≡ settled) (Rose (S.faults src.old) (S.faults src.new)) result.kind result.reached (log_in result) }
     ensures passes { Passes (V.state vol.old) (V.state vol.new) }
     ensures counts { S.faults src.old ≤ S.faults src.new }
 {
@@ -78,6 +85,60 @@ fn install<S: Source, V: Volume>(
         Ok(plan) => carry(alloc, plan, settled, src, vol),
         Err(stop) => logged(alloc, stopped(stop), settled, true),
     }
+}
+
+/// Carries out the package that is made for tests, from a source of its own.
+fn test<V: Volume>(
+    alloc: Global,
+    asked: &TestWords<'_>,
+    settled: Settled,
+    image: Image,
+    now: u64,
+    vol: &mut V,
+) -> Reply
+    requires words { MayTest asked.now }
+    requires free { V.told → IsFree (V.state vol.old) }
+    requires spelled { V.told → IsOk (machine_of (V.state vol.old).held) }
+    requires machine { V.told → (files : Files) → volume_of (machine_over (V.state vol.old).held files image) ≡ (V.state vol.old).held }
+    requires contents { V.told → (files : Files) → HasContents (V.state vol.old).held files image }
+    ensures serves { (h : Handed) (m : Machine) (source : Type 0) (files : Files) (n : ℕ) → IsHanded V.told h files (V.state vol.old).capacity now settled → (V.told → (from : Files) → machine_over (V.state vol.old).held from image ≡ m)
+        → Serves V.told (IsTold V.told source (Ok (Tests asked.now.files (of_words asked.now.words)))) (V.state vol.old) (V.state vol.new) (of_command h (free_room h.capacity (V.state vol.old).held) m (settled h.held) (Tests asked.now.files (of_words asked.now.words))) (Tests asked.now.files (of_words asked.now.words)) (λ s. s ≡ settled) (SourceFails (Ok (Tests asked.now.files (of_words asked.now.words))) n n) result.kind result.reached (log_in result) }
+    ensures passes { Passes (V.state vol.old) (V.state vol.new) }
+{
+    match package_of(alloc, asked.files) {
+        Ok(mut made) => install_made(alloc, asked, settled, image, now, &mut made, vol),
+        Err(_) => {
+            drop(image);
+            out_of_memory(alloc, true)
+        }
+    }
+}
+
+/// Carries out the package that a source has in the folder `self`.
+fn install_made<S: Source, V: Volume>(
+    alloc: Global,
+    asked: &TestWords<'_>,
+    settled: Settled,
+    image: Image,
+    now: u64,
+    src: &mut S,
+    vol: &mut V,
+) -> Reply
+    requires words { MayTest asked.now }
+    requires free { V.told → IsFree (V.state vol.old) }
+    requires spelled { V.told → IsOk (machine_of (V.state vol.old).held) }
+    requires machine { V.told → volume_of (machine_over (V.state vol.old).held (S.files src.old) image) ≡ (V.state vol.old).held }
+    requires contents { V.told → HasContents (V.state vol.old).held (S.files src.old) image }
+    ensures serves { Serves V.told (IsTold V.told S.told (Ok (Package false (codes "self") (of_words asked.now.words ++ [])))) (V.state vol.old) (V.state vol.new) (of_package (S.files src.old) (free_room (V.state vol.old).capacity (V.state vol.old).held) now (machine_over (V.state vol.old).held (S.files src.old) image) false (codes "self") (of_words asked.now.words ++ [])) (Package false (codes "self") (of_words asked.now.words ++ [])) (λ s. s ≡ settled) (Rose (S.faults src.old) (S.faults src.new)) result.kind result.reached (log_in result) }
+    ensures passes { Passes (V.state vol.old) (V.state vol.new) }
+{
+    let package = PackageWords {
+        recorded: false,
+        folder: "self",
+        words: asked.words,
+        sets: Sets::Nothing,
+    };
+    install(alloc, &package, settled, image, now, src, vol)
 }
 
 /// The list of the clients of a machine.

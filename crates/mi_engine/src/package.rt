@@ -1,6 +1,6 @@
 //! A package up to its walk.
 
-ghost use Rattle.std.specs.Prelude.{◌≡◌, ◌≤◌, ◌&&◌, ◌++◌, not, List, ℕ, None, IfOk, IfErr, OnOk, map};
+ghost use Rattle.std.specs.Prelude.{◌≡◌, ◌≤◌, ◌&&◌, ◌++◌, not, List, ℕ, Option, None, IfOk, IfErr, OnOk, map};
 ghost use Rattle.mi_text.specs.Maps.{Map};
 ghost use Rattle.mi_volume.specs.State as volume;
 ghost use Rattle.mi_volume.specs.State.{Passes};
@@ -10,11 +10,12 @@ ghost use Rattle.mi_image.specs.Looks.{OnlyLooks};
 ghost use Rattle.mi_schema.specs.Lawful.{IsLawful};
 ghost use Rattle.mi_schema.specs.RowsOf.{rows_in};
 ghost use Rattle.mi_schema.specs.TableRows.{product_code as code_of};
-ghost use Rattle.mi_model.specs.PackageOutcome.{given_of};
+ghost use Rattle.mi_model.specs.PackageOutcome.{given_of, of_package};
+ghost use Rattle.mi_model.specs.Cost.{all_rows};
+ghost use Rattle.mi_model.specs.Plain.{ArePlain};
 ghost use Rattle.mi_model.specs.Planning.{IsPlan};
 ghost use Rattle.mi_model.specs.Properties.{first_properties};
 ghost use Rattle.mi_model.specs.Settings.{is_recorded};
-ghost use Rattle.mi_engine.specs.StageOutcome.{of_package};
 ghost use Rattle.mi_model.specs.Walk.{walk};
 ghost use Rattle.mi_model.specs.World.{Given};
 ghost use Rattle.mi_engine.specs.Calls.{ArePublic, FailsBy, IsOver, Judges, Prepares, Readies, Walks, sets_of, unknown_product};
@@ -26,6 +27,7 @@ ghost use Rattle.mi_world.specs.Seen.{Starts};
 use crate::stop::Stop;
 use mi_base::Cause;
 use mi_image::Image;
+use mi_plain::{lawful_packages_have_codes, walks_are_plain};
 use mi_plan::{WalkError, WalkPlan, plan_walk};
 use mi_props::PropError;
 use mi_schema::{Package, values_stand};
@@ -126,6 +128,15 @@ fn walk_over<S: Source, V: Volume>(
     }
 }
 
+/// No row of a walk over a lawful package changes a name twice.
+fn plain_walks(loaded: &Package)
+    requires { IsLawful loaded.now }
+    ensures { (g : Given) → rows_in loaded.now ≡ g.rows → ArePlain g.former (all_rows (walk g).parts) }
+{
+    walks_are_plain();
+    lawful_packages_have_codes();
+}
+
 /// Plans the walk of a loaded package over the machine of an image, or stops before it.
 fn plan_package<S: Source, V: Volume>(
     alloc: Global,
@@ -141,6 +152,7 @@ fn plan_package<S: Source, V: Volume>(
     ensures walks { (held files : Map (List ℕ)) (g : Given) → IsOver g loaded (machine_over held files image) asked.now now → Walks (volume.Rose (V.state vol.old) (V.state vol.new)) (Rose (S.faults src.old) (S.faults src.new)) asked.now.recorded g result }
     ensures plan { (g : Given) → V.told → S.told → g.files ≡ (S.files src.old) → HasContents (V.state vol.old).held (S.files src.old) image → IsOver g loaded (machine_over (V.state vol.old).held (S.files src.old) image) asked.now now
         → IfOk result (λ p. IsPlan (S.files src.old) (walk g) p.begun.items (map as_planned p.segments.items) p.refusal) }
+    ensures plain { (g : Given) → rows_in loaded ≡ g.rows → ArePlain g.former (all_rows (walk g).parts) }
     ensures lengths { S.told → IfOk result (λ p. AreThere (S.files src.old) p) }
     ensures may_run { IfOk result MayRun }
     ensures refusal { IfOk result (λ p. IsWalkRefusal p.refusal) }
@@ -149,6 +161,7 @@ fn plan_package<S: Source, V: Volume>(
     ensures stays { S.files src.new ≡ S.files src.old }
     ensures counts { S.faults src.old ≤ S.faults src.new }
 {
+    plain_walks(&loaded);
     match ready(alloc, &loaded, &image, asked) {
         Ok(first) => walk_over(alloc, loaded, first, image, asked.folder, now, src, vol),
         Err(stop) => {
@@ -171,7 +184,7 @@ pub fn prepare<S: Source, V: Volume>(
 ) -> Result<WalkPlan, Stop>
     requires public { ArePublic asked.now }
     requires contents { V.told → HasContents (V.state vol.old).held (S.files src.old) image }
-    ensures prepares { Prepares (V.told × S.told) S.told (volume.Rose (V.state vol.old) (V.state vol.new)) (Rose (S.faults src.old) (S.faults src.new)) (S.files src.old) (given_of (S.files src.old) asked.now.folder.now (sets_of asked.now) (machine_over (V.state vol.old).held (S.files src.old) image) now) (of_package (S.files src.old) now (machine_over (V.state vol.old).held (S.files src.old) image) asked.now.recorded asked.now.folder.now (sets_of asked.now)) result }
+    ensures prepares { (free : Option ℕ) → Prepares (V.told × S.told) S.told (volume.Rose (V.state vol.old) (V.state vol.new)) (Rose (S.faults src.old) (S.faults src.new)) (S.files src.old) free (given_of (S.files src.old) asked.now.folder.now (sets_of asked.now) (machine_over (V.state vol.old).held (S.files src.old) image) now) (of_package (S.files src.old) free now (machine_over (V.state vol.old).held (S.files src.old) image) asked.now.recorded asked.now.folder.now (sets_of asked.now)) result }
     ensures lengths { S.told → IfOk result (λ p. AreThere (S.files src.old) p) }
     ensures may_run { IfOk result MayRun }
     ensures refusal { IfOk result (λ p. IsWalkRefusal p.refusal) }

@@ -1,6 +1,6 @@
 //! The top call.
 
-ghost use Rattle.std.specs.Prelude.{◌≡◌, ◌⊎◌, ◌≤◌, ◌++◌, ℕ, List, Ok, Err, false};
+ghost use Rattle.std.specs.Prelude.{◌≡◌, ◌≤◌, ◌++◌, ℕ, List, Ok, Err, false};
 ghost use Rattle.std.specs.Bool.{OnTrue};
 ghost use Rattle.mi_volume.specs.Maps.{Map};
 ghost use Rattle.mi_volume.specs.State.{NothingDirty, GoesOn, Passes};
@@ -8,32 +8,35 @@ ghost use Rattle.mi_volume.specs.State as volume;
 ghost use Rattle.mi_source.specs.Counts.{Rose};
 ghost use Rattle.mi_undo.specs.Stands.{stands, settled};
 ghost use Rattle.mi_undo.specs.Keeps.{Each};
+ghost use Rattle.mi_undo.specs.Room.{NeverShort};
+ghost use Rattle.mi_undo.specs.Short.{IsShort};
 ghost use Rattle.mi_model.specs.Assignments.{texts_of};
 ghost use Rattle.mi_model.specs.Causes.{BelowCount, SameCount, AnswersWords, Caused, Completes, Reaches};
 ghost use Rattle.mi_model.specs.Leaves.{MayStand, AtExit, ReadsAfter, Cleans};
 ghost use Rattle.mi_model.specs.Logs.{IsLog, WritesFront, Logs};
 ghost use Rattle.mi_model.specs.PackageOutcome.{Outcome};
-ghost use Rattle.mi_engine.specs.StageOutcome.{ComesTo, command_of};
-ghost use Rattle.mi_model.specs.TopCall.{handed};
-ghost use Rattle.mi_model.specs.Words.{Installs, walks};
-ghost use Rattle.mi_engine.specs.Answers.{IsTold, IsStill, MeetsFull};
+ghost use Rattle.mi_model.specs.Outcome.{ComesTo};
+ghost use Rattle.mi_model.specs.TopCall.{handed, IsTold, IsStill};
+ghost use Rattle.mi_model.specs.Words.{Installs, command_of, walks};
+ghost use Rattle.mi_engine.specs.Answers.{SourceFails};
 ghost use Rattle.mi_report.specs.WalkLogs.{log_text};
 ghost use Rattle.mi_engine.specs.Replies.{Leaves, Runs, log_in};
 
 use crate::answer::Answer;
 use crate::reply::{Reply, logged};
 use crate::serve::serve;
-use crate::words::read;
 use mi_base::{Cause, Kind, Settled};
 use mi_report::Log;
 use mi_source::{Sink, Source};
 use mi_volume::Volume;
+use mi_words::read_words;
 use std::alloc::Global;
 
 /// Carries out the words of a command line on a volume, and writes the log to a sink: settles the volume, reads its
 /// machine, and then carries out the whole walk of a package over its InstallExecuteSequence, lists the clients or the
-/// products, or is done (Installation; Rollback Installation). `now` is the moment in seconds that new files carry. What
-/// is told by the source, the volume and the sink is claimed where they tell it.
+/// products, or is done (Installation; Rollback Installation). On a volume that tells a capacity a walk is refused before its first write
+/// where it needs more room than is free. `now` is the moment in seconds that new files carry. What is told by the source, the volume and
+/// the sink is claimed where they tell it. A package that is made for tests has a source of its own.
 pub fn run<S: Source, V: Volume, K: Sink>(
     alloc: Global,
     words: &[String],
@@ -48,35 +51,35 @@ pub fn run<S: Source, V: Volume, K: Sink>(
     ensures untouched { (place : ℕ) → command_of (texts_of words.now) ≡ Err place → vol.new ≡ vol.old }
     ensures no_package { (Installs (command_of (texts_of words.now)) → ⊥) → src.new ≡ src.old }
 
-    // What follows holds of each outcome that the run comes to. An answer comes only for its cause, or, on a volume that
-    // tells a capacity, where room is wanting while a walk is carried out.
+    // What follows holds of each outcome that the run comes to. An answer comes only for its cause.
     ensures caused { (o : Outcome) → ComesTo (handed (texts_of words.now) (S.files src.old) (V.state vol.old) now) o
-        → MeetsFull (IsTold V.told S.told (command_of (texts_of words.now))) (V.state vol.old) o (Rose (S.faults src.old) (S.faults src.new)) result.kind
-        ⊎ Caused (V.state vol.old).faults (V.state vol.new).faults V.told (IsTold V.told S.told (command_of (texts_of words.now))) o (volume.Rose (V.state vol.old) (V.state vol.new)) (Rose (S.faults src.old) (S.faults src.new)) result.kind }
+        → Caused (V.state vol.old).faults (V.state vol.new).faults V.told (IsTold V.told S.told (texts_of words.now)) o (volume.Rose (V.state vol.old) (V.state vol.new)) (Rose (S.faults src.old) (S.faults src.new)) result.kind }
 
-    // Where no count rises and room isn't wanting, the answer is the outcome's own, or want of memory.
+    // Where no count rises, the answer is the outcome's own, or want of memory.
     ensures complete { (o : Outcome) → ComesTo (handed (texts_of words.now) (S.files src.old) (V.state vol.old) now) o → V.told → SameCount (V.state vol.old).faults (V.state vol.new).faults
-        → IsStill S.told (command_of (texts_of words.now)) (S.faults src.old) (S.faults src.new)
-        → MeetsFull (IsTold V.told S.told (command_of (texts_of words.now))) (V.state vol.old) o (Rose (S.faults src.old) (S.faults src.new)) result.kind ⊎ Completes o result.kind result.reached }
+        → IsStill S.told (texts_of words.now) (S.faults src.old) (S.faults src.new) → Completes o result.kind result.reached }
 
     // What a crash leaves, at every moment of the call and at its end: the former map F, or that of the machine after.
     ensures stops { (o : Outcome) → ComesTo (handed (texts_of words.now) (S.files src.old) (V.state vol.old) now) o → V.told → NothingDirty (V.state vol.old) → (F : Map) → stands (V.state vol.old).held ≡ Ok F
-        → GoesOn (V.state vol.old) (V.state vol.new) (MayStand (IsTold V.told S.told (command_of (texts_of words.now))) F o (BelowCount (V.state vol.old).faults (V.state vol.new).faults) result.kind) }
+        → GoesOn (V.state vol.old) (V.state vol.new) (MayStand (IsTold V.told S.told (texts_of words.now)) F o (BelowCount (V.state vol.old).faults (V.state vol.new).faults) result.kind) }
     ensures leaves { (o : Outcome) → ComesTo (handed (texts_of words.now) (S.files src.old) (V.state vol.old) now) o → V.told → NothingDirty (V.state vol.old) → (F : Map) → stands (V.state vol.old).held ≡ Ok F
-        → Each (V.state vol.new) (AtExit (IsTold V.told S.told (command_of (texts_of words.now))) F o result.kind) }
+        → Each (V.state vol.new) (AtExit (IsTold V.told S.told (texts_of words.now)) F o result.kind) }
     ensures unread { V.told → NothingDirty (V.state vol.old) → (bad : List ℕ) → stands (V.state vol.old).held ≡ Err bad → GoesOn (V.state vol.old) (V.state vol.new) (λ d. d ≡ (V.state vol.old).held) }
 
+    // What a crash leaves has room for its recovery, where what is handed in has.
+    ensures recovers { V.told → NothingDirty (V.state vol.old) → ((name : List ℕ) → ¬ IsShort (V.state vol.old).capacity (V.state vol.old).held name) → GoesOn (V.state vol.old) (V.state vol.new) (NeverShort (V.state vol.old).capacity) }
+
     // What reads give after the call.
-    ensures reads { (o : Outcome) → ComesTo (handed (texts_of words.now) (S.files src.old) (V.state vol.old) now) o → V.told → (F : Map) → stands (V.state vol.old).held ≡ Ok F → ReadsAfter (IsTold V.told S.told (command_of (texts_of words.now))) (V.state vol.old).held F o result.kind (V.state vol.new).held }
+    ensures reads { (o : Outcome) → ComesTo (handed (texts_of words.now) (S.files src.old) (V.state vol.old) now) o → V.told → (F : Map) → stands (V.state vol.old).held ≡ Ok F → ReadsAfter (IsTold V.told S.told (texts_of words.now)) (V.state vol.old).held F o result.kind (V.state vol.new).held }
     ensures unread_stays { V.told → (bad : List ℕ) → stands (V.state vol.old).held ≡ Err bad → (V.state vol.new).held ≡ (V.state vol.old).held }
     ensures clean { V.told → Cleans (V.state vol.old) (V.state vol.new) result.kind }
     ensures passes { Passes (V.state vol.old) (V.state vol.new) }
     ensures counts { S.faults src.old ≤ S.faults src.new }
-    ensures reached { (o : Outcome) → ComesTo (handed (texts_of words.now) (S.files src.old) (V.state vol.old) now) o → (IsTold V.told S.told (command_of (texts_of words.now))) → Reaches o result.reached result.kind }
+    ensures reached { (o : Outcome) → ComesTo (handed (texts_of words.now) (S.files src.old) (V.state vol.old) now) o → (IsTold V.told S.told (texts_of words.now)) → Reaches o result.reached result.kind }
 
     // The log.
     ensures log { (o : Outcome) → ComesTo (handed (texts_of words.now) (S.files src.old) (V.state vol.old) now) o → K.told
-        → Logs (IsLog V.told (IsTold V.told S.told (command_of (texts_of words.now))) (λ found. V.told → found ≡ settled (V.state vol.old).held) (walks (command_of (texts_of words.now))) o result.kind result.reached) result.kind result.log_lost (K.written out.old) (K.written out.new) }
+        → Logs (IsLog V.told (IsTold V.told S.told (texts_of words.now)) (λ found. V.told → found ≡ settled (V.state vol.old).held) (walks (command_of (texts_of words.now))) o result.kind result.reached) result.kind result.log_lost (K.written out.old) (K.written out.new) }
     ensures log_lost { OnTrue result.log_lost (Rose (K.faults out.old) (K.faults out.new)) }
 {
     let reply = work(alloc, words, now, src, vol);
@@ -102,15 +105,15 @@ fn work<S: Source, V: Volume>(
     vol: &mut V,
 ) -> Reply
     ensures runs { (o : Outcome) → ComesTo (handed (texts_of words.now) (S.files src.old) (V.state vol.old) now) o
-        → Runs V.told (IsTold V.told S.told (command_of (texts_of words.now))) (V.state vol.old) (V.state vol.new) o (command_of (texts_of words.now)) (Rose (S.faults src.old) (S.faults src.new)) result.kind result.reached (log_in result) }
+        → Runs V.told (IsTold V.told S.told (texts_of words.now)) (V.state vol.old) (V.state vol.new) o (command_of (texts_of words.now)) (SourceFails (command_of (texts_of words.now)) (S.faults src.old) (S.faults src.new)) result.kind result.reached (log_in result) }
     ensures leaves { Leaves V.told (V.state vol.old) (V.state vol.new) (command_of (texts_of words.now)) result.kind }
     ensures untouched { (place : ℕ) → command_of (texts_of words.now) ≡ Err place → vol.new ≡ vol.old }
     ensures no_package { (Installs (command_of (texts_of words.now)) → ⊥) → src.new ≡ src.old }
     ensures passes { Passes (V.state vol.old) (V.state vol.new) }
     ensures counts { S.faults src.old ≤ S.faults src.new }
 {
-    match read(words) {
-        Ok(asked) => serve(alloc, &asked, now, src, vol),
+    match read_words(words) {
+        Ok(command) => serve(alloc, &command, now, src, vol),
         Err(place) => logged(
             alloc,
             Kind::Refused(Cause::BadWords(place)),

@@ -1,6 +1,6 @@
 //! Carrying out a planned walk on a settled volume, with its log.
 
-ghost use Rattle.std.specs.Prelude.{◌≡◌, ◌⊎◌, ◌≤◌, Bool, true, List, ℕ, Option, None, IfOk, length, map, min, Ok};
+ghost use Rattle.std.specs.Prelude.{◌≡◌, ◌⊎◌, ◌≤◌, Bool, true, List, ℕ, Option, IfOk, IsOk, length, map, min, Ok};
 ghost use Rattle.std.specs.List.{All};
 ghost use Rattle.mi_text.specs.declared.answers.Settled.{Settled as Found};
 ghost use Rattle.mi_volume.specs.State.{Passes};
@@ -9,11 +9,13 @@ ghost use Rattle.mi_script.specs.Scripts.{touched_names};
 ghost use Rattle.mi_undo.specs.Area.{AreOutside};
 ghost use Rattle.mi_undo.specs.Keeps.{IsFree};
 ghost use Rattle.mi_undo.specs.Names.{most_entries};
-ghost use Rattle.mi_base.specs.Machine.{volume_of};
+ghost use Rattle.mi_base.specs.Machine.{machine_of, volume_of};
 ghost use Rattle.mi_base.specs.declared.answers.Cause.{Cause as Why};
 ghost use Rattle.mi_runner.specs.Records.{MayCarry, HasLength};
 ghost use Rattle.mi_model.specs.Assignments.{Assigned};
-ghost use Rattle.mi_model.specs.PackageOutcome.{Outcome, of_walk};
+ghost use Rattle.mi_carry.specs.Rooms.{HasRoom};
+ghost use Rattle.mi_model.specs.Outcome.{free_room};
+ghost use Rattle.mi_model.specs.PackageOutcome.{Outcome, whole};
 ghost use Rattle.mi_model.specs.Planning.{IsPlan};
 ghost use Rattle.mi_model.specs.Report.{report_of};
 ghost use Rattle.mi_model.specs.Walk.{walk};
@@ -23,13 +25,16 @@ ghost use Rattle.mi_plan.specs.Made.{as_planned};
 ghost use Rattle.mi_plan.specs.Refusals.{IsWalkRefusal};
 ghost use Rattle.mi_report.specs.WalkLogs.{IsMadeFor, IsWalkKind};
 ghost use Rattle.mi_engine.specs.Answers.{IsTold};
-ghost use Rattle.mi_engine.specs.Calls.{IsPlanned};
+ghost use Rattle.mi_engine.specs.Calls.{IsCosted, IsPlanned};
 ghost use Rattle.mi_engine.specs.Replies.{Serves, log_in};
-ghost use Rattle.mi_engine.specs.Walks.{AreThere, IsReady, MayClose, MayRun, SaysKind, is_sized, is_sized_fault};
+ghost use Rattle.mi_engine.specs.Walks.{AreThere, IsReady, MayClose, MayRun, SaysKind, first_end, is_sized, is_sized_fault};
 
-use crate::reply::{Reply, out_of_memory};
+use crate::ending::unscanned;
+use crate::reply::{Reply, logged, out_of_memory};
+use crate::room::{Lack, lack};
 use mi_base::{Cause, Fault, Kind, NoMemory, Settled, Text};
 use mi_carry::{Carried, Segment, carry_out};
+use mi_cost::scripts_cost_what_the_walk_needs;
 use mi_plan::WalkPlan;
 use mi_report::WalkLog;
 use mi_source::Source;
@@ -86,21 +91,22 @@ fn make_ready(alloc: Global, plan: &WalkPlan, settled: Settled) -> Result<Ready,
     })
 }
 
-/// Why a planned walk was refused, if it was.
-fn refusal_of(plan: WalkPlan) -> Option<Cause>
-    ensures { result ≡ plan.refusal }
+/// Why a planned walk was refused, if it was, and its segments.
+fn parts_of(plan: WalkPlan) -> (Option<Cause>, Vec<mi_plan::Segment>)
+    ensures refusal { result.0 ≡ plan.refusal }
+    ensures segments { result.1.items ≡ plan.segments.items }
 {
     let WalkPlan {
         begun: _,
-        segments: _,
+        segments,
         refusal,
         overlay: _,
     } = plan;
-    refusal
+    (refusal, segments)
 }
 
-/// Carries out a planned walk on a settled volume, with its log: all of it, or nothing. What the log says is made
-/// before the first write.
+/// Carries out a planned walk on a settled volume, with its log: all of it, or nothing. What the log says is made, and room is asked
+/// for, before the first write.
 pub fn carry<S: Source, V: Volume>(
     alloc: Global,
     plan: WalkPlan,
@@ -109,16 +115,20 @@ pub fn carry<S: Source, V: Volume>(
     vol: &mut V,
 ) -> Reply
     requires free { V.told → IsFree (V.state vol.old) }
+    requires spelled { V.told → IsOk (machine_of (V.state vol.old).held) }
     requires may_run { MayRun plan }
     requires lengths { S.told → AreThere (S.files src.old) plan }
     requires refusal { IsWalkRefusal plan.refusal }
-    ensures serves { (recorded : Bool) (folder : List ℕ) (sets : Assigned) (g : Given) (out : Outcome) → (V.told → S.told → IsPlanned (S.files src.old) g out plan) → (V.told → volume_of g.former ≡ (V.state vol.old).held)
+    ensures serves { (recorded : Bool) (folder : List ℕ) (sets : Assigned) (g : Given) (out : Outcome) → (V.told → S.told → IsPlanned (S.files src.old) (free_room (V.state vol.old).capacity (V.state vol.old).held) g out plan) → (V.told → volume_of g.former ≡ (V.state vol.old).held)
         → Serves V.told (IsTold V.told S.told (Ok (Package recorded folder sets))) (V.state vol.old) (V.state vol.new) out (Package recorded folder sets) (λ s. s ≡ settled) (Rose (S.faults src.old) (S.faults src.new)) result.kind result.reached (log_in result) }
     ensures passes { Passes (V.state vol.old) (V.state vol.new) }
     ensures counts { S.faults src.old ≤ S.faults src.new }
 {
     match make_ready(alloc, &plan, settled) {
-        Ok(ready) => carry_ready(alloc, ready, refusal_of(plan), src, vol),
+        Ok(ready) => {
+            let (refusal, segments) = parts_of(plan);
+            carry_made(alloc, ready, segments, refusal, settled, src, vol)
+        }
         Err(_) => {
             drop(plan);
             out_of_memory(alloc, true)
@@ -126,7 +136,72 @@ pub fn carry<S: Source, V: Volume>(
     }
 }
 
-/// Carries out a walk for which all is made.
+/// Carries out a walk for which all is made, where it has room.
+fn carry_made<S: Source, V: Volume>(
+    alloc: Global,
+    ready: Ready,
+    planned: Vec<mi_plan::Segment>,
+    refusal: Option<Cause>,
+    settled: Settled,
+    src: &mut S,
+    vol: &mut V,
+) -> Reply
+    requires free { V.told → IsFree (V.state vol.old) }
+    requires spelled { V.told → IsOk (machine_of (V.state vol.old).held) }
+    requires same { ready.segments.items ≡ map as_planned planned.items }
+    requires few { length ready.segments.items ≤ most_entries }
+    requires outside { All (λ s. AreOutside (touched_names s.records)) ready.segments.items }
+    requires records { All (λ s. All MayCarry s.records) ready.segments.items }
+    requires there { S.told → All (λ s. All (HasLength (S.files src.old)) s.records) ready.segments.items }
+    requires refusal { IsWalkRefusal refusal }
+    ensures serves { (recorded : Bool) (folder : List ℕ) (sets : Assigned) (g : Given) (out : Outcome) (names : List (List ℕ))
+        → IsMadeFor settled names refusal ready.log → ready.begun ≡ length names
+        → (V.told → S.told → IsCosted (S.files src.old) (free_room (V.state vol.old).capacity (V.state vol.old).held) g out names ready.segments.items refusal) → (V.told → volume_of g.former ≡ (V.state vol.old).held)
+        → Serves V.told (IsTold V.told S.told (Ok (Package recorded folder sets))) (V.state vol.old) (V.state vol.new) out (Package recorded folder sets) (λ s. s ≡ settled) (Rose (S.faults src.old) (S.faults src.new)) result.kind result.reached (log_in result) }
+    ensures passes { Passes (V.state vol.old) (V.state vol.new) }
+    ensures counts { S.faults src.old ≤ S.faults src.new }
+{
+    scripts_cost_what_the_walk_needs();
+    match lack(alloc, planned, vol) {
+        Ok(None) => carry_ready(alloc, ready, refusal, src, vol),
+        Ok(Some(lack)) => {
+            drop(refusal);
+            full(alloc, ready, lack)
+        }
+        Err(error) => {
+            drop(ready);
+            drop(refusal);
+            logged(alloc, unscanned(error), settled, true)
+        }
+    }
+}
+
+/// The answer of a walk that has too little room: the actions up to the end of its first segment are begun.
+fn full(alloc: Global, ready: Ready, lack: Lack) -> Reply
+    ensures kind { (result.kind ≡ Kind.Refused (Cause.Full lack.need lack.free)) ⊎ (result.kind ≡ Kind.NoMemory) }
+    ensures reached { result.reached ≡ min (first_end ready.segments.items) ready.begun }
+    ensures log { (settled : Found) (names : List (List ℕ)) (refusal : Option Why) → IsMadeFor settled names refusal ready.log → log_in result ≡ report_of result.kind settled true names result.reached }
+{
+    let Ready {
+        log,
+        segments,
+        begun,
+    } = ready;
+    let reached = least(first_end(segments.as_slice()), begun);
+    refused_late(alloc, Cause::Full(lack.need, lack.free), reached, log)
+}
+
+/// How many actions are begun at the end of the first segment.
+fn first_end(segments: &[Segment]) -> u64
+    ensures { result ≡ first_end segments.now }
+{
+    match segments.first() {
+        Some(segment) => segment.reached(),
+        None => 0,
+    }
+}
+
+/// Carries out a walk for which all is made and room is there.
 fn carry_ready<S: Source, V: Volume>(
     alloc: Global,
     ready: Ready,
@@ -135,13 +210,14 @@ fn carry_ready<S: Source, V: Volume>(
     vol: &mut V,
 ) -> Reply
     requires free { V.told → IsFree (V.state vol.old) }
+    requires room { V.told → HasRoom (V.state vol.old) ready.segments.items }
     requires few { length ready.segments.items ≤ most_entries }
     requires outside { All (λ s. AreOutside (touched_names s.records)) ready.segments.items }
     requires records { All (λ s. All MayCarry s.records) ready.segments.items }
     requires there { S.told → All (λ s. All (HasLength (S.files src.old)) s.records) ready.segments.items }
     requires refusal { IsWalkRefusal refusal }
     ensures serves { (recorded : Bool) (folder : List ℕ) (sets : Assigned) (g : Given) (out : Outcome) (names : List (List ℕ)) (settled : Found)
-        → IsMadeFor settled names refusal ready.log → ready.begun ≡ length names → (V.told → S.told → (out ≡ of_walk None (walk g)) × IsPlan (S.files src.old) (walk g) names ready.segments.items refusal) → (V.told → volume_of g.former ≡ (V.state vol.old).held)
+        → IsMadeFor settled names refusal ready.log → ready.begun ≡ length names → (V.told → S.told → (out ≡ whole (walk g)) × IsPlan (S.files src.old) (walk g) names ready.segments.items refusal) → (V.told → volume_of g.former ≡ (V.state vol.old).held)
         → Serves V.told (IsTold V.told S.told (Ok (Package recorded folder sets))) (V.state vol.old) (V.state vol.new) out (Package recorded folder sets) (λ s. s ≡ settled) (Rose (S.faults src.old) (S.faults src.new)) result.kind result.reached (log_in result) }
     ensures passes { Passes (V.state vol.old) (V.state vol.new) }
     ensures counts { S.faults src.old ≤ S.faults src.new }

@@ -1,5 +1,5 @@
 -- How pieces of a plan go on.
-use Rattle.std.proofs.Common.{◌≡◌, ℕ, Bool, true, false, cond, List, [], ◌∷◌, ◌++◌, map, filter, Option, Some, None, refl, sym, ap, ◌∙◌, append_assoc}
+use Rattle.std.proofs.Common.{◌≡◌, ℕ, Bool, true, false, cond, List, [], ◌∷◌, ◌++◌, map, filter, Option, Some, None, refl, sym, ap, subst, ◌∙◌, append_assoc}
 use Rattle.std.proofs.lemmas.List.{append-nil}
 use Rattle.std.specs.Prelude.{option_map, is_some, not, ◌&&◌}
 use Rattle.std.specs.FinMap.{get, keys}
@@ -19,6 +19,8 @@ use Rattle.mi_script.specs.declared.rec.Rec.TheVariants.{Drop}
 use Rattle.mi_script.specs.Scripts.{change_of, script_changes, after_script}
 use Rattle.mi_script.specs.Spelled.{is_file_name, writes_file, same_record, is_left_out, spelled_changes}
 use Rattle.mi_script.proofs.SpellLemmas.{set_same, written-spelled, spelled-append, script-append}
+use Rattle.mi_model.specs.StatedSizes.{StateSizes}
+use Rattle.mi_model_laws.proofs.SpellLemmas.{sizes_joined}
 use Rattle.mi_steps.specs.Follows.{Follows, drop_touch}
 
 pub get-volume_of : (m : Machine) (q : Name) → get (volume_of m) q ≡ option_map record_of (get m q)
@@ -33,7 +35,7 @@ after_follows files m n h i ts f =
     ∙ ap volume_of (written-changes m ts ∙ sym f.machine)
 
 pub started : (files : Files) (m : Machine) (h : List Rec) → Follows files m m h h []
-started files m h = record { machine = refl; records = []; grows = sym (append-nil h); spells = refl }
+started files m h = record { machine = refl; records = []; grows = sym (append-nil h); spells = refl; sizes = λ have. refl }
 
 pub joined : (files : Files) (a b c : Machine) (h i j : List Rec) (ts us : List (Touch Entry)) → Follows files a b h i ts → Follows files b c i j us → Follows files a c h j (ts ++ us)
 joined files a b c h i j ts us first second = record {
@@ -49,6 +51,7 @@ joined files a b c h i j ts us first second = record {
       ∙ sym (spelled-append (volume_of a) (changes a ts) (changes b us))
       ∙ ap (λ k. spelled_changes (volume_of a) (changes a ts ++ changes k us)) first.machine
       ∙ ap (spelled_changes (volume_of a)) (sym (changes-append a ts us));
+  sizes = sizes_joined files (volume_of a) first.records second.records first.sizes (subst (λ d. StateSizes files d second.records) (sym (after_follows files a b h i ts first)) second.sizes);
 }
   where
     at_b : written (volume_of a) (spelled_changes (volume_of a) (changes a ts)) ≡ volume_of b
@@ -61,6 +64,7 @@ same_changes files m n h i ts us same f = record {
   records = f.records;
   grows = f.grows;
   spells = f.spells ∙ ap (spelled_changes (volume_of m)) same;
+  sizes = f.sizes;
 }
 
 -- a touch that leaves the same, as it is there
@@ -69,13 +73,19 @@ same_touch files m n h i q f g same = same_changes files m n h i (Set q f ∷ []
 
 -- ---- one name
 
+-- a record, or none
+one_record : (files : Files) (d : Map (List ℕ)) (b : Bool) (r : Rec) → StateSizes files d (r ∷ []) → StateSizes files d (cond b [] (r ∷ []))
+one_record files d true r states = λ have. refl
+one_record files d false r states = states
+
 -- A name is set. The record is left out where `b` says that nothing changes.
 pub set_one : (files : Files) (m : Machine) (h : List Rec) (q : Name) (e : Entry) (f : Option Entry → Option Entry) (b : Bool) (r : Rec)
     → f (get m q) ≡ Some e
     → change_of files (volume_of m) r ≡ record { at = q; after = Some (record_of e) }
     → is_left_out (record { at = q; after = Some (record_of e) }) (get (volume_of m) q) ≡ b
+    → StateSizes files (volume_of m) (r ∷ [])
     → Follows files m (set_to m q (Some e)) h (h ++ cond b [] (r ∷ [])) (Set q f ∷ [])
-set_one files m h q e f b r gives change left_out = record {
+set_one files m h q e f b r gives change left_out states = record {
   machine = ap (set_to m q) (sym gives);
   records = cond b [] (r ∷ []);
   grows = refl;
@@ -85,6 +95,7 @@ set_one files m h q e f b r gives change left_out = record {
       ∙ ap (λ (t : Bool). cond t [] (record { at = q; after = Some (record_of e) } ∷ [])) (sym left_out)
       ∙ sym (append-nil (cond (is_left_out (record { at = q; after = Some (record_of e) }) (get (volume_of m) q)) [] (record { at = q; after = Some (record_of e) } ∷ [])))
       ∙ ap (λ (o : Option Entry). spelled_changes (volume_of m) (record { at = q; after = o } ∷ [])) (sym gives);
+  sizes = one_record files (volume_of m) b r states;
 }
   where
     one : (d : Map (List ℕ)) (b : Bool) → script_changes files d (cond b [] (r ∷ [])) ≡ cond b [] (change_of files d r ∷ [])
@@ -106,6 +117,7 @@ no_step files m h q f plain same = record {
   records = [];
   grows = sym (append-nil h);
   spells = sym (ap (λ (b : Bool). cond b [] (record { at = q; after = option_map record_of (f (get m q)) } ∷ []) ++ []) left_out);
+  sizes = λ have. refl;
 }
   where
     left_out : is_left_out (record { at = q; after = option_map record_of (f (get m q)) }) (get (volume_of m) q) ≡ true
@@ -126,6 +138,7 @@ drop_held files m h q held = record {
   records = Drop q ∷ [];
   grows = refl;
   spells = sym (ap (λ (t : Bool). cond t [] (gone q ∷ []) ++ []) left_in);
+  sizes = λ have. refl;
 }
   where
     differs : (o : Option Entry) → is_some o ≡ true → same_record None (option_map record_of o) ≡ false

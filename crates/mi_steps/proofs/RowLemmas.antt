@@ -84,7 +84,7 @@ phase_planned files effect w now had has effects is all = record {
   effects = ap (λ x. x >>= by_rows w.machine) is ∙ all.touched;
   records = all.follows.records;
   grows = all.follows.grows;
-  spells = record { is = all.follows.spells };
+  spells = record { is = all.follows.spells; sizes = all.follows.sizes };
   image = all.follows.machine ∙ by_rows_touch w.machine all.rows;
 }
 

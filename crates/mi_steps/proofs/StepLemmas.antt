@@ -91,7 +91,8 @@ put_made files m n had has q bytes e plain record_is pushed put =
     (subst (λ x. Follows files m (set_to m q (Some e)) had x (put_touch q e ∷ [])) (sym pushed)
     (set_one files m had q e (λ old. Some e) stays (Put q bytes) refl
     (ap (λ (x : List ℕ). record { at = q; after = Some x }) record_is)
-    (ap (λ (t : Bool). not (t && true) && same_record (Some (record_of e)) (get (volume_of m) q)) plain ∙ ap (λ (x : List ℕ). same_record (Some x) (get (volume_of m) q)) (sym record_is))))
+    (ap (λ (t : Bool). not (t && true) && same_record (Some (record_of e)) (get (volume_of m) q)) plain ∙ ap (λ (x : List ℕ). same_record (Some x) (get (volume_of m) q)) (sym record_is))
+    (λ have. refl)))
 
 -- ---- a name that is dropped
 

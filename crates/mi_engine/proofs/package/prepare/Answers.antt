@@ -12,7 +12,7 @@ use Rattle.mi_engine.proofs.PackageLemmas.{walks_on_fails, prepared, planned_ove
 use Rattle.mi_engine.proofs.package.prepare.Goals as goal
 
 pub returns-in-Ok-clause-prepares : goal.returns-in-Ok-clause-prepares
-returns-in-Ok-clause-prepares g c =
+returns-in-Ok-clause-prepares g c free =
     let held = (g.V.Volume.state c.args.vol.now).held in
     let files = g.S.Source.files c.args.src.now in
     let p = c.args.asked.now in
@@ -23,7 +23,7 @@ returns-in-Ok-clause-prepares g c =
     let last = g.S.Source.faults c.plan_package.new.src in
     let falls = volume.Rose (g.V.Volume.state c.args.vol.now) (g.V.Volume.state c.plan_package.new.vol) in
     let r = c.plan_package.result in
-    prepared (g.V.Volume.told × g.S.Source.told) g.S.Source.told falls (Rose first last) files p.folder.now (sets_of p) m c.args.now p.recorded
+    prepared (g.V.Volume.told × g.S.Source.told) g.S.Source.told falls (Rose first last) free files p.folder.now (sets_of p) m c.args.now p.recorded
     (record x { rows = rows_in c.in-Ok.loaded }) r
     (walks_on_fails p.recorded (record x { rows = rows_in c.in-Ok.loaded }) falls (Rose mid last) (Rose first last) (source_before first mid last c.in-Ok.ensures.counts) r
     (c.plan_package.ensures.walks held files (record x { rows = rows_in c.in-Ok.loaded }) (record { rows = refl; former = refl; folder = refl; words = refl; moment = refl })))
@@ -33,6 +33,7 @@ returns-in-Ok-clause-prepares g c =
           (c.plan_package.ensures.walks held files x (record { rows = read.1; former = refl; folder = refl; words = refl; moment = refl })),
     ))
     (λ t. t.1)
+    (λ t. c.plan_package.ensures.plain x (c.in-Ok.ensures.rows t.1).1)
     (λ t.
     planned_over files (g.S.Source.files c.load.new.src) r held c.args.image x c.in-Ok.loaded p c.args.now c.in-Ok.ensures.stays
     (c.plan_package.ensures.plan x t.0 t.1) refl (c.requires.contents t.0)

@@ -1,5 +1,6 @@
 use Rattle.std.proofs.Common.{ℕ, List, sym, ap, ◌∙◌, subst}
-use Rattle.std.specs.Prelude.{min, length, IsNone}
+use Rattle.std.specs.Prelude.{min, length}
+use Rattle.mi_carry.specs.Rooms.{HasRoom}
 use Rattle.mi_model.specs.Causes.{BelowCount}
 use Rattle.mi_model.specs.Plans.{Planned}
 use Rattle.mi_model.specs.Planning.{IsPlan}
@@ -21,11 +22,15 @@ returns-clause-serves g c recorded folder sets given out names settled made begu
     let reached = c.carry_out-carried.result.reached in
     let refusal = c.args.refusal in
     let r = c.answered.result in
-    let differs : List ℕ → ℕ → ℕ → Type 0 = Differs g.S.Source.told c.as_slice.result.now in
-    let caused : carried.Caused differs (IsNone s.capacity) (BelowCount f h) refusal (length names) reached s.faults u.faults kind =
-    subst (λ (b : ℕ). carried.Caused differs (IsNone s.capacity) (BelowCount f h) refusal b reached s.faults u.faults kind) (c.from.ensures ∙ begun) c.carry_out-carried.ensures.caused in
-    said_serves g.V.Volume.told g.S.Source.told recorded folder sets settled f h files s u given out names c.as_slice.result.now refusal
-    (λ v told. ((plan v told).0, subst (λ (l : List Planned). IsPlan files (walk given) names l refusal) (sym c.as_slice.ensures.value) (plan v told).1)) former c.requires.refusal differs (λ file stated size d told. d.untold told) reached
+    let segments = c.as_slice.result.now in
+    let has : g.V.Volume.told → HasRoom s segments = λ v. subst (λ (l : List Planned). HasRoom s l) (sym c.as_slice.ensures.value) (c.requires.room v) in
+    let room : Type 0 = g.V.Volume.told → HasRoom s segments in
+    let differs : List ℕ → ℕ → ℕ → Type 0 = Differs g.S.Source.told segments in
+    let caused : carried.Caused differs room (BelowCount f h) refusal (length names) reached s.faults u.faults kind =
+    subst (λ (b : ℕ). carried.Caused differs room (BelowCount f h) refusal b reached s.faults u.faults kind) (c.from.ensures ∙ begun) c.carry_out-carried.ensures.caused in
+    said_serves g.V.Volume.told g.S.Source.told recorded folder sets settled f h files s u given out names segments refusal
+    (λ v told. ((plan v told).0, subst (λ (l : List Planned). IsPlan files (walk given) names l refusal) (sym c.as_slice.ensures.value) (plan v told).1)) former c.requires.refusal differs (λ file stated size d told. d.untold told) room has
+    (λ v. c.carry_out-carried.ensures.recovers v (has v)) reached
     c.carry_out-carried.ensures.passes.faults c.carry_out-carried.ensures.source_counts kind r.kind r.reached (log_in r) c.answered.ensures.says (c.answered.ensures.reached ∙ ap (min reached) begun) caused
     c.carry_out-carried.ensures.stops c.carry_out-carried.ensures.leaves c.carry_out-carried.ensures.reads c.carry_out-carried.ensures.cleans
-    (c.answered.ensures.log settled names refusal made (may_close differs (IsNone s.capacity) (BelowCount f h) refusal (length names) reached s.faults u.faults kind caused))
+    (c.answered.ensures.log settled names refusal made (may_close differs room (BelowCount f h) refusal (length names) reached s.faults u.faults kind caused))

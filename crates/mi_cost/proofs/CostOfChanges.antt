@@ -1,16 +1,11 @@
--- What the changes of segments cost: their rollback area, and what the names that they change hold more on the way. By changes, where
--- `need` of the model goes by rows. (This project's own.)
+-- What the changes of segments cost: their rollback area, and what the names that they change hold more on the way. By changes, between
+-- `need` of the model, which goes by rows, and `stated_cost`, which goes by records.
 use Rattle.std.specs.Prelude.{ℕ, ◌+◌, ◌*◌, ◌-◌, max, List, [], ◌∷◌, ◌++◌, map, sum_by, if◌then◌else◌}
 use Rattle.std.specs.List.{list_all}
 use Rattle.std.specs.FinMap.{get, keys}
 use Rattle.mi_text.specs.Maps.{Name, Map, same_name, is_among}
 use Rattle.mi_volume.specs.Maps.{slot_size}
-use Rattle.mi_base.specs.Machine.{volume_of}
-use Rattle.mi_image.specs.Items.{Items, machine_over}
-use Rattle.mi_source.specs.Paths.{Files}
 use Rattle.mi_changes.specs.Changes.{Change}
-use Rattle.mi_script.specs.declared.rec.Rec.{Rec}
-use Rattle.mi_script.specs.Scripts.{script_changes, after_script}
 use Rattle.mi_model.specs.Cost.{note_size, set_of}
 
 -- the changes of one segment
@@ -48,16 +43,3 @@ cost_of_names d segments (n ∷ names) = 4 + 25 * entries_of [] segments + sum_b
 -- over the former map; each name counts once, in all segments together
 unfoldable pub cost_of_changes : Map (List ℕ) → List Segment → ℕ
 cost_of_changes d segments = cost_of_names d segments (keys (set_of (names_changed (all_changes segments))))
-
--- the changes of scripts, each over the map that those before it leave
-abbrev pub changes_of_scripts : Files → Map (List ℕ) → List (List Rec) → List Segment
-changes_of_scripts files d [] = []
-changes_of_scripts files d (records ∷ scripts) = script_changes files d records ∷ changes_of_scripts files (after_script files d records) scripts
-
--- what the changes of scripts cost over the former map
-abbrev pub scripts_cost : Files → Map (List ℕ) → List (List Rec) → ℕ
-scripts_cost files d scripts = cost_of_changes d (changes_of_scripts files d scripts)
-
--- the map of the machine that an image stands for, over the map that was scanned and the source's files
-abbrev pub former_map : Map (List ℕ) → Map (List ℕ) → Items → Map (List ℕ)
-former_map held files items = volume_of (machine_over held files items)

@@ -1,0 +1,14 @@
+use Rattle.std.proofs.Common.{[], subst, sym}
+use Rattle.std.proofs.lemmas.List.{append-nil}
+use Rattle.mi_props.specs.Props.{all_names}
+use Rattle.mi_text.specs.PropertyNames.{is_public_name}
+use Rattle.mi_model.specs.Assignments.{Assigned}
+use Rattle.mi_engine.proofs.WordLemmas.{public_with_none}
+use Rattle.mi_words.specs.Asked.{of_words}
+use Rattle.mi_engine.proofs.obey.install_made.Goals as goal
+
+pub install-requires-clause-public : goal.install-requires-clause-public
+install-requires-clause-public g c = public_with_none (of_words c.args.asked.now.words) c.requires.words.public
+
+pub returns-clause-serves : goal.returns-clause-serves
+returns-clause-serves g c = c.install.ensures.serves
