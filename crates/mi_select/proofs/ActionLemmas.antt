@@ -1,5 +1,5 @@
 -- What becomes of components, by what is kept of their features.
-use Rattle.std.proofs.Common.{◌≡◌, ℕ, ℤ, suc, ◌&&◌, ◌||◌, not, Bool, true, false, cond, List, [], ◌∷◌, map, Option, Some, None, refl, sym, ap, subst, ◌∙◌, inl, inr}
+use Rattle.std.proofs.Common.{◌≡◌, ℕ, suc, ◌&&◌, ◌||◌, not, Bool, true, false, cond, List, [], ◌∷◌, map, Option, Some, None, refl, sym, ap, subst, ◌∙◌, inl, inr}
 use Rattle.std.specs.Prelude.{slice_get, filter, option_map, option_and_then, unwrap_or}
 use Rattle.std.specs.List.{list_any}
 use Rattle.std.specs.BTreeMap.{BTreeMap}
@@ -20,12 +20,17 @@ use Rattle.mi_schema.specs.declared.typed_rows.FeatureRow.{FeatureRow}
 use Rattle.mi_schema.specs.declared.typed_rows.FeatureComponentsRow.{FeatureComponentsRow}
 use Rattle.mi_model.specs.World as world
 use Rattle.mi_model.specs.World.{Given}
-use Rattle.mi_model.specs.Conditions.{holds, has}
+use Rattle.mi_model.specs.Conditions.{holds}
 use Rattle.mi_model.specs.States.{features_of, is_present, is_present_by}
 use Rattle.mi_model.specs.Components as components
 use Rattle.mi_model.specs.Components.{owners_of, has_id, has_other_client}
+<<<<<<< ours
 use Rattle.mi_model.specs.Selecting.{record_of_product, feature_request, is_feature_after, component_action}
 use Rattle.mi_features.specs.declared.choice.FeatureChoice.{FeatureChoice}
+=======
+use Rattle.mi_model.specs.Selecting.{record_of_product, feature_request, is_feature_after}
+use Rattle.mi_select.specs.declared.choice.FeatureChoice.{FeatureChoice}
+>>>>>>> theirs
 use Rattle.mi_select.specs.declared.component.Action.{Action}
 use Rattle.mi_select.specs.declared.component.Action.TheVariants as action
 use Rattle.mi_select.specs.declared.component.ComponentChoice.{ComponentChoice}
