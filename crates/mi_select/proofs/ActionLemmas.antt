@@ -24,13 +24,8 @@ use Rattle.mi_model.specs.Conditions.{holds}
 use Rattle.mi_model.specs.States.{features_of, is_present, is_present_by}
 use Rattle.mi_model.specs.Components as components
 use Rattle.mi_model.specs.Components.{owners_of, has_id, has_other_client}
-<<<<<<< ours
-use Rattle.mi_model.specs.Selecting.{record_of_product, feature_request, is_feature_after, component_action}
-use Rattle.mi_features.specs.declared.choice.FeatureChoice.{FeatureChoice}
-=======
 use Rattle.mi_model.specs.Selecting.{record_of_product, feature_request, is_feature_after}
-use Rattle.mi_select.specs.declared.choice.FeatureChoice.{FeatureChoice}
->>>>>>> theirs
+use Rattle.mi_features.specs.declared.choice.FeatureChoice.{FeatureChoice}
 use Rattle.mi_select.specs.declared.component.Action.{Action}
 use Rattle.mi_select.specs.declared.component.Action.TheVariants as action
 use Rattle.mi_select.specs.declared.component.ComponentChoice.{ComponentChoice}
