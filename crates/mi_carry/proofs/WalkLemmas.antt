@@ -1,11 +1,10 @@
 -- Planned walks that are carried out.
-use Rattle.std.proofs.Common.{◌≡◌, ℕ, true, List, [], ◌∷◌, length, Option, None, Some, refl, sym, ap, subst, ◌∙◌}
+use Rattle.std.proofs.Common.{◌≡◌, ℕ, List, [], ◌∷◌, length, Option, None, refl, sym, ap, ◌∙◌}
 use Rattle.mi_text.specs.Maps.{Name}
 use Rattle.mi_volume.specs.Maps.{Map}
 use Rattle.mi_source.specs.Paths.{Files}
-use Rattle.mi_base.specs.Machine.{Machine, volume_of}
+use Rattle.mi_base.specs.Machine.{volume_of}
 use Rattle.mi_base.specs.declared.answers.Cause.{Cause}
-use Rattle.mi_base.specs.declared.answers.Kind.{Kind}
 use Rattle.mi_model.specs.World.{Given}
 use Rattle.mi_model.specs.Walk.{Walked, walk, last_machine}
 use Rattle.mi_model.specs.Cost.{need}

@@ -135,7 +135,8 @@ fn work<S: Source, V: Volume>(
 /// end is committed, and one that was refused is gone back over. Where no segment has a record, nothing is called.
 /// A fault of a device is answered with the actions that are begun at the end of the segment at hand. Each script is
 /// read back when its turn comes. Where what the scripts cost over what the volume holds fits beside it, no call meets
-/// want of room, forward or on the way back, and recovery of what a crash leaves has room (Rollback Installation; the answers are this project's own).
+/// want of room, forward or on the way back, and recovery of what a crash leaves has room (Rollback Installation; the
+/// answers are this project's own).
 pub fn carry_out<S: Source, V: Volume>(
     alloc: Global,
     vol: &mut V,
