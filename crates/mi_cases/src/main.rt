@@ -13,6 +13,7 @@ mod machine;
 mod orders;
 mod printed;
 mod record;
+mod room;
 mod runs;
 mod script;
 mod source;

@@ -80,6 +80,11 @@ fn counted(held: &[Held], prefix: &[u8]) -> (u64, u64) {
     (names, bytes)
 }
 
+/// The size of what is held: the lengths of its names and bytes.
+pub fn size_of(held: &[Held]) -> u64 {
+    counted(held, &[]).1
+}
+
 /// Adds how many names begin so, and their bytes.
 pub fn push_count(
     alloc: Global,

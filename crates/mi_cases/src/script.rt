@@ -8,6 +8,7 @@ use crate::machine::Machine;
 use crate::orders::{Order, order_of, recovery};
 use crate::printed::{names_of, push_called, push_count, push_held, push_machine, push_told};
 use crate::record::bytes_of;
+use crate::room::{came_by, push_room};
 use crate::runs::Setting;
 use crate::source::{Files, letters, use_base};
 use crate::table;
@@ -272,11 +273,25 @@ impl Script {
         Ok(())
     }
 
-    fn run(&mut self, alloc: Global, fields: &[Vec<u8>]) -> Result<Told, Ill> {
-        let order = order_of(alloc, from(fields, 1))?;
-        let told = self.machine.run(alloc, &order, &self.files, &self.waiting)?;
+    fn run(&mut self, alloc: Global, order: &Order) -> Result<Told, Ill> {
+        let told = self.machine.run(alloc, order, &self.files, &self.waiting)?;
         self.waiting = Waiting::new(alloc);
         Ok(told)
+    }
+
+    /// Tries the run that this came of with just the room that it needs.
+    fn try_room<'a>(
+        &'a mut self,
+        alloc: Global,
+        order: &'a Order,
+        before: &'a [Held],
+        told: Told,
+        out: &mut Vec<u8>,
+    ) -> Result<(), Ill> {
+        let after = self.machine.held(alloc)?;
+        let plain = came_by(alloc, told, after.as_slice())?;
+        let setting = self.setting(before);
+        push_room(alloc, out, Try { order, setting }, &plain)
     }
 
     fn print_run(
@@ -286,8 +301,15 @@ impl Script {
         whole: bool,
         out: &mut Vec<u8>,
     ) -> Result<(), Ill> {
-        let told = self.run(alloc, fields)?;
-        push_told(alloc, out, &told, whole)
+        let order = order_of(alloc, from(fields, 1))?;
+        let tries_room = self.machine.capacity().is_none() && self.waiting.is_empty();
+        let before = self.machine.held(alloc)?;
+        let told = self.run(alloc, &order)?;
+        push_told(alloc, out, &told, whole)?;
+        if tries_room {
+            return self.try_room(alloc, &order, before.as_slice(), told, out);
+        }
+        Ok(())
     }
 
     fn setting<'a>(&'a self, held: &'a [Held]) -> Setting<'a> {

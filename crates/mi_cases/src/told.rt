@@ -7,6 +7,13 @@ use mi_report::{Outcome, report};
 use mi_text::{Bytes, NoMemory};
 use std::alloc::Global;
 
+/// Want of room: the bytes that a run needs, and the bytes that are free.
+#[derive(Clone, Copy, Debug, PartialEq, Eq)]
+pub struct Full {
+    pub need: u64,
+    pub free: u64,
+}
+
 /// What an answer is, beside its text.
 #[derive(Clone, Copy)]
 pub struct Marks {
@@ -17,6 +24,8 @@ pub struct Marks {
     pub by_device: bool,
     pub is_suspended: bool,
     pub is_recovered: bool,
+    /// The room that it asked for in vain.
+    pub full: Option<Full>,
 }
 
 /// What a run tells: its answer, the answer's text, and its log.
@@ -34,6 +43,16 @@ fn is_by_device(kind: &Kind) -> bool {
     )
 }
 
+fn full_of(kind: &Kind) -> Option<Full> {
+    match kind {
+        Kind::Refused(Cause::Full(need, free)) => Some(Full {
+            need: *need,
+            free: *free,
+        }),
+        _ => None,
+    }
+}
+
 fn marks_of(answer: &Answer) -> Marks {
     Marks {
         status: answer_code(answer),
@@ -42,6 +61,7 @@ fn marks_of(answer: &Answer) -> Marks {
         by_device: is_by_device(&answer.kind),
         is_suspended: matches!(answer.kind, Kind::Suspended(_)),
         is_recovered: matches!(answer.kind, Kind::Recovered(_)),
+        full: full_of(&answer.kind),
     }
 }
 

@@ -41,7 +41,8 @@ fn on_volume(volume: Faulty<'_>) -> Faults<'_> {
     }
 }
 
-fn has_area(held: &[Held]) -> bool {
+/// Whether names of the rollback area are held.
+pub fn has_area(held: &[Held]) -> bool {
     held.iter().any(|held| is_area(held.name.as_str()))
 }
 

@@ -31,6 +31,11 @@ impl Waiting {
             sink: Vec::new(alloc),
         }
     }
+
+    /// Whether no device fails.
+    pub fn is_empty(&self) -> bool {
+        self.waits.is_empty() && self.source.is_empty() && self.sink.is_empty()
+    }
 }
 
 /// The kind of call that a word names.
