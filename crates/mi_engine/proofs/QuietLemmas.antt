@@ -1,5 +1,5 @@
 -- Answers of a run that wrote nothing to its settled volume.
-use Rattle.std.proofs.Common.{◌≡◌, ◌⊎◌, inl, inr, ⊎_elim, ℕ, arith, Bool, List, Ok, refl, sym, subst, ◌∙◌}
+use Rattle.std.proofs.Common.{◌≡◌, ◌⊎◌, inl, ⊎_elim, ℕ, arith, Bool, List, Ok, refl, sym, subst, ◌∙◌}
 use Rattle.std.proofs.Math.Seq.{take-length}
 use Rattle.std.specs.Prelude.{length}
 use Rattle.mi_text.specs.declared.answers.Settled.{Settled}

@@ -16,7 +16,7 @@ use Rattle.mi_model.specs.Sequence.{is_inside, sequence}
 use Rattle.mi_model.specs.Steps.{Step, Plain, Launch, Cost, Runs, Ends, SetProperty, SetDirectory, Fails, step_of}
 use Rattle.mi_model.specs.LaunchConditions.{launch_refusal}
 use Rattle.mi_model.specs.PhaseRows.{phase_rows}
-use Rattle.mi_model.specs.Walk.{Part, Walked, at_start, refused, or_refused, with_world, with_rows, ended, unless_refused, taken, begin, acted, walked_row, at_end, walked_on, walk}
+use Rattle.mi_model.specs.Walk.{Part, Walked, at_start, refused, or_refused, with_world, with_rows, unless_refused, taken, begin, acted, walked_row, at_end, walked_on, walk}
 
 -- each segment ends behind so many actions at most
 abbrev pub Within : ℕ → List Part → Type 0

@@ -1,6 +1,6 @@
 -- Room for a planned walk: what is counted is what the outcome asks for.
-use Rattle.std.proofs.Common.{◌≡◌, ◌⊎◌, inl, inr, eqb, ℕ, ◌+◌, ◌-◌, ◌^◌, ◌<◌, ◌≤◌, min, arith, Bool, true, false, cond, not, List, [], ◌∷◌, ◌++◌, length, map, Option, None, Some, Result, Ok, Err, refl, sym, ap, subst, ◌∙◌}
-use Rattle.std.specs.Prelude.{IsOk, IfSome, MatchOption, nat_lt, option_map}
+use Rattle.std.proofs.Common.{◌≡◌, eqb, ℕ, ◌+◌, ◌-◌, ◌<◌, ◌≤◌, min, arith, Bool, true, false, cond, not, List, [], ◌∷◌, length, map, Option, None, Some, Result, Ok, Err, refl, sym, ap, subst, ◌∙◌}
+use Rattle.std.specs.Prelude.{IsOk, MatchOption, option_map}
 use Rattle.std.specs.List.{All}
 use Rattle.std.specs.FinMap.{keys}
 use Rattle.std.proofs.lemmas.List.Elements.{All-weaker}
@@ -22,13 +22,9 @@ use Rattle.mi_text.proofs.MapLemmas.{entries-from_entries}
 use Rattle.mi_model.specs.Cost.{all_rows, need, set_of}
 use Rattle.mi_model.specs.Plain.{ArePlain}
 use Rattle.mi_model.specs.Plans.{Planned, ArePlanned}
-use Rattle.mi_model.specs.Planning.{IsPlan}
 use Rattle.mi_model.specs.StatedSizes.{HasCopied, stated_cost, stated_cost_of}
 use Rattle.mi_model.specs.PackageOutcome.{Outcome, Refused, whole, is_room, full, by_parts, of_walk}
-use Rattle.mi_model_laws.specs.WalkLaws.{WalksOver}
 use Rattle.mi_model_laws.proofs.WalkLemmas.{walks_over}
-use Rattle.mi_plan.specs.Made.{as_planned}
-use Rattle.mi_plan.specs.declared.segment.Segment.{Segment}
 use Rattle.mi_cost.specs.CostLaw.{CostsTheSame}
 use Rattle.mi_engine.specs.declared.room.Lack.{Lack}
 use Rattle.mi_engine.specs.Calls.{IsCosted}

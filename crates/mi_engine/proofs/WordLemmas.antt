@@ -14,7 +14,6 @@ use Rattle.mi_words.specs.Asked.{asked}
 use Rattle.mi_words.specs.declared.command.Command as read
 use Rattle.mi_words.specs.declared.command.Command.TheVariants as variant
 use Rattle.mi_engine.specs.Asked.{MayAsk}
-use Rattle.mi_engine.specs.Calls.{sets_of}
 use Rattle.mi_engine.proofs.FirstLemmas.{first, both_true}
 
 -- what holds of a command of any words

@@ -1,6 +1,6 @@
 //! Serving a command: settling the volume, reading its machine, and then the command.
 
-ghost use Rattle.std.specs.Prelude.{◌≡◌, ◌≤◌, ℕ, List, Ok};
+ghost use Rattle.std.specs.Prelude.{◌≡◌, ◌≤◌, List, Ok};
 ghost use Rattle.mi_volume.specs.State.{Passes};
 ghost use Rattle.mi_undo.specs.Keeps.{IsFree};
 ghost use Rattle.mi_base.specs.Machine.{machine_of};

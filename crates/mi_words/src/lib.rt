@@ -10,7 +10,5 @@ mod rest;
 mod word;
 
 pub use command::{Command, PackageWords, Sets, TestWords};
-pub use places::first_kept;
 pub use read::read_words;
 pub use rest::Assignments;
-pub use word::is_word;

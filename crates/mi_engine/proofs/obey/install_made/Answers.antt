@@ -1,8 +1,3 @@
-use Rattle.std.proofs.Common.{[], subst, sym}
-use Rattle.std.proofs.lemmas.List.{append-nil}
-use Rattle.mi_props.specs.Props.{all_names}
-use Rattle.mi_text.specs.PropertyNames.{is_public_name}
-use Rattle.mi_model.specs.Assignments.{Assigned}
 use Rattle.mi_engine.proofs.WordLemmas.{public_with_none}
 use Rattle.mi_words.specs.Asked.{of_words}
 use Rattle.mi_engine.proofs.obey.install_made.Goals as goal

@@ -1,4 +1,4 @@
-use Rattle.std.proofs.Common.{◌≡◌, ◌++◌, [], true, false, arith, Ok, refl}
+use Rattle.std.proofs.Common.{◌++◌, [], false, Ok}
 use Rattle.std.proofs.lemmas.List.{append-nil}
 use Rattle.std.specs.Prelude.{codes}
 use Rattle.mi_source.specs.Counts.{Rose}

@@ -1,9 +1,8 @@
-use Rattle.std.proofs.Common.{◌≡◌, List, [], sym, subst, ◌∙◌}
+use Rattle.std.proofs.Common.{List, sym, subst, ◌∙◌}
 use Rattle.mi_script.specs.declared.rec.Rec.{Rec}
-use Rattle.mi_engine.specs.declared.room.Lack.{Lack}
 use Rattle.mi_engine.specs.Room.{Lacks}
 use Rattle.std.specs.Prelude.{None}
-use Rattle.mi_engine.proofs.RoomLemmas.{none_fit, lacks_by, no_scripts}
+use Rattle.mi_engine.proofs.RoomLemmas.{none_fit, no_scripts}
 use Rattle.mi_engine.proofs.room.lack_in.Goals as goal
 
 pub returns-then-is_empty-clause-lacks : goal.returns-then-is_empty-clause-lacks

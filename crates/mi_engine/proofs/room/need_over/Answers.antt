@@ -1,9 +1,8 @@
-use Rattle.std.proofs.Common.{◌≡◌, ℕ, List, refl, sym, ap, ◌∙◌, subst}
+use Rattle.std.proofs.Common.{◌≡◌, ℕ, List, refl, subst}
 use Rattle.std.specs.FinMap.{empty}
-use Rattle.std.specs.Prelude.{IfOk, Result}
+use Rattle.std.specs.Prelude.{IfOk}
 use Rattle.mi_text.specs.Maps.{Map}
 use Rattle.mi_base.specs.Machine.{machine_of}
-use Rattle.mi_image.specs.declared.fault.ImageError.{ImageError}
 use Rattle.mi_model.specs.StatedSizes.{stated_cost}
 use Rattle.mi_engine.specs.Room.{counted}
 use Rattle.mi_engine.proofs.MachineLemmas.{scanned_spells, scanned_contents}

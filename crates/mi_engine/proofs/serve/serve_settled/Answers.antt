@@ -1,7 +1,5 @@
 use Rattle.std.proofs.Common.{◌≡◌, Bool, Ok, Err, sym, ap, subst, ◌∙◌}
-use Rattle.std.specs.Prelude.{IsOk}
 use Rattle.mi_undo.specs.Stands.{settled}
-use Rattle.mi_volume.specs.Maps.{Map}
 use Rattle.mi_base.specs.Machine.{machine_of}
 use Rattle.mi_base.specs.declared.answers.Kind.{Kind}
 use Rattle.mi_image.specs.Items.{machine_over}

@@ -1,19 +1,14 @@
-use Rattle.std.proofs.Common.{◌≡◌, ℕ, List, Option, Ok, Err, true, refl, sym, ap, ◌∙◌, subst}
+use Rattle.std.proofs.Common.{◌≡◌, ℕ, Option, Ok, Err, true, refl, sym, ap, ◌∙◌, subst}
 use Rattle.std.specs.Prelude.{map}
-use Rattle.mi_script.specs.declared.rec.Rec.{Rec}
 use Rattle.mi_source.specs.Counts.{Rose}
-use Rattle.mi_volume.specs.Maps.{Map}
 use Rattle.mi_base.specs.declared.answers.Kind.{Kind}
 use Rattle.mi_base.specs.Machine.{machine_of}
 use Rattle.mi_model.specs.Outcome.{free_room}
-use Rattle.mi_model.specs.Plans.{Planned}
 use Rattle.mi_model.specs.Words.{Package}
 use Rattle.mi_plan.specs.Made.{as_planned}
 use Rattle.mi_engine.specs.Answers.{IsTold}
 use Rattle.mi_engine.specs.Calls.{IsCosted}
-use Rattle.mi_engine.specs.Endings.{kind_unscanned}
 use Rattle.mi_engine.specs.Replies.{Replies, log_in}
-use Rattle.mi_engine.specs.Room.{Lacks, scripts_in}
 use Rattle.mi_engine.proofs.BeforeLemmas.{serves_from}
 use Rattle.mi_engine.proofs.EndLemmas.{free_looks}
 use Rattle.mi_engine.proofs.LookLemmas.{looks_so}

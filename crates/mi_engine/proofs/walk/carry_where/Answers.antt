@@ -1,4 +1,4 @@
-use Rattle.std.proofs.Common.{◌≡◌, ℕ, List, Option, Some, None, arith, sym, ap, ◌∙◌, subst}
+use Rattle.std.proofs.Common.{◌≡◌, ℕ, Option, arith, sym, ap, ◌∙◌, subst}
 use Rattle.std.specs.Prelude.{length, min}
 use Rattle.mi_source.specs.Counts.{Rose}
 use Rattle.mi_engine.specs.declared.room.Lack.{Lack}
