@@ -23,7 +23,7 @@ pub fn came_by(alloc: Global, told: Told, held: &[Held]) -> Result<Came, Ill> {
     Ok(Came { told, key })
 }
 
-fn came(alloc: Global, tried: Try<'_>) -> Result<Came, Ill> {
+fn outcome_of(alloc: Global, tried: Try<'_>) -> Result<Came, Ill> {
     let (told, held) = sound(alloc, tried.order, tried.setting)?;
     came_by(alloc, told, held.as_slice())
 }
@@ -36,7 +36,7 @@ fn at_capacity(alloc: Global, tried: Try<'_>, capacity: u64) -> Result<Came, Ill
         capacity: Some(capacity),
     };
     let order = tried.order;
-    came(alloc, Try { order, setting })
+    outcome_of(alloc, Try { order, setting })
 }
 
 /// Adds a line that says what is wrong with a run at a capacity.
@@ -176,7 +176,7 @@ fn push_settled(
     setting: Setting<'_>,
 ) -> Result<(), Ill> {
     let tried = Try { order, setting };
-    let plain = came(alloc, tried)?;
+    let plain = outcome_of(alloc, tried)?;
     push_tried(alloc, out, tried, &plain)
 }
 
