@@ -280,11 +280,11 @@ impl Script {
     }
 
     /// Tries the run that this came of with just the room that it needs.
-    fn try_room(
-        &mut self,
+    fn try_room<'a>(
+        &'a mut self,
         alloc: Global,
-        order: &Order,
-        before: &[Held],
+        order: &'a Order,
+        before: &'a [Held],
         told: Told,
         out: &mut Vec<u8>,
     ) -> Result<(), Ill> {
