@@ -259,3 +259,12 @@ code_apart m n x y lm ln e =
     let split = long_apart (guid_text m) (guid_text n) x y (length-guid_text m ∙ sym (length-guid_text n)) e in
     let same : Some m ≡ Some n = sym (guid_of-guid_text m lm) ∙ ap guid_of split.0 ∙ guid_of-guid_text n ln in
     (cc, split.1)
+
+-- ---- texts one behind the other
+
+pub five : (o a b c d e : List ℕ) → o ++ a ++ b ++ c ++ d ++ e ≡ o ++ (a ++ b ++ c ++ d ++ e)
+five o a b c d e =
+    ap (λ (l : List ℕ). l ++ c ++ d ++ e) (append_assoc o a b)
+    ∙ ap (λ (l : List ℕ). l ++ d ++ e) (append_assoc o (a ++ b) c)
+    ∙ ap (λ (l : List ℕ). l ++ e) (append_assoc o (a ++ b ++ c) d)
+    ∙ append_assoc o (a ++ b ++ c ++ d) e

@@ -1,9 +1,10 @@
 -- What an image that was scanned has at a name.
-use Rattle.std.proofs.Common.{◌≡◌, ℕ, zero, suc, ◌<◌, ◌^◌, Bool, true, false, cond, List, [], ◌∷◌, ◌++◌, map, take, drop, length, Option, Some, None, Bor, refl, sym, ap, subst, ◌∙◌, arith, nat_lt, ltb-true, codes, append_assoc, get_or, ◌+◌, Result, Ok, Err}
+use Rattle.std.proofs.Common.{◌≡◌, ℕ, zero, suc, ◌<◌, ◌≤◌, ◌^◌, Bool, true, false, cond, List, [], ◌∷◌, ◌++◌, map, take, drop, length, Option, Some, None, Bor, refl, sym, ap, subst, ◌∙◌, arith, nat_lt, ltb-true, codes, append_assoc, get_or, ◌+◌, Result, Ok, Err}
 use Rattle.std.specs.Prelude.{option_map, IsOkAnd, ◌&&◌, filter, nat_eq, is_none}
 use Rattle.std.specs.List.{filter_map, flat_map, starts_with, cons_option}
 use Rattle.std.specs.FinMap.{get, keys, entries, entries-from_sorted, get-from_sorted}
 use Rattle.md5.specs.Md5.{md5}
+use Rattle.std.proofs.lemmas.List.{append-nil}
 use Rattle.mi_text.proofs.ByteLemmas.{both}
 use Rattle.mi_text.proofs.MapLemmas.{keys-map_values}
 use Rattle.mi_text.specs.Fold.{folded}
@@ -28,7 +29,7 @@ use Rattle.mi_image.proofs.LookupLemmas.{over_whole, get_over}
 use Rattle.mi_show.specs.Lines.{details, head_details}
 use Rattle.mi_show.specs.Registry.{key_line, stray}
 use Rattle.mi_show.specs.Trees.{path_lines, tree}
-use Rattle.mi_show.specs.Machines.{no_files, machine_in, plain_machine, IsScanned, head_lines, heads_tree, lines_after, path_after}
+use Rattle.mi_show.specs.Machines.{no_files, machine_in, plain_machine, IsScanned, head_lines, heads_tree, heads_of, lines_after, path_after}
 use Rattle.mi_show.specs.Prints.{other_line, other_at, names_of, lines, exported_at, values_of, key_with_values, stray_at, registry, section, others, shown}
 
 -- ---- a source without files
@@ -68,20 +69,6 @@ whole_at kind known held items q =
 pub other_whole : (held : Map (List ℕ)) (items : Items) (q : Name) → other_at (whole_of (get items q)) ≡ other_at (get (machine_in held items) q)
 other_whole held items q = whole_at other_at other_file held items q
 
--- the root of a key
-pub root_small : (items : Items) (q : Name) (root : ℕ) (shown : List ℕ) → AreRight items → whole_of (get items q) ≡ Some (entry.Key root shown) → root < 10
-unfolding fits
-root_small items q root shown right is = by_item (get items q) refl is
-  where
-    by_item : (o : Option Item) → get items q ≡ o → whole_of o ≡ Some (entry.Key root shown) → root < 10
-    by_item None at e = absurd cc
-    by_item (Some (Head h content)) at e = absurd cc
-    by_item (Some (Whole e)) at whole =
-        let key : e ≡ entry.Key root shown = cc in
-        let right : fits (entry.Key root shown) ≡ true = ap fits (sym key) ∙ (right q (Whole e) at).right in
-        let low = ltb-true root 4 (both (nat_lt root 4) (is_key shown) right).0 in
-        omega (arith, low)
-
 -- ---- lists of names
 
 flat_map_now : (at : List ℕ → List ℕ) (ns : List (Bor (List ℕ))) → flat_map (λ (n : Bor (List ℕ)). at n.now) ns ≡ flat_map at (map (λ (n : Bor (List ℕ)). n.now) ns)
@@ -92,6 +79,14 @@ pub names_text : (at : List ℕ → List ℕ) (ns : List (Bor (List ℕ))) (qs :
 names_text at ns qs e = flat_map_now at ns ∙ ap (flat_map at) e
 
 -- ---- files
+
+pub drop_more : {X : Type 0} → (xs : List X) (i : ℕ) (d : X) → i < length xs → drop i xs ≡ get_or xs i d ∷ drop (i + 1) xs
+drop_more [] i d lt = absurd (let z : ⊥ = omega (arith, lt) in z)
+drop_more (x ∷ xs) zero d lt = refl
+drop_more (x ∷ xs) (suc i) d lt = drop_more xs i d (omega (arith, lt)) ∙ ap (λ (k : ℕ). get_or xs i d ∷ drop k (x ∷ xs)) (more i)
+  where
+    more : (i : ℕ) → suc (i + 1) ≡ suc i + 1
+    more i = omega arith
 
 -- the file that an item is
 item_file : (held : Map (List ℕ)) (items : Items) (q : Name) → Option Item → Option FileEntry
@@ -108,9 +103,6 @@ file_lines held items q h content right there at former =
     let held_there : bytes_of_file (get (machine_in held items) (file_name h.shown)) ≡ bytes =
     ap (λ (n : Name). bytes_of_file (get (machine_in held items) n)) named ∙ ap bytes_of_file (get_over held no_files items q) ∙ ap (λ (o : Option Item). bytes_of_file (option_map (entry_over held no_files) o)) at in
     λ i. path_lines former h.shown ++ head_details (head i) (md5 (sym held_there i))
-
-pub filter_added : {Y : Type 0} → (f : Name → Option Y) (q : Name) (names : List Name) → filter_map f (q ∷ names) ≡ cons_option (f q) (filter_map f names)
-filter_added f q names = refl
 
 -- an item that stands whole isn't a file
 not_file : (items : Items) (q : Name) (e : Entry) → AreRight items → get items q ≡ Some (Whole e) → as_file (Some e) ≡ None
@@ -134,34 +126,67 @@ module _ (held : Map (List ℕ)) (items : Items) (right : AreRight items) (there
   abbrev head_at_name : Name → Option FileHead
   head_at_name q = head_in (get items q)
 
+  file_is : (q : Name) (o : Option Item) → get items q ≡ o → file_at_name q ≡ as_file (option_map (entry_over held no_files) o)
+  file_is q o at = ap as_file (get_over held no_files items q ∙ ap (option_map (entry_over held no_files)) at)
+
+  files_step : (former : List ℕ) (q : Name) (names : List Name) → ((f : List ℕ) → tree f (filter_map file_at_name names) ≡ heads_tree the f (filter_map head_at_name names)) → (o : Option Item) → get items q ≡ o
+      → tree former (filter_map file_at_name (q ∷ names)) ≡ heads_tree the former (filter_map head_at_name (q ∷ names))
+  unfolding tree heads_tree
+  files_step former q names rest None at =
+      ap (tree former) (ap (λ (o : Option FileEntry). cons_option o (filter_map file_at_name names)) (file_is q None at))
+      ∙ rest former
+      ∙ sym (ap (heads_tree the former) (ap (λ (o : Option FileHead). cons_option o (filter_map head_at_name names)) (ap head_in at)))
+  files_step former q names rest (Some (Whole e)) at =
+      ap (tree former) (ap (λ (o : Option FileEntry). cons_option o (filter_map file_at_name names)) (file_is q (Some (Whole e)) at ∙ not_file items q e right at))
+      ∙ rest former
+      ∙ sym (ap (heads_tree the former) (ap (λ (o : Option FileHead). cons_option o (filter_map head_at_name names)) (ap head_in at)))
+  files_step former q names rest (Some (Head h content)) at =
+      ap (tree former) (ap (λ (o : Option FileEntry). cons_option o (filter_map file_at_name names)) (file_is q (Some (Head h content)) at))
+      ∙ (λ i. file_lines held items q h content right there at former i ++ rest h.shown i)
+      ∙ sym (ap (heads_tree the former) (ap (λ (o : Option FileHead). cons_option o (filter_map head_at_name names)) (ap head_in at)))
+
   pub files_are_heads : (former : List ℕ) (names : List Name) → tree former (filter_map file_at_name names) ≡ heads_tree the former (filter_map head_at_name names)
   unfolding tree heads_tree
   files_are_heads former [] = refl
-  files_are_heads former (q ∷ names) = by_item (get items q) refl
-    where
-      file_is : (o : Option Item) → get items q ≡ o → file_at_name q ≡ as_file (option_map (entry_over held no_files) o)
-      file_is o at = ap as_file (get_over held no_files items q ∙ ap (option_map (entry_over held no_files)) at)
-      none : file_at_name q ≡ None → head_at_name q ≡ None → tree former (filter_map file_at_name (q ∷ names)) ≡ heads_tree the former (filter_map head_at_name (q ∷ names))
-      none f h =
-          ap (tree former) (filter_added file_at_name q names ∙ ap (λ (o : Option FileEntry). cons_option o (filter_map file_at_name names)) f)
-          ∙ files_are_heads former names
-          ∙ sym (ap (heads_tree the former) (filter_added head_at_name q names ∙ ap (λ (o : Option FileHead). cons_option o (filter_map head_at_name names)) h))
-      by_item : (o : Option Item) → get items q ≡ o → tree former (filter_map file_at_name (q ∷ names)) ≡ heads_tree the former (filter_map head_at_name (q ∷ names))
-      by_item None at = none (file_is None at) (ap head_in at)
-      by_item (Some (Whole e)) at = none (file_is (Some (Whole e)) at ∙ not_file items q e right at) (ap head_in at)
-      by_item (Some (Head h content)) at =
-          ap (tree former) (filter_added file_at_name q names ∙ ap (λ (o : Option FileEntry). cons_option o (filter_map file_at_name names)) (file_is (Some (Head h content)) at))
-          ∙ (λ i. file_lines held items q h content right there at former i ++ files_are_heads h.shown names i)
-          ∙ sym (ap (heads_tree the former) (filter_added head_at_name q names ∙ ap (λ (o : Option FileHead). cons_option o (filter_map head_at_name names)) (ap head_in at)))
+  files_are_heads former (q ∷ names) = files_step former q names (λ f. files_are_heads f names) (get items q) refl
 
-  -- one step of the loop over the heads
-  pub heads_step : (former : List ℕ) (q : Name) (names : List Name) → heads_tree the former (filter_map head_at_name (q ∷ names)) ≡ lines_after the former (head_at_name q) ++ heads_tree the (path_after former (head_at_name q)) (filter_map head_at_name names)
-  unfolding heads_tree
-  heads_step former q names = by_head (head_at_name q)
-    where
-      by_head : (o : Option FileHead) → heads_tree the former (cons_option o (filter_map head_at_name names)) ≡ lines_after the former o ++ heads_tree the (path_after former o) (filter_map head_at_name names)
-      by_head None = refl
-      by_head (Some h) = refl
+-- ---- the loop over the heads
+
+abbrev now_of : Bor (List ℕ) → List ℕ
+now_of n = n.now
+
+heads_step : (m : Machine) (former : List ℕ) (o : Option FileHead) (hs : List FileHead) → heads_tree m former (cons_option o hs) ≡ lines_after m former o ++ heads_tree m (path_after former o) hs
+unfolding heads_tree
+heads_step m former None hs = refl
+heads_step m former (Some h) hs = refl
+
+heads_end : (m : Machine) (former : List ℕ) → heads_tree m former [] ≡ []
+unfolding heads_tree
+heads_end m former = refl
+
+pub tree_step : (m : Machine) (items : Items) (names : List (Bor (List ℕ))) (i : ℕ) (d : Bor (List ℕ)) (former now : List ℕ) (head : Option FileHead) (out more start : List ℕ)
+    → i < length names → head ≡ head_in (get items (get_or names i d).now) → now ≡ path_after former head → more ≡ out ++ lines_after m former head
+    → out ++ heads_tree m former (heads_of items (map now_of (drop i names))) ≡ start
+    → more ++ heads_tree m now (heads_of items (map now_of (drop (i + 1) names))) ≡ start
+tree_step m items names i d former now head out more start lt is path text so =
+    let rest : List FileHead = heads_of items (map now_of (drop (i + 1) names)) in
+    let heads : heads_of items (map now_of (drop i names)) ≡ cons_option head rest =
+    ap (λ (ns : List (Bor (List ℕ))). heads_of items (map now_of ns)) (drop_more names i d lt) ∙ ap (λ (o : Option FileHead). cons_option o rest) (sym is) in
+    (λ j. text j ++ heads_tree m (path j) rest)
+    ∙ append_assoc out (lines_after m former head) (heads_tree m (path_after former head) rest)
+    ∙ ap (λ (l : List ℕ). out ++ l) (sym (ap (heads_tree m former) heads ∙ heads_step m former head rest))
+    ∙ so
+
+pub tree_done : (m : Machine) (items : Items) (names : List (Bor (List ℕ))) (i : ℕ) (former out start : List ℕ) → length names ≤ i
+    → out ++ heads_tree m former (heads_of items (map now_of (drop i names))) ≡ start → out ≡ start
+tree_done m items names i former out start le so =
+    sym (ap (λ (ns : List (Bor (List ℕ))). out ++ heads_tree m former (heads_of items (map now_of ns))) (drop_all names i le) ∙ ap (λ (l : List ℕ). out ++ l) (heads_end m former) ∙ append-nil out) ∙ so
+  where
+    drop_all : {X : Type 0} → (xs : List X) (i : ℕ) → length xs ≤ i → drop i xs ≡ []
+    drop_all [] zero le = refl
+    drop_all [] (suc i) le = refl
+    drop_all (x ∷ xs) zero le = absurd (let z : ⊥ = omega (arith, le) in z)
+    drop_all (x ∷ xs) (suc i) le = drop_all xs i (omega (arith, le))
 
 -- ---- the machine of an image, and the same but for the bytes of files
 
@@ -251,11 +276,3 @@ shown_of held items text is say = by_result (machine_of held) is
     by_result : (r : Result Machine Name) → IsOkAnd r (ImageOf held no_files items) → IsOkAnd r (λ m. text ≡ shown m)
     by_result (Ok m) of = say of.there ∙ ap shown of.stands
     by_result (Err n) of = absurd of
-
-pub drop_more : {X : Type 0} → (xs : List X) (i : ℕ) (d : X) → i < length xs → drop i xs ≡ get_or xs i d ∷ drop (i + 1) xs
-drop_more [] i d lt = absurd (let z : ⊥ = omega (arith, lt) in z)
-drop_more (x ∷ xs) zero d lt = refl
-drop_more (x ∷ xs) (suc i) d lt = drop_more xs i d (omega (arith, lt)) ∙ ap (λ (k : ℕ). get_or xs i d ∷ drop k (x ∷ xs)) (more i)
-  where
-    more : (i : ℕ) → suc (i + 1) ≡ suc i + 1
-    more i = omega arith

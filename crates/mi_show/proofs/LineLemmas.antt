@@ -164,7 +164,14 @@ details_apart h k hash other x y ih ik e =
     let modified = decimal_apart h.modified k.modified 9 _ _ tab_ends ih.modified ik.modified (append_cancel_left (codes "modified ") _ _ created.1) in
     let hashes = all_apart (Any {X = ℕ}) two_digits digits_apart 10 (digits_never 10 (omega arith)) hash other x y (all_any hash) (all_any other) (append_cancel_left (codes "md5 ") _ _ modified.1) in
     record {
-      version = version.0; languages = languages.0; attributes = attributes.0; created = created.0; modified = modified.0; length = size.0; hash = hashes.0; rest = hashes.1;
+      version = version.0;
+      languages = languages.0;
+      attributes = attributes.0;
+      created = created.0;
+      modified = modified.0;
+      length = size.0;
+      hash = hashes.0;
+      rest = hashes.1;
     }
 
 pub record IsProduct (p : Product) : Type 0 where

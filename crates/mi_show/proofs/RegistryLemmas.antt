@@ -11,7 +11,7 @@ use Rattle.mi_base.specs.declared.entry.RegValue.TheVariants as value
 use Rattle.mi_base.specs.declared.entry.Shortcut.{Shortcut}
 use Rattle.mi_show.specs.Texts.{escaped_byte, is_escaped_in_key, two_digits, field, quoted, bytes_text, wide}
 use Rattle.mi_show.specs.Lines.{shortcut_front, shortcut_icon, shortcut_line}
-use Rattle.mi_show.specs.Registry.{root_name, key_text, key_line, value_name, data_text, value_line, exported, stray}
+use Rattle.mi_show.specs.Registry.{root_name, key_text, key_line, value_name, int_text, data_text, value_line, exported, stray}
 use Rattle.mi_show.proofs.CodeLemmas.{AreApart, NeverBegins, Any, all_any, all_apart, heads, digit_from, digits_apart, digits_never, escapes_apart, field_tab, quoted_apart, blanked, blanked_line, decimal_apart, tab_ends, line_ends}
 use Rattle.mi_show.proofs.LineLemmas.{written, before, spread, tails, below16, decimal_never, dash_ends}
 
@@ -122,7 +122,7 @@ number_apart m n x y lm ln e =
     (sym (from_be_bytes-to_be_bytes_4 m lm) ∙ ap (from_be_bytes w32) all.0 ∙ from_be_bytes-to_be_bytes_4 n ln, all.1)
 
 pub data_apart : (v w : RegValue) (x y : List ℕ) → Fits32 v → Fits32 w → data_text v ++ 10 ∷ x ≡ data_text w ++ 10 ∷ y → (v ≡ w) × (x ≡ y)
-unfolding quoted
+unfolding quoted int_text
 data_apart (value.Text t) (value.Text u) x y fv fw e = let both = quoted_apart t u (10 ∷ x) (10 ∷ y) tt tt e in (ap (λ (s : List ℕ). value.Text s) both.0, tails 10 10 x y both.1)
 data_apart (value.Text t) (value.Expand u) x y fv fw e = absurd (differ 34 101 _ _ refl e)
 data_apart (value.Text t) (value.Int u) x y fv fw e = absurd (differ 34 100 _ _ refl e)
@@ -265,7 +265,17 @@ shortcut_apart s t x y is it e =
     let icon = field_tab s.icon t.icon _ _ (append_cancel_left (codes "icon ") _ _ description.1) in
     let index = signed_apart s.icon_index t.icon_index _ _ is.icon_index it.icon_index icon.1 in
     let hotkey = decimal_apart s.hotkey t.hotkey 9 _ _ tab_ends (below16 s.hotkey is.hotkey) (below16 t.hotkey it.hotkey) (append_cancel_left (codes "key ") _ _ index.1) in
-    let show = decimal_apart s.show t.show 10 _ _ line_ends (below16 s.show is.show) (below16 t.show it.show) (append_cancel_left (codes "show ") _ _ hotkey.1) in
-    (λ i. record {
-      shown = shown.0 i; target = target.0 i; arguments = arguments.0 i; description = description.0 i; hotkey = hotkey.0 i; icon = icon.0 i; icon_index = index.0 i; show = show.0 i; folder = folder.0 i
-    }, show.1)
+    let show = decimal_apart s.show t.show 10 _ _ line_ends (below16 s.show is.show) (below16 t.show it.show) (append_cancel_left (codes "show ") _ _ hotkey.1) in (
+      λ i. record {
+        shown = shown.0 i;
+        target = target.0 i;
+        arguments = arguments.0 i;
+        description = description.0 i;
+        hotkey = hotkey.0 i;
+        icon = icon.0 i;
+        icon_index = index.0 i;
+        show = show.0 i;
+        folder = folder.0 i;
+      },
+      show.1,
+    )

@@ -25,11 +25,15 @@ abbrev pub value_name : List ℕ → List ℕ
 value_name [] = codes "@="
 value_name (b ∷ name) = quoted (b ∷ name) ++ 61 ∷ []
 
+-- eight digits
+unfoldable pub int_text : ℕ → List ℕ
+int_text n = flat_map two_digits (to_be_bytes w32 n)
+
 -- what a value holds, so that it can be read
 abbrev pub data_text : RegValue → List ℕ
 data_text (value.Text t) = quoted t
 data_text (value.Expand t) = codes "expand:" ++ quoted t
-data_text (value.Int n) = codes "dword:" ++ flat_map two_digits (to_be_bytes w32 n)
+data_text (value.Int n) = codes "dword:" ++ int_text n
 data_text (value.Binary b) = codes "hex:" ++ bytes_text b
 data_text (value.List ts) = codes "list:" ++ flat_map (λ t. 32 ∷ quoted t) ts
 

@@ -75,12 +75,7 @@ fn push_entry(alloc: Global, out: &mut Vec<u8>, entry: Option<&Entry>) -> Result
 }
 
 /// Adds the line of what stands at a name, where that isn't a file.
-pub fn push_at(
-    alloc: Global,
-    out: &mut Vec<u8>,
-    image: &Image,
-    name: &[u8],
-) -> Result<(), NoMemory>
+pub fn push_at(alloc: Global, out: &mut Vec<u8>, image: &Image, name: &[u8]) -> Result<(), NoMemory>
     ensures { OnOk result (out.new.items ≡ out.old.items ++ other_at (get (plain_machine image.now) name.now)) }
 {
     push_entry(alloc, out, entry_at(image, name))?;
@@ -104,12 +99,7 @@ fn push_all(
 }
 
 // Adds the lines of what stands at the names that begin so.
-fn push_lines(
-    alloc: Global,
-    out: &mut Vec<u8>,
-    image: &Image,
-    front: &[u8],
-) -> Result<(), NoMemory>
+fn push_lines(alloc: Global, out: &mut Vec<u8>, image: &Image, front: &[u8]) -> Result<(), NoMemory>
     ensures { OnOk result (out.new.items ≡ out.old.items ++ lines front.now (plain_machine image.now)) }
 {
     let names = image.names(alloc, front)?;

@@ -30,11 +30,13 @@ fn push_four(out: &mut Vec<u8>, number: usize) -> Result<(), NoMemory>
     Ok(())
 }
 
-// How the names of the values of a key begin.
+// How the names of the values of a key begin. A root that no key has is answered by want of memory.
 fn value_front(alloc: Global, root: u8, key: &str) -> Result<Vec<u8>, NoMemory>
-    requires { root < 10 }
     ensures { IfOk result (λ front. front.items ≡ value_front root (length (folded key.now)) (folded key.now)) }
 {
+    if root > 9 {
+        return Err(NoMemory);
+    }
     let key = fold(alloc, key)?;
     let mut front = Vec::new(alloc);
     push_word(&mut front, "v/")?;
@@ -86,6 +88,20 @@ fn push_exported_all(
     Ok(())
 }
 
+// Adds the values at the names that begin so.
+fn push_values_at(
+    alloc: Global,
+    out: &mut Vec<u8>,
+    image: &Image,
+    front: &[u8],
+) -> Result<(), NoMemory>
+    ensures { OnOk result (out.new.items ≡ out.old.items ++ flat_map (λ q. exported_at (get (plain_machine image.now) q)) (names_of front.now (plain_machine image.now))) }
+{
+    let names = image.names(alloc, front)?;
+    push_exported_all(alloc, out, image, names.as_slice())?;
+    Ok(())
+}
+
 // Adds the values of a key.
 fn push_values(
     alloc: Global,
@@ -94,12 +110,10 @@ fn push_values(
     root: u8,
     key: &str,
 ) -> Result<(), NoMemory>
-    requires { root < 10 }
     ensures { OnOk result (out.new.items ≡ out.old.items ++ flat_map (λ q. exported_at (get (plain_machine image.now) q)) (values_of root key.now (plain_machine image.now))) }
 {
     let front = value_front(alloc, root, key)?;
-    let names = image.names(alloc, front.as_slice())?;
-    push_exported_all(alloc, out, image, names.as_slice())?;
+    push_values_at(alloc, out, image, front.as_slice())?;
     Ok(())
 }
 
@@ -111,7 +125,6 @@ fn push_key(
     root: u8,
     shown: &str,
 ) -> Result<(), NoMemory>
-    requires { root < 10 }
     ensures { OnOk result (out.new.items ≡ out.old.items ++ key_with_values (plain_machine image.now) (Some (Entry.Key root shown.now))) }
 {
     push_key_line(out, root, shown)?;
@@ -127,7 +140,6 @@ fn push_key_entry(
     image: &Image,
     entry: Option<&Entry>,
 ) -> Result<(), NoMemory>
-    requires { (root : ℕ) (shown : List ℕ) → option_copied entry ≡ Some (Entry.Key root shown) → root < 10 }
     ensures { OnOk result (out.new.items ≡ out.old.items ++ key_with_values (plain_machine image.now) (option_copied entry.entry)) }
 {
     match entry {
@@ -137,12 +149,7 @@ fn push_key_entry(
 }
 
 // Adds the key that stands at a name, and its values.
-fn push_key_at(
-    alloc: Global,
-    out: &mut Vec<u8>,
-    image: &Image,
-    name: &[u8],
-) -> Result<(), NoMemory>
+fn push_key_at(alloc: Global, out: &mut Vec<u8>, image: &Image, name: &[u8]) -> Result<(), NoMemory>
     ensures { OnOk result (out.new.items ≡ out.old.items ++ key_with_values (plain_machine image.now) (get (plain_machine image.now) name.now)) }
 {
     push_key_entry(alloc, out, image, entry_at(image, name))?;
@@ -256,4 +263,3 @@ pub fn push_registry(alloc: Global, out: &mut Vec<u8>, image: &Image) -> Result<
     push_strays(alloc, out, image)?;
     Ok(())
 }
-

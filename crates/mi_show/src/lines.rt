@@ -156,11 +156,11 @@ fn push_shortcut_front(out: &mut Vec<u8>, shortcut: &Shortcut) -> Result<(), NoM
 }
 
 // Adds a tab and a number.
-fn push_index(alloc: Global, out: &mut Vec<u8>, index: i16) -> Result<(), NoMemory>
-    ensures { OnOk result (out.new.items ≡ out.old.items ++ 9 ∷ signed_decimal index) }
+fn push_index(alloc: Global, out: &mut Vec<u8>, index: &i16) -> Result<(), NoMemory>
+    ensures { OnOk result (out.new.items ≡ out.old.items ++ 9 ∷ signed_decimal index.now) }
 {
     out.push(b'\t')?;
-    push_signed(alloc, out, index)
+    push_signed(alloc, out, *index)
 }
 
 // Adds its description and its icon behind that.
@@ -170,7 +170,7 @@ fn push_shortcut_icon(alloc: Global, out: &mut Vec<u8>, shortcut: &Shortcut) -> 
 {
     push_titled(out, "\tdescription ", shortcut.description.as_str())?;
     push_titled(out, "\ticon ", shortcut.icon.as_str())?;
-    push_index(alloc, out, shortcut.icon_index)?;
+    push_index(alloc, out, &shortcut.icon_index)?;
     Ok(())
 }
 

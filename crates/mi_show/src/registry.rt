@@ -2,13 +2,10 @@
 
 ghost use Rattle.std.specs.Prelude.{◌≡◌, ◌++◌, ◌∷◌, [], IfOk, OnOk, codes};
 ghost use Rattle.std.specs.List.{flat_map};
-ghost use Rattle.std.specs.Int.{w32, to_be_bytes};
-ghost use Rattle.mi_show.specs.Texts.{two_digits, quoted, bytes_text, wide};
-ghost use Rattle.mi_show.specs.Registry.{root_name, key_text, key_line, value_name, data_text, value_line, exported, stray};
+ghost use Rattle.mi_show.specs.Texts.{quoted, bytes_text, wide};
+ghost use Rattle.mi_show.specs.Registry.{root_name, key_text, key_line, value_name, int_text, data_text, value_line, exported, stray};
 
-use crate::texts::{
-    push_bytes, push_digits, push_key_name, push_quoted, push_wide, push_word,
-};
+use crate::texts::{push_bytes, push_digits, push_key_name, push_quoted, push_wide, push_word};
 use mi_base::{NoMemory, RegValue, Text};
 use std::alloc::Global;
 
@@ -68,8 +65,9 @@ fn push_texts(out: &mut Vec<u8>, texts: &[Text]) -> Result<(), NoMemory>
 }
 
 // Adds the digits of a number.
+#[tactic(auto, unfolding(crate::specs::Registry::int_text))]
 fn push_int(out: &mut Vec<u8>, number: u32) -> Result<(), NoMemory>
-    ensures { OnOk result (out.new.items ≡ out.old.items ++ flat_map two_digits (to_be_bytes w32 number)) }
+    ensures { OnOk result (out.new.items ≡ out.old.items ++ int_text number) }
 {
     let bytes = number.to_be_bytes();
     push_digits(out, &bytes)
@@ -122,12 +120,7 @@ fn push_wides(alloc: Global, out: &mut Vec<u8>, texts: &[Text]) -> Result<(), No
 }
 
 // Adds a value by the number of its type and its bytes.
-fn push_typed(
-    out: &mut Vec<u8>,
-    shown: &str,
-    title: &str,
-    bytes: &[u8],
-) -> Result<(), NoMemory>
+fn push_typed(out: &mut Vec<u8>, shown: &str, title: &str, bytes: &[u8]) -> Result<(), NoMemory>
     ensures { OnOk result (out.new.items ≡ out.old.items ++ value_name shown.now ++ title.now ++ bytes_text bytes.now ++ 10 ∷ []) }
 {
     push_value_name(out, shown)?;

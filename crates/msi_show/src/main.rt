@@ -13,7 +13,8 @@ use std::{env, io};
 /// The folder, in the current one, that holds the machine where no other is named.
 const MACHINE: &str = "machine";
 
-const WAITING: &str = "A run was stopped here: the next command of msi_run puts back what it had changed. Shown is what stands now.\n\n";
+const WAITING: &str =
+    "A run was stopped here: the next command of msi_run puts back what it had changed. Shown is what stands now.\n\n";
 
 const HELP: &str = "msi_show prints the machine of a machine folder, and changes nothing.
 
@@ -130,13 +131,19 @@ fn carry_out(rt: HostRuntime) -> Result<(), Stop> {
 // The line and the status of a stop.
 fn words_for(stop: &Stop) -> (&'static str, u8) {
     match stop {
-        Stop::Words => ("these words can't be read: msi_show --help says which can", 10),
+        Stop::Words => (
+            "these words can't be read: msi_show --help says which can",
+            10,
+        ),
         Stop::Fault => ("a file of the machine folder can't be read", 17),
         Stop::BadImage(_) => ("a name in the machine folder is no entry of a machine:", 18),
         Stop::NoMemory => ("memory ran out", 40),
         Stop::Output => ("the output can't be written", 41),
         Stop::Texts => ("the words are no texts", 42),
-        Stop::Folder => ("the machine folder isn't there, or another command has it", 43),
+        Stop::Folder => (
+            "the machine folder isn't there, or another command has it",
+            43,
+        ),
     }
 }
 

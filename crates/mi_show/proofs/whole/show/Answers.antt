@@ -12,7 +12,7 @@ returns-clause-text g c = λ told.
     let mid = (g.V.Volume.state c.scan.new.vol).held in
     let same : mid ≡ held = (c.in_ok-image.ensures.looks told).stays.held in
     shown_of held items c.from_vec.result (c.in_ok-image.ensures.image told no_files) (λ there.
-        c.from_vec.ensures
-        ∙ c.in_ok-push_machine.ensures.text told (subst (λ (d : Map (List ℕ)). IsScanned d items) (sym same) there)
-        ∙ ap (λ (l : List ℕ). l ++ shown (machine_in mid items)) c.new-out.ensures.items
-        ∙ ap (λ (d : Map (List ℕ)). shown (machine_in d items)) same)
+    c.from_vec.ensures
+    ∙ c.in_ok-push_machine.ensures.text told (subst (λ (d : Map (List ℕ)). IsScanned d items) (sym same) there)
+    ∙ ap (λ (l : List ℕ). l ++ shown (machine_in mid items)) c.new-out.ensures.items
+    ∙ ap (λ (d : Map (List ℕ)). shown (machine_in d items)) same)
