@@ -120,6 +120,17 @@ impl<R: Files + Alloc + Clone + Drop> Disk<R> {
         self.renew_leftovers(alloc)
     }
 
+    /// Takes the folder's lock. Nothing is made or written: a folder that isn't there is a failure, and what an earlier
+    /// process has left without a sync stays as it is.
+    pub fn open_to_read(&mut self) -> Result<(), Trouble>
+    where
+        R::File: Lockable,
+    {
+        let lock = lock_folder(&self.rt, self.folder.as_str())?;
+        self.lock = Some(lock);
+        Ok(())
+    }
+
     fn renew_leftovers(&mut self, alloc: Global) -> Result<(), Trouble> {
         if self.is_unsynced()? {
             self.renew(alloc)

@@ -158,6 +158,21 @@ where
         }
     }
 
+    /// The folder as a volume that is only read: nothing is made, and what an earlier process has left without a sync stays
+    /// as it is. Takes the folder's lock, and the room for its longest path. `Folder` comes where the folder isn't there or
+    /// can't be opened, and where another process has the lock.
+    pub fn to_read(rt: R, alloc: Global, folder: &str) -> Result<FolderVolume<R>, EdgeFault> {
+        let mut volume = FolderVolume::deferred(rt, alloc, folder)?;
+        match volume.disk.open_to_read() {
+            Ok(()) => {
+                volume.opened = true;
+                Ok(volume)
+            }
+            Err(Trouble::NoMemory) => Err(EdgeFault::NoMemory),
+            Err(_) => Err(EdgeFault::Folder),
+        }
+    }
+
     /// Why the folder couldn't be opened, where a call has tried to and failed.
     pub fn refusal(&self) -> Option<EdgeFault> {
         self.refusal

@@ -1,0 +1,7 @@
+mod CodeLemmas
+mod ImageLemmas
+mod LawLemmas
+mod LineLemmas
+mod RegistryLemmas
+mod TreeCodeLemmas
+mod TreeLemmas

@@ -1,0 +1,11 @@
+use Rattle.std.proofs.Common.{◌≡◌, ◌++◌, ◌∷◌, [], ℕ, List, Bor, drop, codes}
+use Rattle.std.specs.List.{flat_map}
+use Rattle.std.specs.FinMap.{get}
+use Rattle.mi_show.specs.Machines.{plain_machine}
+use Rattle.mi_show.specs.Prints.{stray_at}
+use Rattle.mi_show.proofs.kinds.push_strays_all.Given as goal
+
+abbrev pub invariant-loop-name : goal.invariant-loop-name
+invariant-loop-name l =
+    let at : Bor (List ℕ) → List ℕ = λ n. stray_at (plain_machine l.image) (get (plain_machine l.image) n.now) in
+    l.out.items ++ flat_map at (drop l.name-index l.names) ≡ l.fn.out.items ++ flat_map at l.names

@@ -1,0 +1,9 @@
+use Rattle.std.proofs.Common.{ℕ, ◌≡◌, ◌++◌, ◌∷◌, [], ◌%◌, ◌/◌, drop}
+use Rattle.std.specs.List.{flat_map}
+use Rattle.std.specs.Fmt.{decimal}
+use Rattle.std.specs.Char.Escape.{encode_utf16}
+use Rattle.mi_show.specs.Texts.{two_digits, quoted, wide}
+use Rattle.mi_show.proofs.texts.push_digits.Given as goal
+
+abbrev pub invariant-loop-byte : goal.invariant-loop-byte
+invariant-loop-byte l = l.out.items ++ flat_map two_digits (drop l.byte-index l.bytes) ≡ l.fn.out.items ++ flat_map two_digits l.bytes

@@ -1,0 +1,164 @@
+//! The program: prints the machine of a machine folder. It writes to no folder.
+#![tactic(auto)]
+
+use mi_edges::{EdgeFault, FolderVolume, StdSink};
+use mi_show::{ShowError, is_waiting, show};
+use mi_source::Sink;
+use mi_text::Name;
+use mi_volume::VolFault;
+use std::io::ErrorKind;
+use std::process::ExitCode;
+use std::{env, io};
+
+/// The folder, in the current one, that holds the machine where no other is named.
+const MACHINE: &str = "machine";
+
+const WAITING: &str =
+    "A run was stopped here: the next command of msi_run puts back what it had changed. Shown is what stands now.\n\n";
+
+const HELP: &str = "msi_show prints the machine of a machine folder, and changes nothing.
+
+  msi_show [FOLDER]    the whole machine, of the folder machine in the current one where none is named
+  msi_show --help      this page
+
+It ends with 0 where all is printed; with 10 where the words aren't these, 17 where the folder can't be read, 18 where a
+name in it is no entry of a machine, 40 where memory runs out, 41 where the output can't be written, 42 where the words
+are no text, and 43 where the folder isn't there or another command has it.
+";
+
+/// What the words ask for.
+enum Asked<'a> {
+    Help,
+    /// The machine of a folder.
+    Machine(&'a str),
+}
+
+/// Why not all was printed.
+#[derive(Drop)]
+enum Stop {
+    NoMemory,
+    Words,
+    Texts,
+    Folder,
+    Fault,
+    BadImage(Name),
+    Output,
+}
+
+impl From<EdgeFault> for Stop {
+    fn from(fault: EdgeFault) -> Stop {
+        match fault {
+            EdgeFault::Folder => Stop::Folder,
+            EdgeFault::NoMemory => Stop::NoMemory,
+        }
+    }
+}
+
+impl From<ShowError> for Stop {
+    fn from(error: ShowError) -> Stop {
+        match error {
+            ShowError::NoMemory => Stop::NoMemory,
+            ShowError::Fault => Stop::Fault,
+            ShowError::BadImage(name) => Stop::BadImage(name),
+        }
+    }
+}
+
+impl From<VolFault> for Stop {
+    fn from(fault: VolFault) -> Stop {
+        match fault {
+            VolFault::NoMemory => Stop::NoMemory,
+            VolFault::Failed => Stop::Fault,
+        }
+    }
+}
+
+impl From<io::Error> for Stop {
+    fn from(error: io::Error) -> Stop {
+        if matches!(error.kind(), ErrorKind::OutOfMemory) {
+            Stop::NoMemory
+        } else {
+            Stop::Texts
+        }
+    }
+}
+
+// The words behind the program's name.
+fn words_of<R: std::rt::Env + AllocGlobal>(rt: &R) -> io::Result<Vec<String>> {
+    let mut words = Vec::new(rt.alloc());
+    for word in env::args(rt)?.skip(1) {
+        words.push(word)?;
+    }
+    Ok(words)
+}
+
+fn asked(words: &[String]) -> Option<Asked<'_>> {
+    match words {
+        [] => Some(Asked::Machine(MACHINE)),
+        [word] if word.as_str() == "--help" => Some(Asked::Help),
+        [folder] if !folder.as_str().starts_with("-") => Some(Asked::Machine(folder.as_str())),
+        _ => None,
+    }
+}
+
+fn print(rt: HostRuntime, text: &[u8]) -> Result<(), Stop> {
+    match StdSink::new(rt).write(text) {
+        Ok(()) => Ok(()),
+        Err(_) => Err(Stop::Output),
+    }
+}
+
+fn print_machine(rt: HostRuntime, folder: &str) -> Result<(), Stop> {
+    let alloc = rt.alloc();
+    let mut volume = FolderVolume::to_read(rt, alloc, folder)?;
+    let waits = is_waiting(alloc, &mut volume)?;
+    let text = show(alloc, &mut volume)?;
+    if waits {
+        print(rt, WAITING.as_bytes())?;
+    }
+    print(rt, text.as_slice())
+}
+
+fn carry_out(rt: HostRuntime) -> Result<(), Stop> {
+    let words = words_of(&rt)?;
+    match asked(words.as_slice()) {
+        Some(Asked::Help) => print(rt, HELP.as_bytes()),
+        Some(Asked::Machine(folder)) => print_machine(rt, folder),
+        None => Err(Stop::Words),
+    }
+}
+
+// The line and the status of a stop.
+fn words_for(stop: &Stop) -> (&'static str, u8) {
+    match stop {
+        Stop::Words => (
+            "these words can't be read: msi_show --help says which can",
+            10,
+        ),
+        Stop::Fault => ("a file of the machine folder can't be read", 17),
+        Stop::BadImage(_) => ("a name in the machine folder is no entry of a machine:", 18),
+        Stop::NoMemory => ("memory ran out", 40),
+        Stop::Output => ("the output can't be written", 41),
+        Stop::Texts => ("the words are no texts", 42),
+        Stop::Folder => (
+            "the machine folder isn't there, or another command has it",
+            43,
+        ),
+    }
+}
+
+fn report(rt: &HostRuntime, stop: &Stop) -> u8 {
+    let (text, status) = words_for(stop);
+    let _ = match stop {
+        Stop::BadImage(name) => eprintln!(rt; "msi_show: {} {}", text, name.as_str()),
+        _ => eprintln!(rt; "msi_show: {}", text),
+    };
+    status
+}
+
+fn main(rt: HostRuntime) -> ExitCode {
+    match carry_out(rt) {
+        Ok(()) => ExitCode::from(0),
+        Err(stop) => ExitCode::from(report(&rt, &stop)),
+    }
+}
