@@ -64,7 +64,7 @@ lines_exact (entry.Product p) (entry.Product q) ie jf plain same e =
 lines_exact (entry.System p s) (entry.System q t) ie jf plain same e = let all = system_apart p q s t (10 ∷ []) (10 ∷ []) (behind _ _ e) in λ i. entry.System (all.0.0 i) (all.0.1 i)
 lines_exact e f ie jf plain same is = absurd (apart (letter e) (letter f) refl same)
 
-head_is : (f : FileEntry) → IsSmallFile f → IsHead (head_of f)
+pub head_is : (f : FileEntry) → IsSmallFile f → IsHead (head_of f)
 unfolding fits IsEntry
 head_is f small = record {
   version = small.0.0.1;
