@@ -60,8 +60,11 @@ pub same_nowhere : SameDiffersNowhere
 unfolding different
 same_nowhere m = flat_none (kind_text m m) kinds (λ k. ap (titled k.title) (flat_none (difference m m) (names_of_either k.front m m) (λ q. change_self (line_at m q))))
 
-mark_first : (a b c : ℕ) (x y : List ℕ) → ¬ (a ∷ b ∷ c ∷ x ++ y ≡ [])
-mark_first a b c x y e = let parts = no_parts _ _ e in absurd (not_text a _ parts.0)
+marked : (x y : List ℕ) → ¬ (codes "~- " ++ x ++ codes "~+ " ++ y ≡ [])
+marked x y none =
+    let first = no_parts (codes "~- " ++ x ++ codes "~+ ") y none in
+    let second = no_parts (codes "~- " ++ x) (codes "~+ ") first.0 in
+    not_text 126 (45 ∷ 32 ∷ []) (no_parts (codes "~- ") x second.0).0
 
 change_nothing : (a b : Option (List ℕ)) → change a b ≡ [] → a ≡ b
 change_nothing None None e = refl
@@ -69,11 +72,8 @@ change_nothing None (Some y) e = absurd (not_text 43 (32 ∷ y) e)
 change_nothing (Some x) None e = absurd (not_text 45 (32 ∷ x) e)
 change_nothing (Some x) (Some y) e = elim (bytes_eq x y) as (λ t. bytes_eq x y ≡ t → cond t [] (codes "~- " ++ x ++ codes "~+ " ++ y) ≡ [] → Some x ≡ Some y) [
   | true ↦ λ t none. ap (λ (l : List ℕ). Some l) (same_text x y (sym t))
-  | false ↦ λ t none. absurd (marked none)
+  | false ↦ λ t none. absurd (marked x y none)
 ] refl e
-  where
-    marked : ¬ (codes "~- " ++ x ++ codes "~+ " ++ y ≡ [])
-    marked none = let parts = no_parts _ _ none in absurd (not_text 126 _ (no_parts _ _ (no_parts _ _ parts.0).0).0)
 
 -- ---- names
 
@@ -221,24 +221,23 @@ module _ (m n : Machine) (shown_m : IsShown m) (shown_n : IsShown n) (told : Tol
   same_letter : (e f : Entry) → name_of e ≡ q → name_of f ≡ q → letter e ≡ letter f
   same_letter e f ie jf = let a = named e in let b = named f in heads (letter e) (letter f) a.0 b.0 (sym a.1 ∙ ie ∙ sym jf ∙ b.1)
 
+  -- what is known of an entry there
+  abbrev IsKnown : Entry → Type 0
+  IsKnown e = (name_of e ≡ q) × Fits e × (length (bytes_of_file (Some e)) < 2 ^ 64)
+
+  small : (e : Entry) (f : FileEntry) → IsKnown e → e ≡ entry.File f → IsSmallFile f
+  small e f known is = (subst (λ (x : Entry). Fits x) is known.1, subst (λ (x : Entry). length (bytes_of_file (Some x)) < 2 ^ 64) is known.2)
+
+  by_sorts : (e f : Entry) → IsKnown e → IsKnown f → get m q ≡ Some e → get n q ≡ Some f → entry_line e ≡ entry_line f → Sort e → Sort f → e ≡ f
+  by_sorts e f ke kf at_m at_n line (Filed g is) (Filed h js) =
+      let one = file_exact g h (small e g ke is) (small f h kf js) (told q g h (at_m ∙ ap (λ (x : Entry). Some x) is) (at_n ∙ ap (λ (x : Entry). Some x) js)) (sym (ap entry_line is) ∙ line ∙ ap entry_line js) in
+      is ∙ ap (λ (x : FileEntry). entry.File x) one ∙ sym js
+  by_sorts e f ke kf at_m at_n line (Filed g is) (Plain not same) = absurd (file_letter f (sym (same_letter e f ke.0 kf.0) ∙ ap letter is) not)
+  by_sorts e f ke kf at_m at_n line (Plain not same) (Filed h js) = absurd (file_letter e (same_letter e f ke.0 kf.0 ∙ ap letter js) not)
+  by_sorts e f ke kf at_m at_n line (Plain not same) (Plain not_f same_f) = lines_exact e f ke.1 kf.1 not (same_letter e f ke.0 kf.0) (sym same ∙ line ∙ same_f)
+
   entries_same : (e f : Entry) → get m q ≡ Some e → get n q ≡ Some f → entry_line e ≡ entry_line f → e ≡ f
-  entries_same e f at_m at_n line = by (sort_of e) (sort_of f)
-    where
-      right_e = shown_m q e at_m
-      right_f = shown_n q f at_n
-
-      letters : letter e ≡ letter f
-      letters = same_letter e f right_e.0 right_f.0
-
-      by : Sort e → Sort f → e ≡ f
-      by (Filed g is) (Filed h js) =
-          let fits_g : IsSmallFile g = (subst (λ (x : Entry). Fits x) is right_e.1.0, subst (λ (x : Entry). length (bytes_of_file (Some x)) < 2 ^ 64) is right_e.1.1) in
-          let fits_h : IsSmallFile h = (subst (λ (x : Entry). Fits x) js right_f.1.0, subst (λ (x : Entry). length (bytes_of_file (Some x)) < 2 ^ 64) js right_f.1.1) in
-          let one = file_exact g h fits_g fits_h (told q g h (at_m ∙ ap (λ (x : Entry). Some x) is) (at_n ∙ ap (λ (x : Entry). Some x) js)) (sym (ap entry_line is) ∙ line ∙ ap entry_line js) in
-          is ∙ ap (λ (x : FileEntry). entry.File x) one ∙ sym js
-      by (Filed g is) (Plain not same) = absurd (file_letter f (sym letters ∙ ap letter is) not)
-      by (Plain not same) (Filed h js) = absurd (file_letter e (letters ∙ ap letter js) not)
-      by (Plain not same) (Plain not_f same_f) = lines_exact e f right_e.1.0 right_f.1.0 not letters (sym same ∙ line ∙ same_f)
+  entries_same e f at_m at_n line = by_sorts e f (shown_m q e at_m) (shown_n q f at_n) at_m at_n line (sort_of e) (sort_of f)
 
 is_there : (x : Option Entry) (e : Entry) → x ≡ Some e → is_some x ≡ true
 is_there x e at = ap is_some at

@@ -4,9 +4,16 @@ use Rattle.std.specs.Prelude.{option_map, IsOkAnd, filter, nat_eq}
 use Rattle.std.specs.List.{flat_map, starts_with}
 use Rattle.std.specs.FinMap.{get, keys, insert, find, get-insert, get-from_entries}
 use Rattle.std.proofs.lemmas.List.{map-append, take_more, take_all, drop_all}
+use Rattle.std.specs.Prelude.{Vec}
+use Rattle.std.specs.declared.alloc.Global.{Global}
+use Rattle.std.specs.Ordering.{nat_cmp}
+use Rattle.std.specs.Cmp.Lexicographic.{slice_cmp}
+use Rattle.std.specs.BTreeMap.{BTreeMap}
+use Rattle.std.specs.BTreeMap as tree
 use Rattle.md5.specs.Md5.{md5}
 use Rattle.mi_text.specs.Maps.{Name, Map, name_cmp, same_name}
 use Rattle.mi_text.proofs.MapLemmas.{same, names_total}
+use Rattle.mi_text.proofs.TreeLemmas.{entries-map_as}
 use Rattle.mi_base.specs.declared.entry.FileEntry.{FileEntry}
 use Rattle.mi_base.specs.declared.entry.FileHead.{FileHead}
 use Rattle.mi_base.specs.declared.entry.Entry.{Entry}
@@ -25,6 +32,7 @@ use Rattle.mi_show.specs.Lines.{head_details, file_line}
 use Rattle.mi_show.specs.Machines.{no_files, machine_in, plain_machine, IsScanned}
 use Rattle.mi_show.specs.Prints.{names_of, other_line}
 use Rattle.mi_show.specs.Differences.{name_set, names_of_either, entry_line, line_at, item_line, different}
+use Rattle.mi_show.specs.Sets.{set_of}
 use Rattle.mi_show.proofs.ImageLemmas.{plain_keys, drop_more}
 
 -- ---- sets of names
@@ -32,11 +40,15 @@ use Rattle.mi_show.proofs.ImageLemmas.{plain_keys, drop_more}
 abbrev pub member : Name → Name × Unit {0}
 member q = (q, tt)
 
+there : Option (Unit {0})
+there = Some tt
+
 found_more : (names : List Name) (q p : Name) → find name_cmp p (map member (names ++ q ∷ [])) ≡ cond (same_name p q) (Some tt) (find name_cmp p (map member names))
+unfolding there
 found_more [] q p = refl
 found_more (n ∷ names) q p =
-    elim (same_name p n) as (λ b. cond b (Some tt) (find name_cmp p (map member (names ++ q ∷ []))) ≡ cond (same_name p q) (Some tt) (cond b (Some tt) (find name_cmp p (map member names)))) [
-      | true ↦ elim (same_name p q) as (λ c. Some tt ≡ cond c (Some tt) (Some tt)) [ true ↦ refl | false ↦ refl ]
+    elim (same_name p n) as (λ b. cond b there (find name_cmp p (map member (names ++ q ∷ []))) ≡ cond (same_name p q) there (cond b there (find name_cmp p (map member names)))) [
+      | true ↦ elim (same_name p q) as (λ c. there ≡ cond c there there) [ true ↦ refl | false ↦ refl ]
       | false ↦ found_more names q p
     ]
 
@@ -61,7 +73,7 @@ set_step had names i d s new lt so adds =
     ∙ ap name_set (append_assoc had (map now_of (take i names)) ((get_or names i d).now ∷ []) ∙ ap (λ (l : List Name). had ++ l) (sym (ap (map now_of) (take_more names i d lt) ∙ map-append now_of (take i names) (get_or names i d ∷ []))))
 
 pub set_done : (had : List Name) (names : List (Bor (List ℕ))) (i : ℕ) (s : Map (Unit {0})) → length names ≤ i → s ≡ name_set (had ++ map now_of (take i names)) → s ≡ name_set (had ++ map now_of names)
-set_done had names i s le so = so ∙ ap (λ (l : List (Bor (List ℕ))). name_set (had ++ map now_of l)) (take_all names i le)
+set_done had names i s le so = so ∙ ap (λ (l : List (Bor (List ℕ))). name_set (had ++ map now_of l)) (take_all i names le)
 
 names_same : (held : Map (List ℕ)) (items : Items) (front : Name) → names_of front (plain_machine items) ≡ names_of front (machine_in held items)
 names_same held items front = ap (λ (qs : List Name). filter (λ q. starts_with nat_eq q front) qs) (plain_keys held items)
@@ -119,7 +131,7 @@ flat_step {X} at xs i d out more start lt text so =
     ∙ so
 
 pub flat_done : {X : Type 0} → (at : X → List ℕ) (xs : List X) (i : ℕ) (out start : List ℕ) → length xs ≤ i → out ++ flat_map at (drop i xs) ≡ start → out ≡ start
-flat_done {X} at xs i out start le so = sym (ap (λ (l : List X). out ++ flat_map at l) (drop_all xs i le) ∙ append-nil out) ∙ so
+flat_done {X} at xs i out start le so = sym (ap (λ (l : List X). out ++ flat_map at l) (drop_all i xs le) ∙ append-nil out) ∙ so
 
 -- ---- the whole
 
@@ -135,3 +147,32 @@ different_of held_new held_old new old text is_new is_old say = by_new (machine_
     by_new : (r : Result Machine Name) → IsOkAnd r (ImageOf held_new no_files new) → IsOkAnd r (λ n. IsOkAnd (machine_of held_old) (λ o. text ≡ different o n))
     by_new (Ok n) of = by_old n of (machine_of held_old) is_old
     by_new (Err q) of = absurd of
+
+-- a step of a loop, over what both volumes hold then
+pub pair_step : {X : Type 0} → (at : Map (List ℕ) → Map (List ℕ) → X → List ℕ) (held_old now_old held_new now_new : Map (List ℕ)) (xs : List X) (i : ℕ) (d : X) (out more start : List ℕ)
+    → now_old ≡ held_old → now_new ≡ held_new → i < length xs → more ≡ out ++ at now_old now_new (get_or xs i d)
+    → out ++ flat_map (at held_old held_new) (drop i xs) ≡ start → more ++ flat_map (at held_old held_new) (drop (i + 1) xs) ≡ start
+pair_step {X} at held_old now_old held_new now_new xs i d out more start same_old same_new lt text so =
+    flat_step (at held_old held_new) xs i d out more start lt (text ∙ (λ j. out ++ at (same_old j) (same_new j) (get_or xs i d))) so
+
+-- ---- the tree of a set
+
+firsts : (es : List (Vec ℕ Global × Unit {0})) → map (λ (e : Name × Unit {0}). e.0) (map (λ (e : Vec ℕ Global × Unit {0}). (e.0.items, e.1)) es) ≡ map (λ (e : Vec ℕ Global × Unit {0}). e.0.items) es
+firsts [] = refl
+firsts (e ∷ es) = ap (λ (l : List Name). e.0.items ∷ l) (firsts es)
+
+-- the names of a tree, in order
+pub tree_names : (m : BTreeMap (Vec ℕ Global) (Unit {0})) (s : Map (Unit {0})) → set_of m.entries ≡ s → tree.IsOrdered (λ a b. slice_cmp nat_cmp a.items b.items) m → map (λ (e : Vec ℕ Global × Unit {0}). e.0.items) m.entries ≡ keys s
+tree_names m s is ordered = sym (ap (map (λ (e : Name × Unit {0}). e.0)) (entries-map_as (λ (k : Vec ℕ Global). k.items) m ordered) ∙ firsts m.entries) ∙ ap (λ (t : Map (Unit {0})). keys t) is
+
+pub list_more : (list more : List (Bor (List ℕ))) (iter rest : List (Vec ℕ Global × Unit {0})) (k : Vec ℕ Global) (x : Unit {0}) (n : Bor (List ℕ)) (all : List Name)
+    → iter ≡ (k, x) ∷ rest → n.now ≡ k.items → more ≡ list ++ n ∷ []
+    → map now_of list ++ map (λ (e : Vec ℕ Global × Unit {0}). e.0.items) iter ≡ all → map now_of more ++ map (λ (e : Vec ℕ Global × Unit {0}). e.0.items) rest ≡ all
+list_more list more iter rest k x n all is named adds so =
+    let seen : Vec ℕ Global × Unit {0} → Name = λ e. e.0.items in
+    ap (λ (l : List (Bor (List ℕ))). map now_of l ++ map seen rest) adds
+    ∙ ap (λ (l : List Name). l ++ map seen rest) (map-append now_of list (n ∷ []))
+    ∙ append_assoc (map now_of list) (n.now ∷ []) (map seen rest)
+    ∙ ap (λ (v : Name). map now_of list ++ v ∷ map seen rest) named
+    ∙ sym (ap (λ (es : List (Vec ℕ Global × Unit {0})). map now_of list ++ map seen es) is)
+    ∙ so

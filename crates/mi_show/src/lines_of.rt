@@ -1,6 +1,6 @@
 //! The lines of the entries of an image.
 
-ghost use Rattle.std.specs.Prelude.{◌≡◌, IfOk, IsErrOf, option_map};
+ghost use Rattle.std.specs.Prelude.{◌≡◌, ◌++◌, IfOk, IsErrOf, option_map};
 ghost use Rattle.std.specs.FinMap.{get};
 ghost use Rattle.md5.specs.Md5.{md5};
 ghost use Rattle.mi_base.specs.Names.{file_name};

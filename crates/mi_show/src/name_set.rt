@@ -48,7 +48,8 @@ impl NameSet {
         ensures { OnOk result (self.new ≡ tree.insert self.old name.now tt) }
     {
         let key = Vec::from_slice(alloc, name)?;
-        let _was = self.names.insert(key, ())?;
+        let was = self.names.insert(key, ())?;
+        drop(was);
         Ok(())
     }
 
