@@ -17,7 +17,7 @@ use Rattle.mi_base.specs.Machine.{Fits}
 use Rattle.mi_show.specs.Registry.{key_text, value_line}
 use Rattle.mi_show.specs.Trees.{tree}
 use Rattle.mi_show.specs.Prints.{other_line}
-use Rattle.mi_show.specs.Laws.{letter, IsFile, LinesAreExact, IsSmallFile, TreesAreExact}
+use Rattle.mi_show.specs.Laws.{letter, IsFile, LinesAreExact, IsSmallFile, IsToldByHash, TreesAreExact}
 use Rattle.mi_show.proofs.LineLemmas.{IsHead, IsProduct, IsClient, product_apart, folder_apart, client_apart, variable_apart, system_apart, tails}
 use Rattle.mi_show.proofs.RegistryLemmas.{Fits32, IsShortcut, shortcut_apart, key_apart, key_line_apart, value_apart}
 use Rattle.mi_show.proofs.TreeLemmas.{tree_apart}
@@ -75,6 +75,21 @@ head_is f small = record {
   length = small.1;
 }
 
+-- a file of the one list, and one of the other
+abbrev OfOne : List FileEntry → FileEntry → Type 0
+OfOne gs f = IsSmallFile f × AllByRecursion (λ g. IsToldByHash f g) gs
+
+abbrev OfOther : List FileEntry → FileEntry → Type 0
+OfOther gs g = IsSmallFile g × ((f : FileEntry) → AllByRecursion (λ h. IsToldByHash f h) gs → IsToldByHash f g)
+
+ones : (gs fs : List FileEntry) → AllByRecursion IsSmallFile fs → AllByRecursion (λ f. AllByRecursion (λ g. IsToldByHash f g) gs) fs → AllByRecursion (OfOne gs) fs
+ones gs [] small told = tt
+ones gs (f ∷ fs) small told = ((small.0, told.0), ones gs fs small.1 told.1)
+
+others : (gs hs : List FileEntry) → AllByRecursion IsSmallFile hs → ((f : FileEntry) → AllByRecursion (λ h. IsToldByHash f h) gs → AllByRecursion (λ h. IsToldByHash f h) hs) → AllByRecursion (OfOther gs) hs
+others gs [] small into = tt
+others gs (h ∷ hs) small into = ((small.0, λ f all. (into f all).0), others gs hs small.1 (λ f all. (into f all).1))
+
 pub trees_exact : TreesAreExact
 trees_exact fs gs small other told e =
-    (tree_apart IsSmallFile IsSmallFile head_is head_is (λ f g pf pg long hash. told f g long hash) [] fs gs [] [] small other (ap (λ (l : List ℕ). l ++ 10 ∷ []) e)).0
+    (tree_apart (OfOne gs) (OfOther gs) (λ f p. head_is f p.0) (λ g q. head_is g q.0) (λ f g p q long hash. q.1 f p.1 long hash) [] fs gs [] [] (ones gs fs small told) (others gs gs other (λ f all. all)) (ap (λ (l : List ℕ). l ++ 10 ∷ []) e)).0

@@ -38,11 +38,15 @@ LinesAreExact = (e f : Entry) → Fits e → Fits f → ¬ IsFile e → letter e
 abbrev pub IsSmallFile : FileEntry → Type 0
 IsSmallFile f = Fits (entry.File f) × (length f.bytes < 2 ^ 64)
 
--- Two lists of files with one tree are one, where those of one length and one MD5 have the same bytes.
+-- if they have one length and one MD5 they have the same bytes
+abbrev pub IsToldByHash : FileEntry → FileEntry → Type 0
+IsToldByHash f g = length f.bytes ≡ length g.bytes → md5 f.bytes ≡ md5 g.bytes → f.bytes ≡ g.bytes
+
+-- Two lists of files with one tree are one, where of these files those of one length and one MD5 have the same bytes.
 abbrev pub TreesAreExact : Type 0
 TreesAreExact =
     (fs gs : List FileEntry) → AllByRecursion IsSmallFile fs → AllByRecursion IsSmallFile gs
-    → ((f g : FileEntry) → length f.bytes ≡ length g.bytes → md5 f.bytes ≡ md5 g.bytes → f.bytes ≡ g.bytes)
+    → AllByRecursion (λ f. AllByRecursion (λ g. IsToldByHash f g) gs) fs
     → tree [] fs ≡ tree [] gs → fs ≡ gs
 
 -- ---- what differs
@@ -57,7 +61,7 @@ IsShown m = (q : Name) (e : Entry) → get m q ≡ Some e → (name_of e ≡ q) 
 
 -- two files of one name, of one length and of one MD5 have the same bytes
 abbrev pub ToldByHash : Machine → Machine → Type 0
-ToldByHash m n = (q : Name) (f g : FileEntry) → get m q ≡ Some (entry.File f) → get n q ≡ Some (entry.File g) → length f.bytes ≡ length g.bytes → md5 f.bytes ≡ md5 g.bytes → f.bytes ≡ g.bytes
+ToldByHash m n = (q : Name) (f g : FileEntry) → get m q ≡ Some (entry.File f) → get n q ≡ Some (entry.File g) → IsToldByHash f g
 
 -- and where nothing differs the machines are one
 abbrev pub NothingDiffersInOne : Type 0
