@@ -1,29 +1,27 @@
 -- Where nothing differs the machines are one.
-use Rattle.std.proofs.Common.{◌≡◌, ℕ, ◌⊎◌, inl, inr, ◌<◌, ◌^◌, Bool, true, false, cond, ◌||◌, List, [], ◌∷◌, ◌++◌, map, length, Option, Some, None, refl, sym, ap, subst, ◌∙◌, append_assoc, codes, arith, ltb-true}
+use Rattle.std.proofs.Common.{◌≡◌, ℕ, ◌⊎◌, inl, inr, ◌<◌, ◌^◌, Bool, true, false, cond, ◌||◌, List, [], ◌∷◌, ◌++◌, map, length, Option, Some, None, refl, sym, ap, subst, ◌∙◌, append_assoc, codes, arith}
 use Rattle.std.specs.Prelude.{option_map, is_some, filter, nat_eq}
 use Rattle.std.specs.List.{flat_map, starts_with, AllByRecursion}
 use Rattle.std.specs.Str.{bytes_eq}
 use Rattle.std.specs.Cmp.Lexicographic.{same_text, other_text}
 use Rattle.std.specs.FinMap.{get, keys, find, get-from_entries}
 use Rattle.md5.specs.Md5.{md5}
-use Rattle.mi_text.specs.Maps.{Name, Map, name_cmp, same_name, is_among}
+use Rattle.mi_text.specs.Maps.{Name, name_cmp, same_name, is_among}
 use Rattle.mi_text.proofs.MapLemmas.{same, names_total, from_same, among-keys, is_among-append}
-use Rattle.mi_text.proofs.ByteLemmas.{both}
 use Rattle.mi_base.specs.declared.entry.FileEntry.{FileEntry}
 use Rattle.mi_base.specs.declared.entry.Entry.{Entry}
 use Rattle.mi_base.specs.declared.entry.Entry.TheVariants as entry
 use Rattle.mi_base.specs.Names.{file_name, folder_name, key_name, value_name, shortcut_name, variable_name, client_name, product_name, system_name}
 use Rattle.mi_base.specs.Spelling.{name_of, head_of}
-use Rattle.mi_base.specs.Limits.{fits, IsEntry}
 use Rattle.mi_base.specs.Machine.{Machine, Fits}
 use Rattle.mi_image.specs.Items.{bytes_of_file}
 use Rattle.mi_show.specs.Texts.{field}
 use Rattle.mi_show.specs.Lines.{details, file_line}
-use Rattle.mi_show.specs.Prints.{names_of, other_line, section}
-use Rattle.mi_show.specs.Differences.{name_set, names_of_either, entry_line, line_at, change, difference, differences, titled, Titled, kinds, kind_text, different}
+use Rattle.mi_show.specs.Prints.{names_of, other_line}
+use Rattle.mi_show.specs.Differences.{name_set, names_of_either, entry_line, line_at, change, difference, differences, titled, kinds, kind_text, different}
 use Rattle.mi_show.specs.Laws.{letter, IsFile, IsSmallFile, SameDiffersNowhere, IsShown, ToldByHash, NothingDiffersInOne}
 use Rattle.mi_show.proofs.CodeLemmas.{field_tab, heads}
-use Rattle.mi_show.proofs.LineLemmas.{details_apart, details_spread, tails}
+use Rattle.mi_show.proofs.LineLemmas.{details_apart, details_spread}
 use Rattle.mi_show.proofs.LawLemmas.{lines_exact, head_is}
 use Rattle.mi_show.proofs.DiffLemmas.{member}
 

@@ -1,5 +1,5 @@
 -- Names of two machines, and the lines of what stands there.
-use Rattle.std.proofs.Common.{◌≡◌, ℕ, zero, suc, ◌+◌, ◌<◌, ◌≤◌, Bool, true, false, cond, List, [], ◌∷◌, ◌++◌, map, take, drop, length, get_or, Option, Some, None, Bor, refl, sym, ap, subst, ◌∙◌, arith, append_assoc, append-nil, Result, Ok, Err}
+use Rattle.std.proofs.Common.{◌≡◌, ℕ, ◌+◌, ◌<◌, ◌≤◌, true, false, cond, List, [], ◌∷◌, ◌++◌, map, take, drop, length, get_or, Option, Some, None, Bor, refl, sym, ap, ◌∙◌, append_assoc, append-nil, Result, Ok, Err}
 use Rattle.std.specs.Prelude.{option_map, IsOkAnd, filter, nat_eq}
 use Rattle.std.specs.List.{flat_map, starts_with}
 use Rattle.std.specs.FinMap.{get, keys, insert, find, get-insert, get-from_entries}
@@ -14,7 +14,6 @@ use Rattle.md5.specs.Md5.{md5}
 use Rattle.mi_text.specs.Maps.{Name, Map, name_cmp, same_name}
 use Rattle.mi_text.proofs.MapLemmas.{same, names_total}
 use Rattle.mi_text.proofs.TreeLemmas.{entries-map_as}
-use Rattle.mi_base.specs.declared.entry.FileEntry.{FileEntry}
 use Rattle.mi_base.specs.declared.entry.FileHead.{FileHead}
 use Rattle.mi_base.specs.declared.entry.Entry.{Entry}
 use Rattle.mi_base.specs.declared.entry.Entry.TheVariants as entry

@@ -1,25 +1,20 @@
 -- Two entries with one line are one, and two lists of files with one tree.
-use Rattle.std.proofs.Common.{◌≡◌, ℕ, ◌<◌, ◌^◌, Bool, true, false, eqb, List, [], ◌∷◌, ◌++◌, length, refl, sym, ap, ◌∙◌, arith, nat_lt, eq-eqb, ltb-true, append_assoc}
-use Rattle.std.specs.Prelude.{nat_le, ◌&&◌}
-use Rattle.std.specs.List.{AllByRecursion, list_all}
-use Rattle.md5.specs.Md5.{md5}
+use Rattle.std.proofs.Common.{◌≡◌, ℕ, ◌<◌, true, false, eqb, List, [], ◌∷◌, ◌++◌, refl, sym, ap, ◌∙◌, eq-eqb, ltb-true, append_assoc}
+use Rattle.std.specs.List.{AllByRecursion}
 use Rattle.mi_text.proofs.ByteLemmas.{both}
-use Rattle.mi_text.specs.Path.{is_file_path}
 use Rattle.mi_base.specs.declared.entry.FileEntry.{FileEntry}
 use Rattle.mi_base.specs.declared.entry.RegValue.{RegValue}
 use Rattle.mi_base.specs.declared.entry.RegValue.TheVariants as value
 use Rattle.mi_base.specs.declared.entry.ValueKey.{ValueKey}
-use Rattle.mi_base.specs.declared.entry.Entry.{Entry}
 use Rattle.mi_base.specs.declared.entry.Entry.TheVariants as entry
 use Rattle.mi_base.specs.Limits.{fits, IsEntry, IsRegValue}
 use Rattle.mi_base.specs.Spelling.{head_of}
 use Rattle.mi_base.specs.Machine.{Fits}
 use Rattle.mi_show.specs.Registry.{key_text, value_line}
-use Rattle.mi_show.specs.Trees.{tree}
 use Rattle.mi_show.specs.Prints.{other_line}
-use Rattle.mi_show.specs.Laws.{letter, IsFile, LinesAreExact, IsSmallFile, IsToldByHash, TreesAreExact}
-use Rattle.mi_show.proofs.LineLemmas.{IsHead, IsProduct, IsClient, product_apart, folder_apart, client_apart, variable_apart, system_apart, tails}
-use Rattle.mi_show.proofs.RegistryLemmas.{Fits32, IsShortcut, shortcut_apart, key_apart, key_line_apart, value_apart}
+use Rattle.mi_show.specs.Laws.{letter, LinesAreExact, IsSmallFile, IsToldByHash, TreesAreExact}
+use Rattle.mi_show.proofs.LineLemmas.{IsHead, product_apart, folder_apart, client_apart, variable_apart, system_apart, tails}
+use Rattle.mi_show.proofs.RegistryLemmas.{Fits32, shortcut_apart, key_apart, key_line_apart, value_apart}
 use Rattle.mi_show.proofs.TreeLemmas.{tree_apart}
 
 apart : (a b : ℕ) → eqb a b ≡ false → ¬ (a ≡ b)

@@ -1,10 +1,10 @@
 -- What differs between two machines (this project's own): kind by kind, by the line of what stands at each name of either.
-use Rattle.std.specs.Prelude.{◌≡◌, ℕ, if◌then◌else◌, List, [], ◌∷◌, ◌++◌, map, codes, Option, Some, None, option_map}
+use Rattle.std.specs.Prelude.{ℕ, if◌then◌else◌, List, [], ◌∷◌, ◌++◌, map, codes, Option, Some, None, option_map}
 use Rattle.std.specs.Str.{bytes_eq}
 use Rattle.std.specs.List.{flat_map}
 use Rattle.std.specs.FinMap.{get, keys, from_entries}
 use Rattle.md5.specs.Md5.{md5}
-use Rattle.mi_text.specs.Maps.{Name, Map, name_cmp}
+use Rattle.mi_text.specs.Maps.{Name, Map}
 use Rattle.mi_base.specs.declared.entry.Entry.{Entry}
 use Rattle.mi_base.specs.declared.entry.Entry.TheVariants as entry
 use Rattle.mi_base.specs.Names.{file_name}

@@ -168,7 +168,15 @@ fn differences<V: Volume, W: Volume>(
     let set = NameSet::of_either(alloc, before, after, front.as_bytes())?;
     let names = set.list(alloc)?;
     let mut text = Vec::new(alloc);
-    push_all(alloc, &mut text, vol, after, other, before, names.as_slice())?;
+    push_all(
+        alloc,
+        &mut text,
+        vol,
+        after,
+        other,
+        before,
+        names.as_slice(),
+    )?;
     Ok(text)
 }
 
@@ -261,15 +269,42 @@ fn different<V: Volume, W: Volume>(
     ensures fault_other { IsErrOf result SideFault.Other → Rose (W.state other.old) (W.state other.new) }
 {
     let kinds = [
-        Kind { title: "Products", front: "p/" },
-        Kind { title: "Files", front: "f/" },
-        Kind { title: "Folders", front: "d/" },
-        Kind { title: "Registry keys", front: "k/" },
-        Kind { title: "Registry values", front: "v/" },
-        Kind { title: "Shortcuts", front: "s/" },
-        Kind { title: "Environment", front: "n/" },
-        Kind { title: "Clients", front: "c/" },
-        Kind { title: "System", front: "y/" },
+        Kind {
+            title: "Products",
+            front: "p/",
+        },
+        Kind {
+            title: "Files",
+            front: "f/",
+        },
+        Kind {
+            title: "Folders",
+            front: "d/",
+        },
+        Kind {
+            title: "Registry keys",
+            front: "k/",
+        },
+        Kind {
+            title: "Registry values",
+            front: "v/",
+        },
+        Kind {
+            title: "Shortcuts",
+            front: "s/",
+        },
+        Kind {
+            title: "Environment",
+            front: "n/",
+        },
+        Kind {
+            title: "Clients",
+            front: "c/",
+        },
+        Kind {
+            title: "System",
+            front: "y/",
+        },
     ];
     let mut text = Vec::new(alloc);
     push_kinds(alloc, &mut text, vol, after, other, before, &kinds)?;

@@ -212,7 +212,11 @@ fn words_for(stop: &Stop) -> (&'static str, u8) {
 fn report(rt: &HostRuntime, stop: &Stop) -> u8 {
     let (text, status) = words_for(stop);
     let _ = match stop {
-        Stop::BadImage(name) | Stop::BadOther(name) => eprintln!(rt; "msi_show: {} {}", text, name.as_str()),
+        Stop::BadImage(name) | Stop::BadOther(name) => eprintln!(rt;
+            "msi_show: {} {}",
+            text,
+            name.as_str()
+        ),
         _ => eprintln!(rt; "msi_show: {}", text),
     };
     status

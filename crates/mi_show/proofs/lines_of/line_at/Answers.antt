@@ -1,6 +1,4 @@
-use Rattle.std.proofs.Common.{◌≡◌, ℕ, List, Some, None, ap, ◌∙◌}
-use Rattle.mi_image.specs.declared.item.Item.{Item}
-use Rattle.mi_show.specs.Machines.{machine_in}
+use Rattle.std.proofs.Common.{ℕ, List, Some, None, ap, ◌∙◌}
 use Rattle.mi_show.proofs.DiffLemmas.{item_at}
 use Rattle.mi_show.proofs.lines_of.line_at.Goals as goal
 

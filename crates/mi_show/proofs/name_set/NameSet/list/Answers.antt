@@ -1,4 +1,4 @@
-use Rattle.std.proofs.Common.{◌≡◌, ◌++◌, ℕ, List, Bor, Vec, map, ap, ◌∙◌}
+use Rattle.std.proofs.Common.{◌++◌, ℕ, List, Vec, map, ◌∙◌}
 use Rattle.std.specs.declared.alloc.Global.{Global}
 use Rattle.mi_show.proofs.DiffLemmas.{now_of, tree_names, list_more}
 use Rattle.mi_show.proofs.name_set.NameSet.list.Goals as goal

@@ -1,6 +1,4 @@
-use Rattle.std.proofs.Common.{◌≡◌, ◌++◌, [], ℕ, List, Bor, map, refl, ap, ◌∙◌}
-use Rattle.std.specs.FinMap.{empty}
-use Rattle.mi_text.specs.Maps.{Name}
+use Rattle.std.proofs.Common.{◌++◌, [], map, ap, ◌∙◌}
 use Rattle.mi_show.specs.Machines.{no_files}
 use Rattle.mi_show.specs.Differences.{name_set}
 use Rattle.mi_show.proofs.DiffLemmas.{now_of}
