@@ -201,6 +201,13 @@ struct Kind {
     front: &'static str,
 }
 
+fn kind_of(title: &'static str, front: &'static str) -> Kind
+    ensures title { result.title.now ≡ title.now }
+    ensures front { result.front.now ≡ front.now }
+{
+    Kind { title, front }
+}
+
 // Adds what differs of a kind.
 fn push_kind<V: Volume, W: Volume>(
     alloc: Global,
@@ -269,42 +276,15 @@ fn different<V: Volume, W: Volume>(
     ensures fault_other { IsErrOf result SideFault.Other → Rose (W.state other.old) (W.state other.new) }
 {
     let kinds = [
-        Kind {
-            title: "Products",
-            front: "p/",
-        },
-        Kind {
-            title: "Files",
-            front: "f/",
-        },
-        Kind {
-            title: "Folders",
-            front: "d/",
-        },
-        Kind {
-            title: "Registry keys",
-            front: "k/",
-        },
-        Kind {
-            title: "Registry values",
-            front: "v/",
-        },
-        Kind {
-            title: "Shortcuts",
-            front: "s/",
-        },
-        Kind {
-            title: "Environment",
-            front: "n/",
-        },
-        Kind {
-            title: "Clients",
-            front: "c/",
-        },
-        Kind {
-            title: "System",
-            front: "y/",
-        },
+        kind_of("Products", "p/"),
+        kind_of("Files", "f/"),
+        kind_of("Folders", "d/"),
+        kind_of("Registry keys", "k/"),
+        kind_of("Registry values", "v/"),
+        kind_of("Shortcuts", "s/"),
+        kind_of("Environment", "n/"),
+        kind_of("Clients", "c/"),
+        kind_of("System", "y/"),
     ];
     let mut text = Vec::new(alloc);
     push_kinds(alloc, &mut text, vol, after, other, before, &kinds)?;
