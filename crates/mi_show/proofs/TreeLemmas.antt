@@ -237,7 +237,7 @@ unfolding tree
 tree_end former x = refl
 
 module _ (P Q : FileEntry → Type 0) (head_p : (f : FileEntry) → P f → IsHead (head_of f)) (head_q : (f : FileEntry) → Q f → IsHead (head_of f))
-    (told : (f g : FileEntry) → P f → Q g → length f.bytes ≡ length g.bytes → md5 f.bytes ≡ md5 g.bytes → f.bytes ≡ g.bytes) where
+    (told : (f g : FileEntry) → P f → Q g → f.shown ≡ g.shown → length f.bytes ≡ length g.bytes → md5 f.bytes ≡ md5 g.bytes → f.bytes ≡ g.bytes) where
   pub tree_apart : (former : List ℕ) (fs gs : List FileEntry) (x y : List ℕ) → AllByRecursion P fs → AllByRecursion Q gs → tree former fs ++ 10 ∷ x ≡ tree former gs ++ 10 ∷ y → (fs ≡ gs) × (x ≡ y)
   tree_apart former [] [] x y pf qg e = (refl, tails 10 10 x y (sym (tree_end former (10 ∷ x)) ∙ e ∙ tree_end former (10 ∷ y)))
   tree_apart former [] (g ∷ gs) x y pf qg e = absurd (path_never former g.shown _ x (sym (tree_spread former g gs (10 ∷ y)) ∙ sym e ∙ tree_end former (10 ∷ x)))
@@ -246,7 +246,7 @@ module _ (P Q : FileEntry → Type 0) (head_p : (f : FileEntry) → P f → IsHe
       let path = path_apart former f.shown g.shown _ _ (sym (tree_spread former f fs (10 ∷ x)) ∙ e ∙ tree_spread former g gs (10 ∷ y)) in
       let same = details_apart (head_of f) (head_of g) (md5 f.bytes) (md5 g.bytes) (tree f.shown fs ++ 10 ∷ x) (tree g.shown gs ++ 10 ∷ y) (head_p f pf.0) (head_q g qg.0)
       (details_spread (head_of f) (md5 f.bytes) (tree f.shown fs ++ 10 ∷ x) ∙ ap (λ (l : List ℕ). 9 ∷ l) path.1 ∙ sym (details_spread (head_of g) (md5 g.bytes) (tree g.shown gs ++ 10 ∷ y))) in
-      let bytes = told f g pf.0 qg.0 same.length same.hash in
+      let bytes = told f g pf.0 qg.0 path.0 same.length same.hash in
       let file : f ≡ g = λ i. record { shown = path.0 i; version = same.version i; languages = same.languages i; created = same.created i; modified = same.modified i; attributes = same.attributes i; bytes = bytes i } in
       let rest = tree_apart g.shown fs gs x y pf.1 qg.1 (ap (λ (s : List ℕ). tree s fs ++ 10 ∷ x) (sym path.0) ∙ same.rest) in
       (λ i. file i ∷ rest.0 i, rest.1)

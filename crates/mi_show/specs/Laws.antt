@@ -11,7 +11,7 @@ use Rattle.mi_base.specs.Spelling.{name_of}
 use Rattle.mi_base.specs.Machine.{Machine, Fits}
 use Rattle.mi_image.specs.Items.{bytes_of_file}
 use Rattle.mi_show.specs.Trees.{tree}
-use Rattle.mi_show.specs.Prints.{other_line}
+use Rattle.mi_show.specs.Prints.{other_line, shown}
 use Rattle.mi_show.specs.Differences.{different}
 
 -- the kinds of entries, by the letters of their names
@@ -66,3 +66,7 @@ ToldByHash m n = (q : Name) (f g : FileEntry) → get m q ≡ Some (entry.File f
 -- and where nothing differs the machines are one
 abbrev pub NothingDiffersInOne : Type 0
 NothingDiffersInOne = (m n : Machine) → IsShown m → IsShown n → ToldByHash m n → different m n ≡ [] → m ≡ n
+
+-- and so are two machines with one print
+abbrev pub PrintsAreExact : Type 0
+PrintsAreExact = (m n : Machine) → IsShown m → IsShown n → ToldByHash m n → shown m ≡ shown n → m ≡ n
