@@ -92,7 +92,7 @@ fn words_of<R: std::rt::Env + AllocGlobal>(rt: &R) -> io::Result<Vec<String>> {
     Ok(words)
 }
 
-fn asked(words: &[String]) -> Option<Asked<'_>> {
+fn asked_by(words: &[String]) -> Option<Asked<'_>> {
     match words {
         [] => Some(Asked::Machine(MACHINE)),
         [word] if word.as_str() == "--help" => Some(Asked::Help),
@@ -121,7 +121,7 @@ fn print_machine(rt: HostRuntime, folder: &str) -> Result<(), Stop> {
 
 fn carry_out(rt: HostRuntime) -> Result<(), Stop> {
     let words = words_of(&rt)?;
-    match asked(words.as_slice()) {
+    match asked_by(words.as_slice()) {
         Some(Asked::Help) => print(rt, HELP.as_bytes()),
         Some(Asked::Machine(folder)) => print_machine(rt, folder),
         None => Err(Stop::Words),
