@@ -1,14 +1,13 @@
 -- What is printed can be read back: from texts that are equal with what stands behind them, what they print is equal, and what stands behind.
-use Rattle.std.proofs.Common.{◌≡◌, ℕ, zero, suc, ◌||◌, ◌⊎◌, inl, inr, ◌+◌, ◌*◌, ◌/◌, ◌%◌, ◌^◌, ◌<◌, ◌≤◌, Bool, true, false, cond, not, nat_lt, eqb, List, [], ◌∷◌, ◌++◌, length, Option, Some, None, refl, sym, ap, subst, ◌∙◌, arith, append_assoc, ltb-true, ltb-false, eqb→eq, eq-eqb, eqb-true}
+use Rattle.std.proofs.Common.{◌≡◌, ℕ, ◌||◌, ◌⊎◌, inl, inr, ◌+◌, ◌/◌, ◌%◌, ◌^◌, ◌<◌, ◌≤◌, Bool, true, false, cond, nat_lt, eqb, List, [], ◌∷◌, ◌++◌, length, Some, refl, sym, ap, subst, ◌∙◌, arith, append_assoc, ltb-true, ltb-false, eqb-true}
 use Rattle.std.specs.List.{flat_map, AllByRecursion}
-use Rattle.std.specs.Fmt.{decimal, signed_decimal}
+use Rattle.std.specs.Fmt.{decimal}
 use Rattle.std.specs.Str.Parse.{AllDigits}
 use Rattle.std.specs.Char.{digit_value}
 use Rattle.std.proofs.lemmas.Fmt.{decimal_is_IsNumeral, decimal_injective}
-use Rattle.std.proofs.lemmas.Bool.{cases_Bool}
 use Rattle.mi_text.specs.Guid.{guid_text, guid_of}
 use Rattle.mi_text.proofs.GuidLemmas.{length-guid_text, guid_of-guid_text}
-use Rattle.mi_show.specs.Texts.{digit, two_digits, is_control, is_escaped, is_escaped_in_tree, is_escaped_in_key, escaped_byte, field, is_sign, quoted_byte, quoted, bytes_text}
+use Rattle.mi_show.specs.Texts.{digit, two_digits, is_control, is_escaped, escaped_byte, field, is_sign, quoted_byte, quoted}
 
 -- ---- items and lists
 

@@ -1,11 +1,10 @@
 -- What an image that was scanned has at a name.
-use Rattle.std.proofs.Common.{◌≡◌, ℕ, zero, suc, ◌<◌, ◌≤◌, ◌^◌, Bool, true, false, cond, List, [], ◌∷◌, ◌++◌, map, take, drop, length, Option, Some, None, Bor, refl, sym, ap, subst, ◌∙◌, arith, nat_lt, ltb-true, codes, append_assoc, get_or, ◌+◌, Result, Ok, Err}
-use Rattle.std.specs.Prelude.{option_map, IsOkAnd, ◌&&◌, filter, nat_eq, is_none}
+use Rattle.std.proofs.Common.{◌≡◌, ℕ, zero, suc, ◌<◌, ◌≤◌, true, false, cond, List, [], ◌∷◌, ◌++◌, map, take, drop, length, Option, Some, None, Bor, refl, sym, ap, ◌∙◌, arith, codes, append_assoc, get_or, ◌+◌, Result, Ok, Err}
+use Rattle.std.specs.Prelude.{option_map, IsOkAnd, filter, nat_eq, is_none}
 use Rattle.std.specs.List.{filter_map, flat_map, starts_with, cons_option}
-use Rattle.std.specs.FinMap.{get, keys, entries, entries-from_sorted, get-from_sorted}
+use Rattle.std.specs.FinMap.{get, keys, entries-from_sorted, get-from_sorted}
 use Rattle.md5.specs.Md5.{md5}
 use Rattle.std.proofs.lemmas.List.{append-nil}
-use Rattle.mi_text.proofs.ByteLemmas.{both}
 use Rattle.mi_text.proofs.MapLemmas.{keys-map_values}
 use Rattle.mi_text.specs.Fold.{folded}
 use Rattle.mi_text.specs.Maps.{Name, Map, name_cmp}
@@ -14,7 +13,6 @@ use Rattle.mi_base.specs.declared.entry.FileEntry.{FileEntry}
 use Rattle.mi_base.specs.declared.entry.FileHead.{FileHead}
 use Rattle.mi_base.specs.declared.entry.Entry.{Entry}
 use Rattle.mi_base.specs.declared.entry.Entry.TheVariants as entry
-use Rattle.mi_base.specs.Limits.{fits, is_key}
 use Rattle.mi_base.specs.Names.{file_name, key_name}
 use Rattle.mi_base.specs.Spelling.{head_of}
 use Rattle.mi_base.specs.Records.{with_bytes}
@@ -23,7 +21,7 @@ use Rattle.mi_image.specs.declared.item.Content.{Content}
 use Rattle.mi_image.specs.declared.item.Item.{Item}
 use Rattle.mi_image.specs.declared.item.Item.TheVariants.{Head, Whole}
 use Rattle.mi_image.specs.Fronts.{value_front}
-use Rattle.mi_image.specs.Items.{Items, MayStand, AreRight, content_bytes, entry_over, bytes_of_file, machine_over, ImageOf}
+use Rattle.mi_image.specs.Items.{Items, AreRight, content_bytes, entry_over, bytes_of_file, machine_over, ImageOf}
 use Rattle.mi_image.specs.Lookups.{whole_of, head_in}
 use Rattle.mi_image.proofs.LookupLemmas.{over_whole, get_over}
 use Rattle.mi_show.specs.Lines.{details, head_details}

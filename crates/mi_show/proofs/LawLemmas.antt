@@ -1,25 +1,20 @@
 -- Two entries with one line are one, and two lists of files with one tree.
-use Rattle.std.proofs.Common.{◌≡◌, ℕ, ◌<◌, ◌^◌, Bool, true, false, eqb, List, [], ◌∷◌, ◌++◌, length, refl, sym, ap, ◌∙◌, arith, nat_lt, eq-eqb, ltb-true, append_assoc}
-use Rattle.std.specs.Prelude.{nat_le, ◌&&◌}
-use Rattle.std.specs.List.{AllByRecursion, list_all}
-use Rattle.md5.specs.Md5.{md5}
+use Rattle.std.proofs.Common.{◌≡◌, ℕ, ◌<◌, true, false, eqb, List, [], ◌∷◌, ◌++◌, refl, sym, ap, ◌∙◌, eq-eqb, ltb-true, append_assoc}
+use Rattle.std.specs.List.{AllByRecursion}
 use Rattle.mi_text.proofs.ByteLemmas.{both}
-use Rattle.mi_text.specs.Path.{is_file_path}
 use Rattle.mi_base.specs.declared.entry.FileEntry.{FileEntry}
 use Rattle.mi_base.specs.declared.entry.RegValue.{RegValue}
 use Rattle.mi_base.specs.declared.entry.RegValue.TheVariants as value
 use Rattle.mi_base.specs.declared.entry.ValueKey.{ValueKey}
-use Rattle.mi_base.specs.declared.entry.Entry.{Entry}
 use Rattle.mi_base.specs.declared.entry.Entry.TheVariants as entry
 use Rattle.mi_base.specs.Limits.{fits, IsEntry, IsRegValue}
 use Rattle.mi_base.specs.Spelling.{head_of}
 use Rattle.mi_base.specs.Machine.{Fits}
 use Rattle.mi_show.specs.Registry.{key_text, value_line}
-use Rattle.mi_show.specs.Trees.{tree}
 use Rattle.mi_show.specs.Prints.{other_line}
-use Rattle.mi_show.specs.Laws.{letter, IsFile, LinesAreExact, IsSmallFile, TreesAreExact}
-use Rattle.mi_show.proofs.LineLemmas.{IsHead, IsProduct, IsClient, product_apart, folder_apart, client_apart, variable_apart, system_apart, tails}
-use Rattle.mi_show.proofs.RegistryLemmas.{Fits32, IsShortcut, shortcut_apart, key_apart, key_line_apart, value_apart}
+use Rattle.mi_show.specs.Laws.{letter, LinesAreExact, IsSmallFile, IsToldByHash, TreesAreExact}
+use Rattle.mi_show.proofs.LineLemmas.{IsHead, product_apart, folder_apart, client_apart, variable_apart, system_apart, tails}
+use Rattle.mi_show.proofs.RegistryLemmas.{Fits32, shortcut_apart, key_apart, key_line_apart, value_apart}
 use Rattle.mi_show.proofs.TreeLemmas.{tree_apart}
 
 apart : (a b : ℕ) → eqb a b ≡ false → ¬ (a ≡ b)
@@ -64,7 +59,7 @@ lines_exact (entry.Product p) (entry.Product q) ie jf plain same e =
 lines_exact (entry.System p s) (entry.System q t) ie jf plain same e = let all = system_apart p q s t (10 ∷ []) (10 ∷ []) (behind _ _ e) in λ i. entry.System (all.0.0 i) (all.0.1 i)
 lines_exact e f ie jf plain same is = absurd (apart (letter e) (letter f) refl same)
 
-head_is : (f : FileEntry) → IsSmallFile f → IsHead (head_of f)
+pub head_is : (f : FileEntry) → IsSmallFile f → IsHead (head_of f)
 unfolding fits IsEntry
 head_is f small = record {
   version = small.0.0.1;
@@ -75,6 +70,21 @@ head_is f small = record {
   length = small.1;
 }
 
+-- a file of the one list, and one of the other
+abbrev OfOne : List FileEntry → FileEntry → Type 0
+OfOne gs f = IsSmallFile f × AllByRecursion (λ g. IsToldByHash f g) gs
+
+abbrev OfOther : List FileEntry → FileEntry → Type 0
+OfOther gs g = IsSmallFile g × ((f : FileEntry) → AllByRecursion (λ h. IsToldByHash f h) gs → IsToldByHash f g)
+
+ones : (gs fs : List FileEntry) → AllByRecursion IsSmallFile fs → AllByRecursion (λ f. AllByRecursion (λ g. IsToldByHash f g) gs) fs → AllByRecursion (OfOne gs) fs
+ones gs [] small told = tt
+ones gs (f ∷ fs) small told = ((small.0, told.0), ones gs fs small.1 told.1)
+
+others : (gs hs : List FileEntry) → AllByRecursion IsSmallFile hs → ((f : FileEntry) → AllByRecursion (λ h. IsToldByHash f h) gs → AllByRecursion (λ h. IsToldByHash f h) hs) → AllByRecursion (OfOther gs) hs
+others gs [] small into = tt
+others gs (h ∷ hs) small into = ((small.0, λ f all. (into f all).0), others gs hs small.1 (λ f all. (into f all).1))
+
 pub trees_exact : TreesAreExact
 trees_exact fs gs small other told e =
-    (tree_apart IsSmallFile IsSmallFile head_is head_is (λ f g pf pg long hash. told f g long hash) [] fs gs [] [] small other (ap (λ (l : List ℕ). l ++ 10 ∷ []) e)).0
+    (tree_apart (OfOne gs) (OfOther gs) (λ f p. head_is f p.0) (λ g q. head_is g q.0) (λ f g p q long hash. q.1 f p.1 long hash) [] fs gs [] [] (ones gs fs small told) (others gs gs other (λ f all. all)) (ap (λ (l : List ℕ). l ++ 10 ∷ []) e)).0

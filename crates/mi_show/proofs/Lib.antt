@@ -1,4 +1,6 @@
 mod CodeLemmas
+mod DiffLawLemmas
+mod DiffLemmas
 mod ImageLemmas
 mod LawLemmas
 mod LineLemmas

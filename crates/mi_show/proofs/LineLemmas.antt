@@ -1,7 +1,7 @@
 -- What the line of an entry prints can be read back.
-use Rattle.std.proofs.Common.{◌≡◌, ℕ, ℤ, zero, suc, ◌+◌, ◌*◌, ◌/◌, ◌%◌, ◌^◌, ◌<◌, ◌≤◌, Bool, true, false, cond, eqb, ◌⊎◌, inl, inr, List, [], ◌∷◌, ◌++◌, length, Option, Some, None, refl, sym, ap, subst, ◌∙◌, arith, append_assoc, eqb-true, codes}
+use Rattle.std.proofs.Common.{◌≡◌, ℕ, zero, suc, ◌/◌, ◌%◌, ◌^◌, ◌<◌, Bool, true, false, cond, eqb, List, [], ◌∷◌, ◌++◌, length, Option, Some, None, refl, sym, ap, subst, ◌∙◌, arith, append_assoc, eqb-true, codes}
 use Rattle.std.specs.List.{flat_map, AllByRecursion}
-use Rattle.std.specs.Fmt.{decimal, signed_decimal}
+use Rattle.std.specs.Fmt.{decimal}
 use Rattle.std.specs.Char.{digit_value}
 use Rattle.std.specs.Str.Parse.{AllDigits}
 use Rattle.std.proofs.lemmas.List.{append_cancel_left}
@@ -13,9 +13,9 @@ use Rattle.mi_base.specs.declared.entry.Variable.{Variable}
 use Rattle.mi_base.specs.declared.entry.Client.{Client}
 use Rattle.mi_base.specs.declared.entry.Product.{Product}
 use Rattle.mi_base.specs.Limits.{IsVersion, IsVersionOrNone}
-use Rattle.mi_show.specs.Texts.{two_digits, field, quoted, version_text}
+use Rattle.mi_show.specs.Texts.{two_digits, field, version_text}
 use Rattle.mi_show.specs.Lines.{product_line, version_or_none, attributes_text, head_details, folder_line, variable_line, client_line, system_line}
-use Rattle.mi_show.proofs.CodeLemmas.{AreApart, NeverBegins, Any, all_any, all_apart, heads, digits_apart, digits_never, field_tab, field_line, blanked, blanked_line, EndsNumber, decimal_apart, tab_ends, line_ends, blank_ends, point_ends, code_apart}
+use Rattle.mi_show.proofs.CodeLemmas.{AreApart, NeverBegins, Any, all_any, all_apart, heads, digits_apart, digits_never, field_tab, field_line, blanked, blanked_line, EndsNumber, decimal_apart, tab_ends, blank_ends, point_ends, code_apart}
 
 -- ---- parts of a line
 

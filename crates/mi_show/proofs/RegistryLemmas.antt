@@ -1,7 +1,7 @@
 -- What keys, values and shortcuts print can be read back.
-use Rattle.std.proofs.Common.{◌≡◌, ℕ, ℤ, pos, negsuc, zero, suc, ◌+◌, ◌-◌, ◌^◌, ◌<◌, ◌≤◌, Bool, true, false, eqb, List, [], ◌∷◌, ◌++◌, length, refl, sym, ap, subst, ◌∙◌, arith, append_assoc, eq-eqb, codes}
+use Rattle.std.proofs.Common.{◌≡◌, ℕ, ℤ, pos, negsuc, zero, suc, ◌^◌, ◌<◌, true, false, eqb, List, [], ◌∷◌, ◌++◌, refl, sym, ap, ◌∙◌, arith, append_assoc, eq-eqb, codes}
 use Rattle.std.specs.Prelude.{FitsSigned}
-use Rattle.std.specs.List.{flat_map, AllByRecursion}
+use Rattle.std.specs.List.{flat_map}
 use Rattle.std.specs.Int.{w16, w32, to_be_bytes, from_be_bytes}
 use Rattle.std.specs.Fmt.{decimal, signed_decimal}
 use Rattle.std.proofs.lemmas.List.{append_cancel_left}
@@ -11,9 +11,9 @@ use Rattle.mi_base.specs.declared.entry.RegValue.TheVariants as value
 use Rattle.mi_base.specs.declared.entry.Shortcut.{Shortcut}
 use Rattle.mi_show.specs.Texts.{escaped_byte, is_escaped_in_key, two_digits, field, quoted, bytes_text, wide}
 use Rattle.mi_show.specs.Lines.{shortcut_front, shortcut_icon, shortcut_line}
-use Rattle.mi_show.specs.Registry.{root_name, key_text, key_line, value_name, int_text, data_text, value_line, exported, stray}
-use Rattle.mi_show.proofs.CodeLemmas.{AreApart, NeverBegins, Any, all_any, all_apart, heads, digit_from, digits_apart, digits_never, escapes_apart, field_tab, quoted_apart, blanked, blanked_line, decimal_apart, tab_ends, line_ends}
-use Rattle.mi_show.proofs.LineLemmas.{written, before, spread, tails, below16, decimal_never, dash_ends}
+use Rattle.mi_show.specs.Registry.{root_name, key_text, key_line, value_name, int_text, data_text, value_line, exported}
+use Rattle.mi_show.proofs.CodeLemmas.{AreApart, NeverBegins, Any, all_any, all_apart, heads, digits_apart, digits_never, escapes_apart, field_tab, quoted_apart, blanked_line, decimal_apart, tab_ends, line_ends}
+use Rattle.mi_show.proofs.LineLemmas.{before, spread, tails, below16, decimal_never, dash_ends}
 
 -- two different bytes in front
 pub differ : (a b : ℕ) (x y : List ℕ) → eqb a b ≡ false → ¬ (a ∷ x ≡ b ∷ y)

@@ -1,5 +1,5 @@
 -- What a tree of files prints can be read back.
-use Rattle.std.proofs.Common.{◌≡◌, ℕ, zero, suc, ◌+◌, ◌<◌, Bool, true, false, cond, eqb, ◌||◌, List, [], ◌∷◌, ◌++◌, length, drop, refl, sym, ap, subst, ◌∙◌, arith, append_assoc, eqb-true, eq-eqb, zero-add, add-zero, codes}
+use Rattle.std.proofs.Common.{◌≡◌, ℕ, zero, suc, ◌+◌, ◌<◌, Bool, true, false, cond, eqb, ◌||◌, List, [], ◌∷◌, ◌++◌, length, drop, refl, sym, ap, ◌∙◌, arith, append_assoc, eqb-true, eq-eqb, zero-add, add-zero}
 use Rattle.std.specs.List.{list_any, AllByRecursion, fold}
 use Rattle.md5.specs.Md5.{md5}
 use Rattle.mi_text.specs.Path.{up_to_last, last_part, is_backslash}
@@ -7,10 +7,10 @@ use Rattle.mi_text.proofs.PathLemmas.{split_at_last}
 use Rattle.mi_base.specs.declared.entry.FileEntry.{FileEntry}
 use Rattle.mi_base.specs.Spelling.{head_of}
 use Rattle.mi_show.specs.Texts.{escaped_byte, is_escaped_in_tree, two_digits}
-use Rattle.mi_show.specs.Lines.{head_details, details}
+use Rattle.mi_show.specs.Lines.{details}
 use Rattle.mi_show.specs.Trees.{common, shared, depth, bars, branches, path_lines, tree}
-use Rattle.mi_show.proofs.CodeLemmas.{Any, heads, escaped_apart, escaped_never}
-use Rattle.mi_show.proofs.LineLemmas.{tails, IsHead, SameDetails, details_apart, details_spread, details_parts, before}
+use Rattle.mi_show.proofs.CodeLemmas.{heads, escaped_apart, escaped_never}
+use Rattle.mi_show.proofs.LineLemmas.{tails, IsHead, details_apart, details_spread, details_parts, before}
 use Rattle.mi_show.proofs.RegistryLemmas.{differ}
 use Rattle.std.specs.Fmt.{decimal}
 

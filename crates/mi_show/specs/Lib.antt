@@ -4,5 +4,7 @@ pub mod Registry
 pub mod Trees
 pub mod Prints
 pub mod Machines
+pub mod Differences
 pub mod Laws
+pub mod Sets
 pub mod Faults

@@ -5,8 +5,6 @@ use Rattle.std.specs.FinMap.{get, keys}
 use Rattle.mi_text.specs.Fold.{folded}
 use Rattle.mi_text.specs.Maps.{Name}
 use Rattle.mi_base.specs.declared.entry.FileEntry.{FileEntry}
-use Rattle.mi_base.specs.declared.entry.RegValue.{RegValue}
-use Rattle.mi_base.specs.declared.entry.ValueKey.{ValueKey}
 use Rattle.mi_base.specs.declared.entry.Entry.{Entry}
 use Rattle.mi_base.specs.declared.entry.Entry.TheVariants as entry
 use Rattle.mi_base.specs.Machine.{Machine, key_at, as_file}

@@ -1,7 +1,6 @@
 -- Files as a tree (this project's own): a folder has its line before the first file in it, and a file that stands in another folder than the one
 -- before begins at the innermost folder in which both stand, as both spell it.
-use Rattle.std.specs.Prelude.{ℕ, zero, suc, ◌==◌, ◌+◌, Bool, if◌then◌else◌, List, [], ◌∷◌, ◌++◌, length, drop, count_by, codes}
-use Rattle.std.specs.List.{flat_map}
+use Rattle.std.specs.Prelude.{ℕ, zero, suc, ◌==◌, if◌then◌else◌, List, [], ◌∷◌, ◌++◌, length, drop, count_by, codes}
 use Rattle.mi_text.specs.Path.{up_to_last, is_backslash}
 use Rattle.mi_base.specs.declared.entry.FileEntry.{FileEntry}
 use Rattle.mi_show.specs.Texts.{escaped_byte, is_escaped_in_tree}

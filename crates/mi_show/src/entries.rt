@@ -28,9 +28,9 @@ fn push_value(out: &mut Vec<u8>, key: &ValueKey, value: &RegValue) -> Result<(),
     push_value_line(out, key.shown.as_str(), value)
 }
 
-// Adds the line of an entry that isn't a file.
+/// Adds the line of an entry that isn't a file.
 #[tactic(auto, unfolding(crate::specs::Prints::other_line))]
-fn push_other(alloc: Global, out: &mut Vec<u8>, entry: &Entry) -> Result<(), NoMemory>
+pub fn push_other(alloc: Global, out: &mut Vec<u8>, entry: &Entry) -> Result<(), NoMemory>
     ensures { OnOk result (out.new.items ≡ out.old.items ++ other_line entry.now) }
 {
     match entry {

@@ -1,4 +1,4 @@
-use Rattle.std.proofs.Common.{◌≡◌, ◌++◌, ◌∷◌, [], ℕ, List, Bor, drop, codes}
+use Rattle.std.proofs.Common.{◌≡◌, ◌++◌, ℕ, List, Bor, drop, codes}
 use Rattle.std.specs.List.{flat_map}
 use Rattle.std.specs.FinMap.{get}
 use Rattle.mi_show.specs.Machines.{plain_machine}

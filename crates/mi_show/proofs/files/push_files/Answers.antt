@@ -1,4 +1,4 @@
-use Rattle.std.proofs.Common.{◌≡◌, ◌++◌, [], ℕ, List, Bor, map, sym, ap, ◌∙◌}
+use Rattle.std.proofs.Common.{◌++◌, [], ℕ, List, Bor, map, sym, ap, ◌∙◌}
 use Rattle.mi_text.specs.Maps.{Name}
 use Rattle.mi_show.specs.Machines.{no_files, machine_in, heads_tree, heads_of}
 use Rattle.mi_show.specs.Prints.{files_in}

@@ -1,4 +1,4 @@
-use Rattle.std.proofs.Common.{◌≡◌, ◌++◌, ◌∷◌, ℕ, List, Bor, map, ap, ◌∙◌, codes}
+use Rattle.std.proofs.Common.{◌++◌, ℕ, List, Bor, map, ap, ◌∙◌}
 use Rattle.std.specs.FinMap.{get}
 use Rattle.mi_show.specs.Machines.{no_files, plain_machine}
 use Rattle.mi_show.specs.Prints.{stray_at}

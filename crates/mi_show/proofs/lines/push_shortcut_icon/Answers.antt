@@ -1,4 +1,4 @@
-use Rattle.std.proofs.Common.{◌++◌, ◌∷◌, ℕ, List, ap, ◌∙◌, append_assoc, codes}
+use Rattle.std.proofs.Common.{◌++◌, ◌∷◌, ℕ, List, ap, ◌∙◌, codes}
 use Rattle.std.specs.Fmt.{signed_decimal}
 use Rattle.mi_show.specs.Texts.{field}
 use Rattle.mi_show.specs.Lines.{shortcut_icon}

@@ -1,8 +1,6 @@
-use Rattle.std.proofs.Common.{ℕ, ◌≡◌, ◌++◌, ◌∷◌, [], ◌%◌, ◌/◌, drop}
+use Rattle.std.proofs.Common.{◌≡◌, ◌++◌, drop}
 use Rattle.std.specs.List.{flat_map}
-use Rattle.std.specs.Fmt.{decimal}
-use Rattle.std.specs.Char.Escape.{encode_utf16}
-use Rattle.mi_show.specs.Texts.{two_digits, quoted, wide}
+use Rattle.mi_show.specs.Texts.{two_digits}
 use Rattle.mi_show.proofs.texts.push_digits.Given as goal
 
 abbrev pub invariant-loop-byte : goal.invariant-loop-byte

@@ -1,6 +1,6 @@
 use Rattle.std.proofs.Common.{◌≡◌, ◌++◌, drop}
 use Rattle.std.specs.List.{flat_map}
-use Rattle.mi_show.specs.Texts.{escaped_byte, is_escaped, is_escaped_in_key, quoted_byte}
+use Rattle.mi_show.specs.Texts.{escaped_byte, is_escaped}
 use Rattle.mi_show.proofs.texts.push_field.Given as goal
 
 abbrev pub invariant-loop-byte : goal.invariant-loop-byte

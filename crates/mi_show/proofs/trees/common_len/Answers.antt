@@ -1,4 +1,4 @@
-use Rattle.std.proofs.Common.{◌≡◌, ◌≤◌, ◌<◌, ℕ, length, take, inl, inr, sym, subst, arith}
+use Rattle.std.proofs.Common.{◌≡◌, ℕ, take, inr, sym, subst, arith}
 use Rattle.mi_show.proofs.TreeCodeLemmas.{common_at, min_end}
 use Rattle.mi_show.proofs.trees.common_len.Goals as goal
 

@@ -1,5 +1,4 @@
-use Rattle.std.proofs.Common.{◌≡◌, ◌≤◌, ◌+◌, take, cond, get_or, ap, ◌∙◌, arith}
-use Rattle.mi_text.specs.Path.{is_backslash}
+use Rattle.std.proofs.Common.{take, ap, ◌∙◌}
 use Rattle.mi_show.proofs.TreeCodeLemmas.{end_step, end_low}
 use Rattle.mi_show.proofs.trees.folder_len.Goals as goal
 

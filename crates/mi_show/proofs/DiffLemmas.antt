@@ -1,0 +1,177 @@
+-- Names of two machines, and the lines of what stands there.
+use Rattle.std.proofs.Common.{◌≡◌, ℕ, ◌+◌, ◌<◌, ◌≤◌, true, false, cond, List, [], ◌∷◌, ◌++◌, map, take, drop, length, get_or, Option, Some, None, Bor, refl, sym, ap, ◌∙◌, append_assoc, append-nil, Result, Ok, Err}
+use Rattle.std.specs.Prelude.{option_map, IsOkAnd, filter, nat_eq}
+use Rattle.std.specs.List.{flat_map, starts_with}
+use Rattle.std.specs.FinMap.{get, keys, insert, find, get-insert, get-from_entries}
+use Rattle.std.proofs.lemmas.List.{map-append, take_more, take_all, drop_all}
+use Rattle.std.specs.Prelude.{Vec}
+use Rattle.std.specs.declared.alloc.Global.{Global}
+use Rattle.std.specs.Ordering.{nat_cmp}
+use Rattle.std.specs.Cmp.Lexicographic.{slice_cmp}
+use Rattle.std.specs.BTreeMap.{BTreeMap}
+use Rattle.std.specs.BTreeMap as tree
+use Rattle.md5.specs.Md5.{md5}
+use Rattle.mi_text.specs.Maps.{Name, Map, name_cmp, same_name}
+use Rattle.mi_text.proofs.MapLemmas.{same, names_total}
+use Rattle.mi_text.proofs.TreeLemmas.{entries-map_as}
+use Rattle.mi_base.specs.declared.entry.FileHead.{FileHead}
+use Rattle.mi_base.specs.declared.entry.Entry.{Entry}
+use Rattle.mi_base.specs.declared.entry.Entry.TheVariants as entry
+use Rattle.mi_base.specs.Names.{file_name}
+use Rattle.mi_base.specs.Spelling.{head_of}
+use Rattle.mi_base.specs.Records.{with_bytes}
+use Rattle.mi_base.specs.Machine.{Machine, machine_of}
+use Rattle.mi_image.specs.declared.item.Content.{Content}
+use Rattle.mi_image.specs.declared.item.Item.{Item}
+use Rattle.mi_image.specs.declared.item.Item.TheVariants.{Head, Whole}
+use Rattle.mi_image.specs.Items.{Items, AreRight, content_bytes, entry_over, bytes_of_file, ImageOf}
+use Rattle.mi_image.proofs.LookupLemmas.{get_over}
+use Rattle.mi_show.specs.Texts.{field}
+use Rattle.mi_show.specs.Lines.{head_details, file_line}
+use Rattle.mi_show.specs.Machines.{no_files, machine_in, plain_machine, IsScanned}
+use Rattle.mi_show.specs.Prints.{names_of, other_line}
+use Rattle.mi_show.specs.Differences.{name_set, names_of_either, entry_line, line_at, item_line, different}
+use Rattle.mi_show.specs.Sets.{set_of}
+use Rattle.mi_show.proofs.ImageLemmas.{plain_keys, drop_more}
+
+-- ---- sets of names
+
+abbrev pub member : Name → Name × Unit {0}
+member q = (q, tt)
+
+there : Option (Unit {0})
+there = Some tt
+
+found_more : (names : List Name) (q p : Name) → find name_cmp p (map member (names ++ q ∷ [])) ≡ cond (same_name p q) (Some tt) (find name_cmp p (map member names))
+unfolding there
+found_more [] q p = refl
+found_more (n ∷ names) q p =
+    elim (same_name p n) as (λ b. cond b there (find name_cmp p (map member (names ++ q ∷ []))) ≡ cond (same_name p q) there (cond b there (find name_cmp p (map member names)))) [
+      | true ↦ elim (same_name p q) as (λ c. there ≡ cond c there there) [ true ↦ refl | false ↦ refl ]
+      | false ↦ found_more names q p
+    ]
+
+set_more : (names : List Name) (q : Name) → insert (name_set names) q tt ≡ name_set (names ++ q ∷ [])
+set_more names q = same (insert (name_set names) q tt) (name_set (names ++ q ∷ [])) (λ p.
+    get-insert names_total (name_set names) q tt p
+    ∙ ap (cond (same_name p q) (Some tt)) (get-from_entries names_total (map member names) p)
+    ∙ sym (get-from_entries names_total (map member (names ++ q ∷ [])) p ∙ found_more names q p))
+
+abbrev pub now_of : Bor (List ℕ) → List ℕ
+now_of n = n.now
+
+pub set_none : (had : List Name) (s : Map (Unit {0})) → s ≡ name_set had → s ≡ name_set (had ++ [])
+set_none had s is = is ∙ ap name_set (sym (append-nil had))
+
+pub set_step : (had : List Name) (names : List (Bor (List ℕ))) (i : ℕ) (d : Bor (List ℕ)) (s new : Map (Unit {0})) → i < length names
+    → s ≡ name_set (had ++ map now_of (take i names)) → new ≡ insert s (get_or names i d).now tt → new ≡ name_set (had ++ map now_of (take (i + 1) names))
+set_step had names i d s new lt so adds =
+    adds
+    ∙ ap (λ (m : Map (Unit {0})). insert m (get_or names i d).now tt) so
+    ∙ set_more (had ++ map now_of (take i names)) (get_or names i d).now
+    ∙ ap name_set (append_assoc had (map now_of (take i names)) ((get_or names i d).now ∷ []) ∙ ap (λ (l : List Name). had ++ l) (sym (ap (map now_of) (take_more names i d lt) ∙ map-append now_of (take i names) (get_or names i d ∷ []))))
+
+pub set_done : (had : List Name) (names : List (Bor (List ℕ))) (i : ℕ) (s : Map (Unit {0})) → length names ≤ i → s ≡ name_set (had ++ map now_of (take i names)) → s ≡ name_set (had ++ map now_of names)
+set_done had names i s le so = so ∙ ap (λ (l : List (Bor (List ℕ))). name_set (had ++ map now_of l)) (take_all i names le)
+
+names_same : (held : Map (List ℕ)) (items : Items) (front : Name) → names_of front (plain_machine items) ≡ names_of front (machine_in held items)
+names_same held items front = ap (λ (qs : List Name). filter (λ q. starts_with nat_eq q front) qs) (plain_keys held items)
+
+pub either_same : (front : Name) (held_old held_new : Map (List ℕ)) (old new : Items)
+    → keys (name_set (names_of front (plain_machine old) ++ names_of front (plain_machine new))) ≡ names_of_either front (machine_in held_old old) (machine_in held_new new)
+either_same front held_old held_new old new = λ i. keys (name_set (names_same held_old old front i ++ names_same held_new new front i))
+
+-- ---- lines
+
+whole_line : (items : Items) (q : Name) (e : Entry) → AreRight items → get items q ≡ Some (Whole e) → other_line e ≡ entry_line e
+whole_line items q (entry.File f) right at = let split : false ≡ true = (right q (Whole (entry.File f)) at).split in absurd cc
+whole_line items q (entry.Folder t) right at = refl
+whole_line items q (entry.Value k v) right at = refl
+whole_line items q (entry.Key r t) right at = refl
+whole_line items q (entry.Shortcut t) right at = refl
+whole_line items q (entry.Variable t) right at = refl
+whole_line items q (entry.Client t) right at = refl
+whole_line items q (entry.Product t) right at = refl
+whole_line items q (entry.System p t) right at = refl
+
+head_line : (held : Map (List ℕ)) (items : Items) (q : Name) (h : FileHead) (content : Content) → AreRight items → IsScanned held items → get items q ≡ Some (Head h content)
+    → item_line (machine_in held items) (Head h content) ≡ file_line (with_bytes h (content_bytes held no_files (file_name h.shown) content))
+unfolding file_line
+head_line held items q h content right there at =
+    let bytes : List ℕ = content_bytes held no_files (file_name h.shown) content in
+    let named : file_name h.shown ≡ q = (right q (Head h content) at).named in
+    let long : length bytes ≡ h.length = there q (Head h content) at in
+    let head : head_of (with_bytes h bytes) ≡ h = λ i. record { shown = h.shown; version = h.version; languages = h.languages; created = h.created; modified = h.modified; attributes = h.attributes; length = long i } in
+    let held_there : bytes_of_file (get (machine_in held items) (file_name h.shown)) ≡ bytes =
+    ap (λ (n : Name). bytes_of_file (get (machine_in held items) n)) named ∙ ap bytes_of_file (get_over held no_files items q) ∙ ap (λ (o : Option Item). bytes_of_file (option_map (entry_over held no_files) o)) at in
+    λ i. field h.shown ++ head_details (sym head i) (md5 (held_there i))
+
+-- the line at a name is that of the item there
+pub item_at : (held : Map (List ℕ)) (items : Items) → AreRight items → IsScanned held items → (q : Name) (o : Option Item) → o ≡ get items q
+    → option_map (item_line (machine_in held items)) o ≡ line_at (machine_in held items) q
+item_at held items right there q o is = by_item o (sym is)
+  where
+    stands : (o : Option Item) → get items q ≡ o → option_map entry_line (option_map (entry_over held no_files) o) ≡ line_at (machine_in held items) q
+    stands o at = sym (ap (option_map entry_line) (get_over held no_files items q ∙ ap (option_map (entry_over held no_files)) at))
+
+    by_item : (o : Option Item) → get items q ≡ o → option_map (item_line (machine_in held items)) o ≡ line_at (machine_in held items) q
+    by_item None at = stands None at
+    by_item (Some (Whole e)) at = ap (λ (l : List ℕ). Some l) (whole_line items q e right at) ∙ stands (Some (Whole e)) at
+    by_item (Some (Head h content)) at = ap (λ (l : List ℕ). Some l) (head_line held items q h content right there at) ∙ stands (Some (Head h content)) at
+
+-- ---- loops
+
+pub flat_step : {X : Type 0} → (at : X → List ℕ) (xs : List X) (i : ℕ) (d : X) (out more start : List ℕ) → i < length xs → more ≡ out ++ at (get_or xs i d)
+    → out ++ flat_map at (drop i xs) ≡ start → more ++ flat_map at (drop (i + 1) xs) ≡ start
+flat_step {X} at xs i d out more start lt text so =
+    ap (λ (l : List ℕ). l ++ flat_map at (drop (i + 1) xs)) text
+    ∙ append_assoc out (at (get_or xs i d)) (flat_map at (drop (i + 1) xs))
+    ∙ ap (λ (l : List ℕ). out ++ l) (sym (ap (flat_map at) (drop_more xs i d lt)))
+    ∙ so
+
+pub flat_done : {X : Type 0} → (at : X → List ℕ) (xs : List X) (i : ℕ) (out start : List ℕ) → length xs ≤ i → out ++ flat_map at (drop i xs) ≡ start → out ≡ start
+flat_done {X} at xs i out start le so = sym (ap (λ (l : List X). out ++ flat_map at l) (drop_all i xs le) ∙ append-nil out) ∙ so
+
+-- ---- the whole
+
+pub different_of : (held_new held_old : Map (List ℕ)) (new old : Items) (text : List ℕ) → IsOkAnd (machine_of held_new) (ImageOf held_new no_files new) → IsOkAnd (machine_of held_old) (ImageOf held_old no_files old)
+    → (IsScanned held_new new → IsScanned held_old old → text ≡ different (machine_in held_old old) (machine_in held_new new))
+    → IsOkAnd (machine_of held_new) (λ n. IsOkAnd (machine_of held_old) (λ o. text ≡ different o n))
+different_of held_new held_old new old text is_new is_old say = by_new (machine_of held_new) is_new
+  where
+    by_old : (n : Machine) → ImageOf held_new no_files new n → (r : Result Machine Name) → IsOkAnd r (ImageOf held_old no_files old) → IsOkAnd r (λ o. text ≡ different o n)
+    by_old n of (Ok o) of_old = say of.there of_old.there ∙ (λ i. different (of_old.stands i) (of.stands i))
+    by_old n of (Err q) of_old = absurd of_old
+
+    by_new : (r : Result Machine Name) → IsOkAnd r (ImageOf held_new no_files new) → IsOkAnd r (λ n. IsOkAnd (machine_of held_old) (λ o. text ≡ different o n))
+    by_new (Ok n) of = by_old n of (machine_of held_old) is_old
+    by_new (Err q) of = absurd of
+
+-- a step of a loop, over what both volumes hold then
+pub pair_step : {X : Type 0} → (at : Map (List ℕ) → Map (List ℕ) → X → List ℕ) (held_old now_old held_new now_new : Map (List ℕ)) (xs : List X) (i : ℕ) (d : X) (out more start : List ℕ)
+    → now_old ≡ held_old → now_new ≡ held_new → i < length xs → more ≡ out ++ at now_old now_new (get_or xs i d)
+    → out ++ flat_map (at held_old held_new) (drop i xs) ≡ start → more ++ flat_map (at held_old held_new) (drop (i + 1) xs) ≡ start
+pair_step {X} at held_old now_old held_new now_new xs i d out more start same_old same_new lt text so =
+    flat_step (at held_old held_new) xs i d out more start lt (text ∙ (λ j. out ++ at (same_old j) (same_new j) (get_or xs i d))) so
+
+-- ---- the tree of a set
+
+firsts : (es : List (Vec ℕ Global × Unit {0})) → map (λ (e : Name × Unit {0}). e.0) (map (λ (e : Vec ℕ Global × Unit {0}). (e.0.items, e.1)) es) ≡ map (λ (e : Vec ℕ Global × Unit {0}). e.0.items) es
+firsts [] = refl
+firsts (e ∷ es) = ap (λ (l : List Name). e.0.items ∷ l) (firsts es)
+
+-- the names of a tree, in order
+pub tree_names : (m : BTreeMap (Vec ℕ Global) (Unit {0})) (s : Map (Unit {0})) → set_of m.entries ≡ s → tree.IsOrdered (λ a b. slice_cmp nat_cmp a.items b.items) m → map (λ (e : Vec ℕ Global × Unit {0}). e.0.items) m.entries ≡ keys s
+tree_names m s is ordered = sym (ap (map (λ (e : Name × Unit {0}). e.0)) (entries-map_as (λ (k : Vec ℕ Global). k.items) m ordered) ∙ firsts m.entries) ∙ ap (λ (t : Map (Unit {0})). keys t) is
+
+pub list_more : (list more : List (Bor (List ℕ))) (iter rest : List (Vec ℕ Global × Unit {0})) (k : Vec ℕ Global) (x : Unit {0}) (n : Bor (List ℕ)) (all : List Name)
+    → iter ≡ (k, x) ∷ rest → n.now ≡ k.items → more ≡ list ++ n ∷ []
+    → map now_of list ++ map (λ (e : Vec ℕ Global × Unit {0}). e.0.items) iter ≡ all → map now_of more ++ map (λ (e : Vec ℕ Global × Unit {0}). e.0.items) rest ≡ all
+list_more list more iter rest k x n all is named adds so =
+    let seen : Vec ℕ Global × Unit {0} → Name = λ e. e.0.items in
+    ap (λ (l : List (Bor (List ℕ))). map now_of l ++ map seen rest) adds
+    ∙ ap (λ (l : List Name). l ++ map seen rest) (map-append now_of list (n ∷ []))
+    ∙ append_assoc (map now_of list) (n.now ∷ []) (map seen rest)
+    ∙ ap (λ (v : Name). map now_of list ++ v ∷ map seen rest) named
+    ∙ sym (ap (λ (es : List (Vec ℕ Global × Unit {0})). map now_of list ++ map seen es) is)
+    ∙ so

@@ -1,0 +1,93 @@
+//! Names, each once, in byte order.
+
+ghost use Rattle.std.specs.Prelude.{◌≡◌, ◌++◌, List, IfOk, OnOk, map};
+ghost use Rattle.std.specs.FinMap as tree;
+ghost use Rattle.mi_text.specs.Maps.{Name};
+ghost use Rattle.mi_show.specs.Differences.{name_set};
+ghost use Rattle.mi_show.specs.Machines.{plain_machine};
+ghost use Rattle.mi_show.specs.Prints.{names_of};
+
+use mi_base::NoMemory;
+use mi_image::Image;
+use std::alloc::Global;
+use std::collections::BTreeMap;
+use std::marker::Model;
+
+/// A set of names (this project's own).
+#[derive(Drop)]
+pub struct NameSet {
+    names: BTreeMap<Vec<u8>, ()>,
+}
+
+impl Model for NameSet {
+    ghost use Rattle.std.specs.FinMap as map;
+    ghost use Rattle.std.specs.Coded.{coded_list, coded_ℕ};
+    ghost use base.Stored.{coded_unit};
+    ghost use Rattle.mi_text.specs.Maps.{Map};
+    ghost use Rattle.mi_show.specs.Sets.{set_of};
+
+    ghost Value = { Map (Unit {0}) };
+
+    ghost coded = { map.code (coded_list coded_ℕ) coded_unit };
+
+    ghost view = { λ s. set_of s.names.entries };
+}
+
+impl NameSet {
+    /// No names, which takes no memory.
+    fn new(alloc: Global) -> NameSet
+        ensures { result ≡ tree.empty }
+    {
+        NameSet {
+            names: BTreeMap::new(alloc),
+        }
+    }
+
+    // Adds a name.
+    fn add(&mut self, alloc: Global, name: &[u8]) -> Result<(), NoMemory>
+        ensures { OnOk result (self.new ≡ tree.insert self.old name.now tt) }
+    {
+        let key = Vec::from_slice(alloc, name)?;
+        let was = self.names.insert(key, ())?;
+        drop(was);
+        Ok(())
+    }
+
+    // Adds these names.
+    fn add_all(&mut self, alloc: Global, names: &[&[u8]]) -> Result<(), NoMemory>
+        ensures { (had : List Name) → self.old ≡ name_set had → OnOk result (self.new ≡ name_set (had ++ map (λ n. n.now) names.now)) }
+    {
+        for name in names {
+            self.add(alloc, name)?;
+        }
+        Ok(())
+    }
+
+    /// The names, in byte order.
+    pub fn list(&self, alloc: Global) -> Result<Vec<&[u8]>, NoMemory>
+        ensures { IfOk result (λ names. map (λ n. n.now) names.items ≡ tree.keys self.now) }
+    {
+        let mut list = Vec::new(alloc);
+        for (name, _) in self.names.iter() {
+            list.push(name.as_slice())?;
+        }
+        Ok(list)
+    }
+
+    /// The names of either image that begin so.
+    pub fn of_either(
+        alloc: Global,
+        before: &Image,
+        after: &Image,
+        front: &[u8],
+    ) -> Result<NameSet, NoMemory>
+        ensures { IfOk result (λ set. set ≡ name_set (names_of front.now (plain_machine before.now) ++ names_of front.now (plain_machine after.now))) }
+    {
+        let mut set = NameSet::new(alloc);
+        let former = before.names(alloc, front)?;
+        set.add_all(alloc, former.as_slice())?;
+        let present = after.names(alloc, front)?;
+        set.add_all(alloc, present.as_slice())?;
+        Ok(set)
+    }
+}
