@@ -28,11 +28,6 @@ impl Generated {
 }
 
 impl Source for Generated {
-    ghost use Rattle.std.specs.Prelude.{◌≤◌, IfOk, OnErr, IsErrOf, length, take, drop};
-    ghost use Rattle.std.specs.Option.{option_map};
-    ghost use Rattle.std.specs.FinMap.{get};
-    ghost use Rattle.mi_source.specs.Paths.{bytes_or_none, names_in};
-    ghost use Rattle.mi_source.specs.Counts.{Rose};
     ghost use Rattle.mi_gen.specs.Generated.{held};
 
     ghost told = { Unit {0} };

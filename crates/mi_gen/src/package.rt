@@ -6,7 +6,7 @@ ghost use Rattle.std.specs.List.{range_with_len};
 ghost use Rattle.mi_idt.specs.Written.{written_row, with_ends};
 ghost use Rattle.mi_model.specs.Selftest.{content, selftest_files};
 ghost use Rattle.mi_source.specs.MemSource.{files_in, meter_of};
-ghost use Rattle.mi_gen.specs.Tables.{fixed_file, numbered_file, rows_for, file_for, with_file, with_numbered, with_fixed};
+ghost use Rattle.mi_gen.specs.Tables.{fixed_file, rows_for, file_for, with_file, with_numbered, with_fixed};
 ghost use Rattle.mi_gen.specs.Generated.{held};
 
 use crate::digits::numbered;

@@ -1,6 +1,6 @@
 //! The rows that a file brings, by its number.
 
-ghost use Rattle.std.specs.Prelude.{◌≡◌, ◌+◌, ◌<◌, ◌-◌, ◌/◌, ◌^◌, ◌++◌, [], ◌∷◌, map, codes, IfOk, OnOk};
+ghost use Rattle.std.specs.Prelude.{◌≡◌, ◌+◌, ◌<◌, ◌-◌, ◌/◌, ◌^◌, ◌++◌, [], ◌∷◌, codes, IfOk, OnOk};
 ghost use Rattle.mi_idt.specs.Written.{written_row, with_ends};
 ghost use Rattle.mi_text.specs.Guid.{guid_text};
 ghost use Rattle.mi_model.specs.Selftest.{component_of as component_name, name_of_file as file_name, component, file as file_row, registry, pair};

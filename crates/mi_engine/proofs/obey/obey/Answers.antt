@@ -4,7 +4,7 @@ use Rattle.mi_image.specs.Items.{machine_over}
 use Rattle.mi_undo.specs.Stands.{settled}
 use Rattle.mi_model.specs.Listings.{clients_text_of, products_text_of}
 use Rattle.mi_model.specs.Outcome.{free_room, of_command}
-use Rattle.mi_model.specs.Words.{Clients, Products, Recover, Package, Selftest}
+use Rattle.mi_model.specs.Words.{Clients, Products, Recover, Package}
 use Rattle.mi_words.specs.Asked.{asked, of_words}
 use Rattle.mi_words.specs.declared.command.Command.{Command}
 use Rattle.mi_words.specs.declared.command.Command.TheVariants as variant
