@@ -16,3 +16,4 @@ pub mod StatedLemmas
 pub mod StrictLemmas
 pub mod SystemLemmas
 pub mod UnderLemmas
+pub mod WindowLemmas

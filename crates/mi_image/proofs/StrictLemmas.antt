@@ -83,7 +83,7 @@ choice_end false all all2 front front2 one two = two
 ended_end : {X : Type 0} (x : X) (f g : List ℕ) → 0 < length g → End (ended (x, f ++ g)) (ended (x, f))
 ended_end x f g some y is = let none = ap length (ended_ok x (f ++ g) y is).0 in absurd (let z : ⊥ = omega (arith, some, none, length-append f g) in z)
 
-pub drop-append : (n : ℕ) (xs ys : List ℕ) → n ≤ length xs → drop n (xs ++ ys) ≡ drop n xs ++ ys
+drop-append : (n : ℕ) (xs ys : List ℕ) → n ≤ length xs → drop n (xs ++ ys) ≡ drop n xs ++ ys
 drop-append zero xs ys le = refl
 drop-append (suc n) [] ys le = absurd (let z : ⊥ = omega arith in z)
 drop-append (suc n) (x ∷ xs) ys le = drop-append n xs ys (omega arith)
@@ -110,7 +110,7 @@ piece_stop {X = X} n made f g x rest is = by (cases_lt (length f) n)
 
 -- ---- fields
 
-pub number_stop : (w : Width) (f g : List ℕ) → Stop g (number_at w (f ++ g)) (number_at w f)
+number_stop : (w : Width) (f g : List ℕ) → Stop g (number_at w (f ++ g)) (number_at w f)
 number_stop w f g = piece_stop (byte_len w) (from_be_bytes w) f g
 
 bytes_stop : (f g : List ℕ) → Stop g (bytes_at (f ++ g)) (bytes_at f)

@@ -18,8 +18,10 @@ mod pick;
 mod places;
 mod reading;
 mod scan;
+mod stated;
 mod system;
 mod under;
+mod window;
 
 pub use fault::ImageError;
 pub use image::Image;

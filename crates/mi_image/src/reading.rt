@@ -1,6 +1,6 @@
 //! Reading what a volume holds under one name.
 
-ghost use Rattle.std.specs.Prelude.{◌≡◌, ◌≤◌, ◌||◌, List, ℕ, None, IfOk, IsErrOf, length, take, codes, min, true, false, nat_eq};
+ghost use Rattle.std.specs.Prelude.{◌≡◌, ◌≤◌, ◌||◌, List, ℕ, None, MatchOption, IfOk, OnOk, IsErrOf, length, take, codes, min, true, false, nat_eq};
 ghost use Rattle.std.specs.List.{starts_with};
 ghost use Rattle.std.specs.FinMap.{get};
 ghost use Rattle.mi_text.specs.Bytes.{AreBytes};
@@ -13,6 +13,7 @@ ghost use Rattle.mi_image.specs.Scan.{Tells, item_read};
 use crate::fault::ImageError;
 use crate::fronts::may_go_on;
 use crate::item::{Content, Item};
+use crate::stated::stated_length;
 use mi_base::{Bytes, Name, RecError, dec_entry, dec_file_head};
 use mi_volume::{PIECE, VolFault, Volume};
 use std::alloc::Global;
@@ -24,7 +25,7 @@ const HEAD_LIMIT: u64 = 131_364;
 const SHOWN_LIMIT: u64 = 504;
 
 /// As many bytes as the program itself writes in one record that isn't a file's.
-const WRITTEN_LIMIT: usize = 16_777_216;
+const WRITTEN_LIMIT: u64 = 16_777_216;
 
 /// Whether a name begins with some bytes.
 pub fn begins(name: &Name, front: &[u8]) -> bool
@@ -33,29 +34,30 @@ pub fn begins(name: &Name, front: &[u8]) -> bool
     name.as_bytes().starts_with(front)
 }
 
-/// The first `want` bytes that a name holds, or all where there are fewer. They are read in pieces.
-fn read_front<V: Volume>(
+/// Reads on behind the first bytes that a name holds, up to `want` of them, or all where there are fewer. They are read in
+/// pieces.
+fn read_on<V: Volume>(
     alloc: Global,
     vol: &mut V,
     name: &Name,
+    bytes: &mut Bytes,
     want: usize,
-) -> Result<Bytes, VolFault>
-    ensures value { V.told → IfOk result (λ bytes. bytes ≡ take want (bytes_or_none (get (V.state vol.old).held name.now))) }
-    ensures short { IfOk result (λ bytes. length bytes ≤ want) }
+) -> Result<(), VolFault>
+    ensures value { V.told → let whole = bytes_or_none (get (V.state vol.old).held name.now) in bytes.old ≡ take (length bytes.old) whole → length bytes.old ≤ want → OnOk result (bytes.new ≡ take want whole) }
+    ensures short { length bytes.old ≤ want → length bytes.new ≤ want }
     ensures looks { V.told → OnlyLooks (V.state vol.old) (V.state vol.new) }
     ensures passes { Passes (V.state vol.old) (V.state vol.new) }
     ensures failed { IsErrOf result VolFault.Failed → Rose (V.state vol.old) (V.state vol.new) }
 {
-    let mut bytes = Bytes::new(alloc);
     while bytes.len() < want {
         let asked = PIECE.min(want - bytes.len());
         let piece = vol.read(alloc, name, bytes.len() as u64, asked)?;
         bytes.extend(piece.as_slice())?;
         if piece.len() < asked {
-            return Ok(bytes);
+            return Ok(());
         }
     }
-    Ok(bytes)
+    Ok(())
 }
 
 /// The item of a file, from a front of its record, which has `size` bytes.
@@ -103,7 +105,8 @@ fn read_head<V: Volume>(
     ensures fault { IsErrOf result ImageError.Fault → Rose (V.state vol.old) (V.state vol.new) }
 {
     let want = size.min(HEAD_LIMIT) as usize;
-    let front = read_front(alloc, vol, name, want)?;
+    let mut front = Bytes::new(alloc);
+    read_on(alloc, vol, name, &mut front, want)?;
     if front.len() < want {
         return Err(ImageError::BadImage(name.copy(alloc)?));
     }
@@ -117,52 +120,59 @@ fn is_shown_alone(name: &Name) -> bool
     begins(name, b"d/") || begins(name, b"k/")
 }
 
-/// Whether a record of `size` bytes that isn't a file's isn't spelled, by its first `want` bytes; none are read where it has no more.
+/// Whether the record of `size` bytes of another entry isn't spelled, as far as its name and the lengths in it tell.
 fn is_refused<V: Volume>(
     alloc: Global,
     vol: &mut V,
     name: &Name,
     size: u64,
-    want: usize,
-) -> Result<bool, ImageError>
+) -> Result<bool, VolFault>
     requires other { starts_with nat_eq name.now (codes "f/") ≡ false }
     ensures refused { V.told → let whole = bytes_or_none (get (V.state vol.old).held name.now) in length whole ≡ size → IfOk result (λ refused. refused ≡ true → item_read name.now whole ≡ None) }
-    ensures named { (n : List ℕ) → ¬ IsErrOf result (ImageError.BadImage n) }
     ensures looks { V.told → OnlyLooks (V.state vol.old) (V.state vol.new) }
     ensures passes { Passes (V.state vol.old) (V.state vol.new) }
-    ensures fault { IsErrOf result ImageError.Fault → Rose (V.state vol.old) (V.state vol.new) }
-{
-    if size <= want as u64 {
-        return Ok(false);
-    }
-    let front = read_front(alloc, vol, name, want)?;
-    Ok(front.len() < want || !may_go_on(alloc, name, front.as_slice(), size)?)
-}
-
-/// Whether the record of `size` bytes of another entry isn't spelled, as far as this tells before it is read whole.
-fn is_refused_early<V: Volume>(
-    alloc: Global,
-    vol: &mut V,
-    name: &Name,
-    size: u64,
-) -> Result<bool, ImageError>
-    requires other { starts_with nat_eq name.now (codes "f/") ≡ false }
-    ensures refused { V.told → let whole = bytes_or_none (get (V.state vol.old).held name.now) in length whole ≡ size → IfOk result (λ refused. refused ≡ true → item_read name.now whole ≡ None) }
-    ensures named { (n : List ℕ) → ¬ IsErrOf result (ImageError.BadImage n) }
-    ensures looks { V.told → OnlyLooks (V.state vol.old) (V.state vol.new) }
-    ensures passes { Passes (V.state vol.old) (V.state vol.new) }
-    ensures fault { IsErrOf result ImageError.Fault → Rose (V.state vol.old) (V.state vol.new) }
+    ensures failed { IsErrOf result VolFault.Failed → Rose (V.state vol.old) (V.state vol.new) }
 {
     if size > SHOWN_LIMIT && is_shown_alone(name) {
         return Ok(true);
     }
-    if is_refused(alloc, vol, name, size, PIECE)? {
-        return Ok(true);
+    if size <= PIECE as u64 {
+        return Ok(false);
     }
-    is_refused(alloc, vol, name, size, WRITTEN_LIMIT)
+    match stated_length(alloc, vol, name, size)? {
+        Some(stated) => Ok(stated != size),
+        None => Ok(true),
+    }
 }
 
-/// The item of another entry, whose record has `size` bytes; it is read whole only where its fronts are those of a right one.
+/// The bytes of the record of `size` bytes of another entry, or None where a front of it tells that it isn't spelled. Each
+/// front but the first two has twice the bytes of the one before, so of a bad record little more is read than is wrong.
+fn read_spelled<V: Volume>(
+    alloc: Global,
+    vol: &mut V,
+    name: &Name,
+    size: u64,
+) -> Result<Option<Bytes>, VolFault>
+    requires other { starts_with nat_eq name.now (codes "f/") ≡ false }
+    ensures value { V.told → let whole = bytes_or_none (get (V.state vol.old).held name.now) in length whole ≡ size → IfOk result (λ read. MatchOption read (item_read name.now whole ≡ None) (λ bytes. bytes ≡ whole)) }
+    ensures looks { V.told → OnlyLooks (V.state vol.old) (V.state vol.new) }
+    ensures passes { Passes (V.state vol.old) (V.state vol.new) }
+    ensures failed { IsErrOf result VolFault.Failed → Rose (V.state vol.old) (V.state vol.new) }
+{
+    let mut want = size.min(PIECE as u64);
+    let mut bytes = Bytes::new(alloc);
+    read_on(alloc, vol, name, &mut bytes, want as usize)?;
+    while want < size {
+        if !may_go_on(alloc, name, bytes.as_slice())? {
+            return Ok(None);
+        }
+        want = want.saturating_mul(2).max(WRITTEN_LIMIT).min(size);
+        read_on(alloc, vol, name, &mut bytes, want as usize)?;
+    }
+    Ok(Some(bytes))
+}
+
+/// The item of another entry, whose record has `size` bytes; it is read no further than its fronts are those of a right one.
 fn read_record<V: Volume>(
     alloc: Global,
     vol: &mut V,
@@ -176,11 +186,13 @@ fn read_record<V: Volume>(
     ensures passes { Passes (V.state vol.old) (V.state vol.new) }
     ensures fault { IsErrOf result ImageError.Fault → Rose (V.state vol.old) (V.state vol.new) }
 {
-    if is_refused_early(alloc, vol, name, size)? {
+    if is_refused(alloc, vol, name, size)? {
         return Err(ImageError::BadImage(name.copy(alloc)?));
     }
-    let bytes = read_front(alloc, vol, name, size as usize)?;
-    record_item(alloc, name, bytes.as_slice())
+    match read_spelled(alloc, vol, name, size)? {
+        Some(bytes) => record_item(alloc, name, bytes.as_slice()),
+        None => Err(ImageError::BadImage(name.copy(alloc)?)),
+    }
 }
 
 /// The item that a volume holds under a name.
