@@ -132,7 +132,7 @@ record_from front size good within =
 
 -- ---- other entries
 
-file_name_is : (path : List ℕ) → file_name path ≡ codes "f/" ++ folded path
+pub file_name_is : (path : List ℕ) → file_name path ≡ codes "f/" ++ folded path
 unfolding file_name
 file_name_is path = refl
 
@@ -162,7 +162,7 @@ neither : (n : ℕ) → eqb n 100 ≡ false → eqb n 107 ≡ false → (n ≡ 1
 neither n a b (inl e) = let clash : true ≡ false = ap (λ (k : ℕ). eqb k 100) (sym e) ∙ a in absurd cc
 neither n a b (inr e) = let clash : true ≡ false = ap (λ (k : ℕ). eqb k 107) (sym e) ∙ b in absurd cc
 
-string_length : (t : List ℕ) → length (string t) ≡ 4 + length t
+pub string_length : (t : List ℕ) → length (string t) ≡ 4 + length t
 string_length t = length-append (to_be_bytes w32 (length t)) t
 
 -- the letter at the front of a name

@@ -1,7 +1,7 @@
 -- A right record states its own length.
-use Rattle.std.proofs.Common.{◌≡◌, ℕ, zero, suc, ◌+◌, ◌-◌, ◌^◌, ◌<◌, ◌≤◌, Bool, true, false, cond, eqb, ltb, List, [], ◌∷◌, ◌++◌, length, take, drop, Option, Some, None, Result, Ok, Err, refl, sym, ap, subst, ◌∙◌, arith, append_assoc}
-use Rattle.std.specs.Prelude.{option_and_then, option_map, codes, nat_eq}
-use Rattle.std.specs.Int.{w16, w32, to_be_bytes, from_be_bytes}
+use Rattle.std.proofs.Common.{◌≡◌, ℕ, suc, ◌+◌, ◌-◌, ◌^◌, ◌<◌, ◌≤◌, Bool, true, false, cond, eqb, ltb, List, [], ◌∷◌, ◌++◌, length, take, drop, Option, Some, None, Result, Ok, Err, refl, sym, ap, subst, ◌∙◌, arith, append_assoc}
+use Rattle.std.specs.Prelude.{option_and_then, option_map, codes, nat_eq, not}
+use Rattle.std.specs.Int.{w16, w32, to_be_bytes}
 use Rattle.std.specs.List.{flat_map, list_all, starts_with}
 use Rattle.std.proofs.lemmas.Bool.{ltb-true, lt-ltb, le-ltb}
 use Rattle.std.proofs.lemmas.List.{length-append, drop_at, drop-drop, take_at, append-nil}
@@ -9,6 +9,7 @@ use Rattle.std.proofs.lemmas.List.Concat.{flat_map-cons}
 use Rattle.std.proofs.lemmas.Nat.{from_be_bytes-to_be_bytes_2, from_be_bytes-to_be_bytes_4}
 use Rattle.mi_text.specs.Maps.{Name}
 use Rattle.mi_text.specs.Fold.{folded}
+use Rattle.mi_text.specs.Path.{is_folder_path}
 use Rattle.mi_base.specs.declared.rec_error.RecFault.{RecFault}
 use Rattle.mi_base.specs.declared.entry.RegValue.{RegValue}
 use Rattle.mi_base.specs.declared.entry.RegValue.TheVariants as value
@@ -17,8 +18,8 @@ use Rattle.mi_base.specs.declared.entry.Shortcut.{Shortcut}
 use Rattle.mi_base.specs.declared.entry.Entry.{Entry}
 use Rattle.mi_base.specs.declared.entry.Entry.TheVariants as entry
 use Rattle.mi_base.specs.Fields.{string, strings, signed, four_numbers, payload}
-use Rattle.mi_base.specs.Limits.{fits, fits_value, is_short, are_few}
-use Rattle.mi_base.specs.Names.{file_name, folder_name, key_name, value_name, shortcut_name, variable_name, client_name, product_name, system_name}
+use Rattle.mi_base.specs.Limits.{fits, fits_value, is_short, are_few, is_key}
+use Rattle.mi_base.specs.Names.{folder_name, key_name, value_name, shortcut_name, variable_name, client_name, product_name, system_name}
 use Rattle.mi_base.specs.Spelling.{name_of, record_of, shortcut_bytes, product_bytes}
 use Rattle.mi_base.specs.Records.{entry_of}
 use Rattle.mi_base.specs.Machine.{ok_entry}
@@ -30,6 +31,7 @@ use Rattle.mi_base.proofs.FoldLemmas.{file_short, folder_short}
 use Rattle.mi_image.specs.Scan.{scanned_item, item_read}
 use Rattle.mi_image.specs.Stated.{byte_of, number_of, byte_in, number_in, further, text_end, texts_end, list_end, kind_payload_end, payload_end, value_end, shortcut_end, product_end, kind_end, stated_length}
 use Rattle.mi_image.proofs.PrefixLemmas.{starts_append}
+use Rattle.mi_image.proofs.ReadLemmas.{file_name_is, string_length}
 
 -- ---- places
 
@@ -69,9 +71,6 @@ number16 whole at n rest stands small =
 
 then_is : (o : Option ℕ) (f : ℕ → Option ℕ) (x : ℕ) → o ≡ Some x → option_and_then f o ≡ f x
 then_is o f x is = ap (option_and_then f) is
-
-string_length : (t : List ℕ) → length (string t) ≡ 4 + length t
-string_length t = length-append (to_be_bytes w32 (length t)) t
 
 -- where a text stands, it ends behind its length and its bytes
 text_is : (whole : List ℕ) (at : ℕ) (t rest : List ℕ) → Stands whole at (string t ++ rest) → is_short t ≡ true → text_end whole at ≡ Some (at + length (string t))
@@ -235,21 +234,17 @@ product_is whole p is right =
 
 -- ---- all kinds
 
-file_name_is : (path : List ℕ) → file_name path ≡ codes "f/" ++ folded path
-unfolding file_name
-file_name_is path = refl
-
 kind_is : (whole : List ℕ) (e : Entry) → starts_with nat_eq (name_of e) (codes "f/") ≡ false → whole ≡ record_of e → fits e ≡ true → stated_length (name_of e) whole ≡ Some (length whole)
 unfolding kind_end record_of fits folder_name key_name value_name shortcut_name variable_name client_name product_name system_name
 kind_is whole (entry.File f) other is right =
     let clash : true ≡ false = sym (ap (λ (n : Name). starts_with nat_eq n (codes "f/")) (file_name_is f.shown) ∙ starts_append (codes "f/") (folded f.shown)) ∙ other in
     absurd cc
 kind_is whole (entry.Folder t) other is right =
-    let n : length t ≤ 259 = folder_short t (both _ _ right).0 in
+    let n : length t ≤ 259 = folder_short t (both (is_folder_path t) (not (eqb (length t) 3)) right).0 in
     let short : is_short t ≡ true = lt-ltb (length t) (2 ^ 32) (omega (arith, n)) in
     last_text whole 0 t (begun whole (string t) is) short
 kind_is whole (entry.Key r t) other is right =
-    let n : length t ≤ 500 = key_short t (both _ _ right).1 in
+    let n : length t ≤ 500 = key_short t (both (ltb r 4) (is_key t) right).1 in
     let short : is_short t ≡ true = lt-ltb (length t) (2 ^ 32) (omega (arith, n)) in
     last_text whole 0 t (begun whole (string t) is) short
 kind_is whole (entry.Product p) other is right = product_is whole p is right

@@ -145,8 +145,8 @@ fn is_refused<V: Volume>(
     }
 }
 
-/// The bytes of the record of `size` bytes of another entry, or None where a front of it tells that it isn't spelled. Each
-/// front but the first two has twice the bytes of the one before, so of a bad record little more is read than is wrong.
+/// The bytes of the record of `size` bytes of another entry, or None where it isn't spelled, as a front of it tells: the
+/// first 65,536 bytes, the first 16,777,216, and then twice as many each time.
 fn read_spelled<V: Volume>(
     alloc: Global,
     vol: &mut V,
@@ -172,7 +172,7 @@ fn read_spelled<V: Volume>(
     Ok(Some(bytes))
 }
 
-/// The item of another entry, whose record has `size` bytes; it is read no further than its fronts are those of a right one.
+/// The item of another entry, whose record has `size` bytes; it is read on only where its front may be that of a right one.
 fn read_record<V: Volume>(
     alloc: Global,
     vol: &mut V,

@@ -309,8 +309,8 @@ fn kind_end<V: Volume>(
     }
 }
 
-/// The length that a record of `size` bytes states, where it goes on for as long. It is read in windows: texts side by
-/// side cost one read for as many as lie in it, a long text one read more, whatever its length is.
+/// The length that a record of `size` bytes states, where it goes on for as long. A window is read anew where the next
+/// length lies outside it, so what stands between is passed over.
 pub fn stated_length<V: Volume>(
     alloc: Global,
     vol: &mut V,

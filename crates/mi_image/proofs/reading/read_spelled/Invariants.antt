@@ -1,4 +1,4 @@
-use Rattle.std.proofs.Common.{◌≡◌, ◌≤◌, ◌-◌, length, take}
+use Rattle.std.proofs.Common.{◌≡◌, ◌≤◌, ◌-◌, take}
 use Rattle.std.specs.FinMap.{get}
 use Rattle.mi_volume.specs.Maps.{bytes_or_none}
 use Rattle.mi_volume.specs.State.{Passes}

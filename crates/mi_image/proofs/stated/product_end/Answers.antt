@@ -1,6 +1,6 @@
 use Rattle.std.proofs.Common.{◌≡◌, ℕ, Option, Some, None, IfOk, sym, ap, subst, ◌∙◌}
 use Rattle.std.specs.Prelude.{option_and_then}
-use Rattle.mi_image.specs.Stated.{further, text_end, list_end, product_end}
+use Rattle.mi_image.specs.Stated.{list_end, product_end}
 use Rattle.mi_image.proofs.WindowLemmas.{product_end_is}
 use Rattle.mi_image.proofs.stated.product_end.Goals as goal
 

@@ -1,6 +1,6 @@
 use Rattle.std.proofs.Common.{◌≡◌, ℕ, Option, Some, None, IfOk, sym, ap, subst, ◌∙◌}
 use Rattle.std.specs.Prelude.{option_and_then}
-use Rattle.mi_image.specs.Stated.{further, text_end, texts_end, shortcut_end}
+use Rattle.mi_image.specs.Stated.{further, text_end, shortcut_end}
 use Rattle.mi_image.proofs.WindowLemmas.{shortcut_end_is, icon_end, show_end}
 use Rattle.mi_image.proofs.stated.shortcut_end.Goals as goal
 

@@ -1,5 +1,5 @@
-use Rattle.std.proofs.Common.{◌≡◌, sym, ◌∙◌, ap, length, take, drop, ◌-◌, ◌+◌, List, ℕ, Some, None}
-use Rattle.mi_image.specs.Stated.{further, text_end}
+use Rattle.std.proofs.Common.{sym, ◌∙◌, ap, ◌+◌, ℕ, Some, None}
+use Rattle.mi_image.specs.Stated.{further}
 use Rattle.mi_image.proofs.WindowLemmas.{text_end_is}
 use Rattle.mi_image.proofs.stated.text_end.Goals as goal
 

@@ -1,4 +1,4 @@
-use Rattle.std.proofs.Common.{◌≡◌, None, sym, ◌∙◌, List, ℕ}
+use Rattle.std.proofs.Common.{sym, ◌∙◌}
 use Rattle.mi_image.proofs.StatedLemmas.{texts_step, texts_stop, no_texts}
 use Rattle.mi_volume.proofs.Moments.{then_passes}
 use Rattle.mi_image.proofs.LookLemmas.{looks_then}

@@ -1,6 +1,6 @@
-use Rattle.std.proofs.Common.{◌≡◌, ℕ, Option, Some, None, IfOk, sym, ap, subst, ◌∙◌}
+use Rattle.std.proofs.Common.{◌≡◌, ℕ, Option, IfOk, sym, ap, subst, ◌∙◌}
 use Rattle.std.specs.Prelude.{option_and_then}
-use Rattle.mi_image.specs.Stated.{text_end, payload_end, value_end}
+use Rattle.mi_image.specs.Stated.{payload_end, value_end}
 use Rattle.mi_image.proofs.stated.value_end.Goals as goal
 
 pub returns-in_default-clause-value : goal.returns-in_default-clause-value
