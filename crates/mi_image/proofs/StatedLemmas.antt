@@ -153,13 +153,14 @@ four_texts whole a b c d rest is sa sb sc sd =
     let s2 = behind whole p1 (string b) (string c ++ (string d ++ rest)) s1 in
     let p3 : ℕ = p2 + length (string c) in
     let s3 = behind whole p2 (string c) (string d ++ rest) s2 in
-    let p4 : ℕ = p3 + length (string d) in
-    (p4,
-    then_is (text_end whole 0) (λ end. texts_end whole end 3) p1 (text_is whole 0 a (string b ++ (string c ++ (string d ++ rest))) s0 sa)
-    ∙ then_is (text_end whole p1) (λ end. texts_end whole end 2) p2 (text_is whole p1 b (string c ++ (string d ++ rest)) s1 sb)
-    ∙ then_is (text_end whole p2) (λ end. texts_end whole end 1) p3 (text_is whole p2 c (string d ++ rest) s2 sc)
-    ∙ then_is (text_end whole p3) (λ end. texts_end whole end 0) p4 (text_is whole p3 d rest s3 sd),
-    behind whole p3 (string d) rest s3)
+    let p4 : ℕ = p3 + length (string d) in (
+      p4,
+      then_is (text_end whole 0) (λ end. texts_end whole end 3) p1 (text_is whole 0 a (string b ++ (string c ++ (string d ++ rest))) s0 sa)
+          ∙ then_is (text_end whole p1) (λ end. texts_end whole end 2) p2 (text_is whole p1 b (string c ++ (string d ++ rest)) s1 sb)
+          ∙ then_is (text_end whole p2) (λ end. texts_end whole end 1) p3 (text_is whole p2 c (string d ++ rest) s2 sc)
+          ∙ then_is (text_end whole p3) (λ end. texts_end whole end 0) p4 (text_is whole p3 d rest s3 sd),
+      behind whole p3 (string d) rest s3,
+    )
 
 shortcut_is : (whole : List ℕ) (s : Shortcut) → whole ≡ shortcut_bytes s → fits (entry.Shortcut s) ≡ true → shortcut_end whole ≡ Some (length whole)
 unfolding shortcut_end shortcut_bytes fits
