@@ -28,6 +28,8 @@ pub struct Disk<R: Files> {
     // where no look serves any more.
     looked: Vec<u8>,
     length: u64,
+    // Whether the list of names has that length, too.
+    is_listed: bool,
     // The folder itself, open, with its lock.
     lock: Option<R::File>,
 }
@@ -92,6 +94,7 @@ impl<R: Files + Alloc + Clone + Drop> Disk<R> {
             path: String::new(alloc),
             looked: Vec::new(alloc),
             length: 0,
+            is_listed: false,
             lock: None,
         };
         match disk.take_room(folder) {
@@ -258,17 +261,37 @@ impl<R: Files + Alloc + Clone + Drop> Disk<R> {
         }
     }
 
+    // Whether the last look serves this name.
+    fn serves(&self, name: &[u8]) -> bool {
+        !name.is_empty() && self.looked.as_slice() == name
+    }
+
     /// What stands at a name's path.
     pub fn look_at(&mut self, name: &[u8]) -> Result<Found, Trouble> {
-        if !name.is_empty() && self.looked.as_slice() == name {
+        if self.serves(name) {
             return Ok(Found::File(self.length));
         }
         let found = self.look_anew(name)?;
         if let Found::File(length) = found {
             self.looked.extend_from_slice(name)?;
             self.length = length;
+            self.is_listed = false;
         }
         Ok(found)
+    }
+
+    /// Takes down that the list of names has the length that the last look found.
+    pub fn set_listed(&mut self) {
+        self.is_listed = true;
+    }
+
+    /// The length of a name's file, where the last look serves the name and the list of names has its length, too.
+    pub fn listed_length(&self, name: &[u8]) -> Option<u64> {
+        if self.is_listed && self.serves(name) {
+            Some(self.length)
+        } else {
+            None
+        }
     }
 
     /// The length of a name's file. What stands at its path and isn't a plain file is a failure.
@@ -315,6 +338,7 @@ impl<R: Files + Alloc + Clone + Drop> Disk<R> {
 
     /// Writes the first byte of a name's file.
     pub fn mark(&mut self, name: &[u8], byte: u8) -> Result<(), Trouble> {
+        self.is_listed = false;
         match self.size(name)? {
             Some(_) => mark_file(&self.rt, self.path.as_str(), byte),
             None => Err(Trouble::Absent),

@@ -7,7 +7,7 @@ ghost use Rattle.mi_edges.specs.Count.{Counts};
 use crate::found::{Found, look_through};
 use crate::reading::read_at;
 use crate::trouble::Trouble;
-use crate::walk::{Visit, visit_all};
+use crate::walk::{Visit, path_in, visit_all};
 use mi_source::{Failed, Source, SrcFault};
 use mi_text::{Bytes, Text};
 use std::alloc::Global;
@@ -53,8 +53,9 @@ struct Names {
 }
 
 impl Visit for Names {
-    fn visit<F: Files>(&mut self, rt: &F, path: &str, name: &str) -> Result<(), Trouble> {
-        if let Found::File(_) = look_through(rt, path)? {
+    fn visit<F: Files>(&mut self, rt: &F, folder: &str, name: &str) -> Result<(), Trouble> {
+        let path = path_in(self.alloc, folder, name)?;
+        if let Found::File(_) = look_through(rt, path.as_str())? {
             let text = Text::from_string(String::from_str(self.alloc, name)?);
             self.names.push(text)?;
         }
@@ -62,24 +63,16 @@ impl Visit for Names {
     }
 }
 
-fn add_names<R: Files + Alloc + Clone + Drop>(
-    rt: &R,
-    found: &mut Names,
-    folder: &str,
-) -> Result<(), Trouble> {
+fn add_names<F: Files>(rt: &F, found: &mut Names, folder: &str) -> Result<(), Trouble> {
     if look_through(rt, folder)? == Found::Folder {
-        visit_all(rt, found, folder)?;
+        visit_all(rt, found.alloc, found, folder)?;
         found.names.sort()?;
     }
     Ok(())
 }
 
 // The names of the files directly in the folder, in byte order. A link to nowhere is none.
-fn names_in<R: Files + Alloc + Clone + Drop>(
-    rt: &R,
-    alloc: Global,
-    folder: &str,
-) -> Result<Vec<Text>, Trouble> {
+fn names_in<F: Files>(rt: &F, alloc: Global, folder: &str) -> Result<Vec<Text>, Trouble> {
     let mut found = Names {
         alloc,
         names: Vec::new(alloc),

@@ -42,6 +42,8 @@ pub struct FolderVolume<R: Files> {
     refusal: Option<EdgeFault>,
     // The names that are held, once they were listed, with the lengths that a look has found since the last change of each.
     held: Option<Listed>,
+    // Room for the name above which the next is sought.
+    above: String,
     // The names that were written since the last good sync.
     written: BTreeSet<String>,
     // The listed names that were taken away since then, with room for all that are held.
@@ -67,27 +69,44 @@ fn is_above(after: Option<&Name>, name: &Name) -> bool
     }
 }
 
-// The least of these names above `after`.
-fn next_above(alloc: Global, names: &Lengths, after: Option<&Name>) -> Result<Option<Name>, Trouble>
-    ensures { IfOk result (λ name. IfSome name (IsAbove (option_copied after.entry))) }
-{
-    let found = match after {
-        None => names.first_key_value(),
-        Some(after) => {
-            let from = String::from_str(alloc, after.as_str())?;
-            names
-                .range((Bound::Excluded(from), Bound::Unbounded))
-                .next()
-        }
+// Above which name one is sought, which is copied to this room.
+fn lower_bound<'a>(
+    room: &'a mut String,
+    after: Option<&Name>,
+) -> Result<Bound<&'a String>, Trouble> {
+    let Some(after) = after else {
+        return Ok(Bound::Unbounded);
     };
-    let Some((found, _)) = found else {
+    room.clear();
+    room.push_str(after.as_str())?;
+    Ok(Bound::Excluded(room))
+}
+
+// The least of these names above `after`, and what stands there. Where it is a plain file, its length is taken down.
+fn look_above<R: Files + Alloc + Clone + Drop>(
+    disk: &mut Disk<R>,
+    alloc: Global,
+    names: &mut Lengths,
+    room: &mut String,
+    after: Option<&Name>,
+) -> Result<Option<(Name, Found)>, Trouble>
+    ensures { IfOk result (λ found. IfSome found (λ f. IsAbove (option_copied after.entry) f.0)) }
+{
+    let from = lower_bound(room, after)?;
+    let Some((text, length)) = names.range_mut((from, Bound::Unbounded)).next() else {
         return Ok(None);
     };
-    match Name::of(alloc, found.as_str()) {
-        Ok(name) if is_above(after, &name) => Ok(Some(name)),
-        Ok(_) | Err(NameError::Length) => Ok(None),
-        Err(NameError::NoMemory) => Err(Trouble::NoMemory),
+    let name = match Name::of(alloc, text.as_str()) {
+        Ok(name) if is_above(after, &name) => name,
+        Ok(_) | Err(NameError::Length) => return Ok(None),
+        Err(NameError::NoMemory) => return Err(Trouble::NoMemory),
+    };
+    let found = disk.look_at(name.as_bytes())?;
+    if let Found::File(found) = found {
+        *length = Some(found);
+        disk.set_listed();
     }
+    Ok(Some((name, found)))
 }
 
 // Adds a name, where it isn't there.
@@ -146,6 +165,7 @@ where
                 opened: false,
                 refusal: None,
                 held: None,
+                above: String::new(alloc),
                 written: BTreeSet::new(alloc),
                 removed: Vec::new(alloc),
                 changed: false,
@@ -270,12 +290,24 @@ where
         Ok(())
     }
 
-    fn listed_above(&self, alloc: Global, after: Option<&Name>) -> Result<Option<Name>, Trouble>
-        ensures { IfOk result (λ name. IfSome name (IsAbove (option_copied after.entry))) }
+    // The least listed name above `after`, and what stands there.
+    fn listed_above(
+        &mut self,
+        alloc: Global,
+        after: Option<&Name>,
+    ) -> Result<Option<(Name, Found)>, Trouble>
+        ensures above { IfOk result (λ found. IfSome found (λ f. IsAbove (option_copied after.entry) f.0)) }
+        ensures stays { self.new.faults ≡ self.old.faults }
     {
-        match &self.held {
+        match &mut self.held {
             None => Ok(None),
-            Some(held) => next_above(alloc, &held.names, after),
+            Some(held) => look_above(
+                &mut self.disk,
+                alloc,
+                &mut held.names,
+                &mut self.above,
+                after,
+            ),
         }
     }
 
@@ -298,20 +330,14 @@ where
         }
     }
 
-    // Whether a plain file stands at a listed name. Where none does, the name is taken off the list.
-    fn is_file(&mut self, name: &Name) -> Result<bool, Trouble>
+    // Takes a name off the list, at which this stands and no plain file.
+    fn take_strange_off(&mut self, name: &Name, found: Found)
         ensures { self.new.faults ≡ self.old.faults }
     {
-        let found = self.disk.look_at(name.as_bytes())?;
-        if let Found::File(length) = found {
-            self.note_length(name, Some(length));
-            return Ok(true);
-        }
         let _ = self.take_off(name);
         if let Some(held) = &mut self.held {
             held.is_whole = held.is_whole && found == Found::Nothing;
         }
-        Ok(false)
     }
 
     // The least listed name above `after` at which a plain file stands.
@@ -320,14 +346,14 @@ where
         ensures stays { self.new.faults ≡ self.old.faults }
     {
         for _ in 0..u64::MAX {
-            let Some(name) = self.listed_above(alloc, after)? else {
+            let Some((name, found)) = self.listed_above(alloc, after)? else {
                 break;
             };
-            match self.is_file(&name) {
-                Ok(true) => return Ok(Some(name)),
-                Ok(false) => drop(name),
-                Err(trouble) => return Err(trouble),
+            if let Found::File(_) = found {
+                return Ok(Some(name));
             }
+            self.take_strange_off(&name, found);
+            drop(name);
         }
         Ok(None)
     }
@@ -344,7 +370,10 @@ where
 
     // The size of a name, where the listing knows it.
     fn told(&self, name: &Name) -> Option<Option<u64>> {
-        told_size(self.held.as_ref()?, name)
+        match self.disk.listed_length(name.as_bytes()) {
+            Some(length) => Some(Some(length)),
+            None => told_size(self.held.as_ref()?, name),
+        }
     }
 
     fn size_of(&mut self, name: &Name) -> Result<Option<u64>, Trouble>

@@ -3,7 +3,7 @@
 use crate::found::{Found, look};
 use crate::names::{LONGEST_NAME, PART_BYTES, push_bytes};
 use crate::trouble::Trouble;
-use crate::walk::{Visit, visit_all};
+use crate::walk::{Visit, path_in, visit_all};
 use crate::writing::sync_path;
 use std::alloc::Global;
 use std::collections::BTreeMap;
@@ -48,27 +48,28 @@ struct Lists {
 
 // The bytes of the part with those of a file or folder in it; None where its name spells none.
 fn spelled(alloc: Global, front: &[u8], digits: &str) -> Result<Option<Vec<u8>>, Trouble> {
-    let mut bytes = Vec::from_slice(alloc, front)?;
-    let fits = digits.len() <= 2 * PART_BYTES;
-    if fits && push_bytes(&mut bytes, digits)? && bytes.len() <= LONGEST_NAME {
+    let length = front.len().saturating_add(digits.len() / 2);
+    if digits.len() > 2 * PART_BYTES || length > LONGEST_NAME {
+        return Ok(None);
+    }
+    let mut bytes = Vec::with_capacity(alloc, length)?;
+    bytes.extend_from_slice(front)?;
+    if push_bytes(&mut bytes, digits)? {
         Ok(Some(bytes))
     } else {
         Ok(None)
     }
 }
 
-fn push_part(
-    alloc: Global,
-    parts: &mut Vec<Part>,
-    path: &str,
-    bytes: Vec<u8>,
-) -> Result<(), Trouble> {
-    let path = String::from_str(alloc, path)?;
-    parts.push(Part { path, bytes })?;
-    Ok(())
-}
-
 impl Lists {
+    // Takes down the folder in which all others stand.
+    fn add_top(&mut self, folder: &str) -> Result<(), Trouble> {
+        let path = String::from_str(self.alloc, folder)?;
+        let bytes = Vec::new(self.alloc);
+        self.parts.push(Part { path, bytes })?;
+        Ok(())
+    }
+
     // Takes down the name that a file's path spells, whatever stands there.
     fn add_name(&mut self, digits: &str) -> Result<(), Trouble> {
         if let Some(bytes) = spelled(self.alloc, self.front.as_slice(), digits)? {
@@ -81,35 +82,47 @@ impl Lists {
     }
 
     // Takes down a folder of long names.
-    fn add_folder(&mut self, path: &str, digits: &str) -> Result<(), Trouble> {
+    fn add_folder(&mut self, path: String, digits: &str) -> Result<(), Trouble> {
         if let Some(bytes) = spelled(self.alloc, self.front.as_slice(), digits)? {
-            push_part(self.alloc, &mut self.parts, path, bytes)?;
+            self.parts.push(Part { path, bytes })?;
         }
+        Ok(())
+    }
+
+    // Takes down a folder of long names, where a plain one stands there.
+    fn add_level<F: Files>(
+        &mut self,
+        rt: &F,
+        folder: &str,
+        name: &str,
+        digits: &str,
+    ) -> Result<(), Trouble> {
+        let path = path_in(self.alloc, folder, name)?;
+        if look(rt, path.as_str())? == Found::Folder {
+            return self.add_folder(path, digits);
+        }
+        self.listed.is_whole = false;
         Ok(())
     }
 }
 
 impl Visit for Lists {
-    fn visit<F: Files>(&mut self, rt: &F, path: &str, name: &str) -> Result<(), Trouble> {
+    fn visit<F: Files>(&mut self, rt: &F, folder: &str, name: &str) -> Result<(), Trouble> {
         match name.strip_suffix("+") {
             None => self.add_name(name),
             Some(digits) if digits.len() != 2 * PART_BYTES => Ok(()),
-            Some(digits) if look(rt, path)? == Found::Folder => self.add_folder(path, digits),
-            Some(_) => {
-                self.listed.is_whole = false;
-                Ok(())
-            }
+            Some(digits) => self.add_level(rt, folder, name, digits),
         }
     }
 }
 
-fn list_folder<R: Files + Alloc + Clone + Drop>(
-    rt: &R,
+fn list_folder<F: Files>(
+    rt: &F,
     lists: &mut Lists,
     path: &str,
     folders: Folders,
 ) -> Result<(), Trouble> {
-    visit_all(rt, lists, path)?;
+    visit_all(rt, lists.alloc, lists, path)?;
     match folders {
         Folders::Listed => Ok(()),
         Folders::Synced => sync_path(rt, path),
@@ -117,11 +130,7 @@ fn list_folder<R: Files + Alloc + Clone + Drop>(
 }
 
 // Lists folders until none is left.
-fn list_all<R: Files + Alloc + Clone + Drop>(
-    rt: &R,
-    lists: &mut Lists,
-    folders: Folders,
-) -> Result<(), Trouble> {
+fn list_all<F: Files>(rt: &F, lists: &mut Lists, folders: Folders) -> Result<(), Trouble> {
     for _ in 0..u64::MAX {
         let Some(part) = lists.parts.pop() else {
             break;
@@ -136,8 +145,8 @@ fn list_all<R: Files + Alloc + Clone + Drop>(
 }
 
 /// The names that a folder holds.
-pub fn list<R: Files + Alloc + Clone + Drop>(
-    rt: &R,
+pub fn list<F: Files>(
+    rt: &F,
     alloc: Global,
     folder: &str,
     folders: Folders,
@@ -151,7 +160,7 @@ pub fn list<R: Files + Alloc + Clone + Drop>(
         parts: Vec::new(alloc),
         front: Vec::new(alloc),
     };
-    let done = match push_part(alloc, &mut lists.parts, folder, Vec::new(alloc)) {
+    let done = match lists.add_top(folder) {
         Ok(()) => list_all(rt, &mut lists, folders),
         Err(trouble) => Err(trouble),
     };

@@ -32,6 +32,8 @@ fn read_path<F: Files>(
 ) -> Result<(), Trouble>
     ensures { OnOk result (vec_len bytes.new ≤ want) }
 {
+    // One byte more than is wanted, so that the end is met without more room.
+    bytes.reserve_exact(want.saturating_add(1))?;
     let file = File::open(rt, path)?;
     read_open(file, bytes, at, want)
 }

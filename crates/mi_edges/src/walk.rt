@@ -1,60 +1,95 @@
 //! Going through what stands in a folder.
 
 use crate::trouble::Trouble;
-use std::fs::{DirEntry, Files, ReadDir};
-use std::{fs, io};
+use std::alloc::{AllocError, Global};
+use std::fs::Files;
+use std::io::Read;
 
 /// What is done with what stands in a folder.
 pub trait Visit {
-    /// Takes down what stands there by its path and its name in the folder.
-    fn visit<F: Files>(&mut self, rt: &F, path: &str, name: &str) -> Result<(), Trouble>;
+    /// Takes down what stands there by its name in the folder, whose path ends in `/`.
+    fn visit<F: Files>(&mut self, rt: &F, folder: &str, name: &str) -> Result<(), Trouble>;
 }
 
-fn visit_found<R: Files + Alloc + Drop, V: Visit>(
-    rt: &R,
+/// The bytes of names that are read at once.
+const NAMES_READ: usize = 32_768;
+
+/// The path of what stands in a folder, whose path ends in `/`.
+pub fn path_in(alloc: Global, folder: &str, name: &str) -> Result<String, AllocError> {
+    let mut path = String::from_str(alloc, folder)?;
+    path.push_str(name)?;
+    Ok(path)
+}
+
+// Visits what has these names, each of which ends in a NUL.
+fn visit_named<F: Files, V: Visit>(
+    rt: &F,
     visitor: &mut V,
-    found: io::Result<DirEntry<R, R::A>>,
+    folder: &str,
+    names: &[u8],
 ) -> Result<(), Trouble> {
-    match found {
-        Ok(entry) => {
-            let visited = visitor.visit(rt, entry.path().as_str(), entry.file_name());
-            drop(entry);
-            visited
+    for name in names.split(|byte| *byte == 0) {
+        // A name that isn't text is a file of another program: no name here isn't text.
+        if let Ok(name) = str::from_utf8(name) {
+            if !matches!(name, "" | "." | "..") {
+                visitor.visit(rt, folder, name)?;
+            }
         }
-        Err(error) => match Trouble::from(error) {
-            // A file of another program: no name here isn't text.
-            Trouble::NoText => Ok(()),
-            trouble => Err(trouble),
-        },
-    }
-}
-
-fn visit_listed<R: Files + Alloc + Clone + Drop, V: Visit>(
-    rt: &R,
-    visitor: &mut V,
-    listed: &mut ReadDir<R, R::A>,
-) -> Result<(), Trouble> {
-    for _ in 0..u64::MAX {
-        let Some(found) = listed.next() else {
-            break;
-        };
-        visit_found(rt, visitor, found)?;
     }
     Ok(())
 }
 
-/// Visits each file and each folder directly in a folder, in no order.
-pub fn visit_all<R: Files + Alloc + Clone + Drop, V: Visit>(
-    rt: &R,
+// Reads names and visits what has them; false where no name is left.
+fn visit_next<F: Files, V: Visit>(
+    rt: &F,
     visitor: &mut V,
     folder: &str,
+    listed: &mut F::Dir,
+    names: &mut [u8],
+) -> Result<bool, Trouble> {
+    let count = listed.read(names)?;
+    visit_named(rt, visitor, folder, &names[..count])?;
+    Ok(count > 0)
+}
+
+fn visit_listed<F: Files, V: Visit>(
+    rt: &F,
+    visitor: &mut V,
+    folder: &str,
+    listed: &mut F::Dir,
 ) -> Result<(), Trouble> {
-    match fs::read_dir(rt, folder) {
+    let mut names = [0u8; NAMES_READ];
+    for _ in 0..u64::MAX {
+        if !visit_next(rt, visitor, folder, listed, &mut names)? {
+            break;
+        }
+    }
+    Ok(())
+}
+
+fn visit_folder<F: Files, V: Visit>(rt: &F, visitor: &mut V, folder: &str) -> Result<(), Trouble> {
+    match rt.open_dir(folder) {
         Ok(mut listed) => {
-            let visited = visit_listed(rt, visitor, &mut listed);
+            let visited = visit_listed(rt, visitor, folder, &mut listed);
             drop(listed);
             visited
         }
         Err(error) => Err(Trouble::from(error)),
     }
+}
+
+/// Visits each file and each folder directly in a folder, or in the one to which a link at its path leads, in no order.
+pub fn visit_all<F: Files, V: Visit>(
+    rt: &F,
+    alloc: Global,
+    visitor: &mut V,
+    folder: &str,
+) -> Result<(), Trouble> {
+    let end = if folder.is_empty() || folder.ends_with('/') {
+        ""
+    } else {
+        "/"
+    };
+    let path = path_in(alloc, folder, end)?;
+    visit_folder(rt, visitor, path.as_str())
 }
