@@ -1,8 +1,10 @@
-/* The plain loops that bench/machine_folder compares the program with.
+/* The plain loops that bench/machine_folder and bench/selftest compare the program with.
    plain read FOLDER         lists the folder and reads each file in it, in the order of their names, and the same below it
    plain write FOLDER FROM   gives the files named on standard input, a path a line, below FOLDER the bytes that they have
                              below FROM, in place; syncs each, and FOLDER; prints the seconds behind reading the first
-                             65,536 bytes of each in FROM: what is longer is copied piece by piece */
+                             65,536 bytes of each in FROM: what is longer is copied piece by piece
+   plain remove FOLDER       takes away the files named on standard input, a path a line, below FOLDER, and syncs FOLDER;
+                             prints the seconds behind reading the paths */
 #define _GNU_SOURCE
 #include <dirent.h>
 #include <fcntl.h>
@@ -118,6 +120,17 @@ static double now(void) {
     return time.tv_sec + time.tv_nsec / 1e9;
 }
 
+/* The paths on standard input, below the folder. */
+static void load_paths(const char *folder) {
+    char line[LONGEST_PATH], path[2 * LONGEST_PATH];
+    while (fgets(line, sizeof line, stdin)) {
+        line[strcspn(line, "\n")] = 0;
+        changes = realloc(changes, (change_count + 1) * sizeof *changes);
+        snprintf(path, sizeof path, "%s/%s", folder, line);
+        changes[change_count++].path = strdup(path);
+    }
+}
+
 int main(int count, char **words) {
     if (count == 3 && !strcmp(words[1], "read")) {
         read_folder(words[2]);
@@ -128,6 +141,13 @@ int main(int count, char **words) {
             write_file(&changes[i]);
         for (size_t i = 0; i < change_count; i++)
             sync_path(changes[i].path);
+        sync_path(words[2]);
+        printf("%.6f\n", now() - start);
+    } else if (count == 3 && !strcmp(words[1], "remove")) {
+        load_paths(words[2]);
+        double start = now();
+        for (size_t i = 0; i < change_count; i++)
+            must(unlink(changes[i].path) == 0, changes[i].path);
         sync_path(words[2]);
         printf("%.6f\n", now() - start);
     } else {
