@@ -10,10 +10,12 @@ pub mod Pairs
 pub mod FieldLaws
 pub mod Splits
 pub mod KeyLaws
+pub mod FrontLaws
 pub mod ColumnLaws
 pub mod HeadLaws
 pub mod TableLaws
 pub mod ReadLemmas
 pub mod Spelled
+pub mod StandLaws
 pub mod WriteLemmas
 pub mod WriteLaws

@@ -1,11 +1,11 @@
 -- Lines, their fields and UTF-8.
-use Rattle.std.proofs.Common.{◌≡◌, ◌+◌, ℕ, true, false, List, [], ◌∷◌, ◌++◌, length, eqb, map, refl, sym, ap, ◌∙◌, arith, inl, inr, Bor, ◌≤◌, ◌-◌, take, get_or, append-nil, Bool, Option, Some, None, is_some}
+use Rattle.std.proofs.Common.{◌≡◌, ◌+◌, ℕ, true, false, List, [], ◌∷◌, ◌++◌, length, eqb, map, refl, sym, ap, ◌∙◌, arith, inl, inr, Bor, ◌<◌, take, drop, set, get_or, append-nil, Bool, Option, Some, None, is_some}
 use Rattle.std.specs.Bool.{then_some}
 use Rattle.std.specs.Str.Lines.{lines, lines_of_parts, strip_carriage_return}
 use Rattle.std.specs.List.{count_by, slice_split}
 use Rattle.std.specs.Str.{IsUtf8, is_utf8}
 use Rattle.std.proofs.lemmas.Bool.{cases_Bool}
-use Rattle.std.proofs.lemmas.List.{take_more, take_all, map-append}
+use Rattle.std.proofs.lemmas.List.{take_more, take_more_set, drop_more, drop-set-lt, map-append}
 use Rattle.std.proofs.lemmas.List.Splits.{length-slice_split}
 use Rattle.std.proofs.lemmas.Str.{IsUtf8-from_is_utf8, is_utf8-from_IsUtf8}
 use Rattle.mi_text.specs.declared.answers.IdtFault.TheVariants.{NotUtf8}
@@ -36,19 +36,10 @@ lines_of_parts-push [] last = refl
 lines_of_parts-push (x ∷ []) last = refl
 lines_of_parts-push (x ∷ y ∷ more) last = ap (λ (ls : List (List ℕ)). strip_carriage_return x ∷ ls) (lines_of_parts-push (y ∷ more) last)
 
--- a list is its front and its last
-front_and_last : (parts : List (Bor (List ℕ))) (d : Bor (List ℕ)) → 1 ≤ length parts → parts ≡ take (length parts - 1) parts ++ get_or parts (length parts - 1) d ∷ []
-front_and_last parts d some =
-    let whole : take (length parts - 1 + 1) parts ≡ parts = ap (λ (n : ℕ). take n parts) (omega arith) ∙ take_all (length parts) parts (omega arith) in
-    sym whole ∙ take_more parts (length parts - 1) d (omega arith)
-
-pub lines_are : (parts : List (Bor (List ℕ))) (d : Bor (List ℕ)) (bytes : List ℕ) → 1 ≤ length parts → shown parts ≡ slice_split (λ b. eqb b 10) bytes
-    → map strip_carriage_return (shown (take (length parts - 1) parts)) ++ lines_of_parts ((get_or parts (length parts - 1) d).now ∷ []) ≡ lines bytes
-lines_are parts d bytes some split =
-    let front : List (Bor (List ℕ)) = take (length parts - 1) parts in
-    let last : Bor (List ℕ) = get_or parts (length parts - 1) d in
-    let cut : shown parts ≡ shown front ++ last.now ∷ [] = ap shown (front_and_last parts d some) ∙ map-append (λ (b : Bor (List ℕ)). b.now) front (last ∷ []) in
-    sym (lines_of_parts-push (shown front) last.now) ∙ ap lines_of_parts (sym cut ∙ split)
+pub lines_are : (front : List (Bor (List ℕ))) (last : Bor (List ℕ)) (parts : List (Bor (List ℕ))) (bytes : List ℕ) → parts ≡ front ++ last ∷ [] → shown parts ≡ slice_split (λ b. eqb b 10) bytes → map strip_carriage_return (shown front) ++ lines_of_parts (last.now ∷ []) ≡ lines bytes
+lines_are front last parts bytes cut split =
+    let whole : slice_split (λ b. eqb b 10) bytes ≡ shown front ++ last.now ∷ [] = sym split ∙ ap shown cut ∙ map-append (λ (b : Bor (List ℕ)). b.now) front (last ∷ []) in
+    sym (lines_of_parts-push (shown front) last.now) ∙ ap lines_of_parts (sym whole)
 
 pub last_dropped : (front : List (List ℕ)) (last : List ℕ) → eqb (length last) 0 ≡ true → front ++ lines_of_parts (last ∷ []) ≡ front
 last_dropped front last none = rw none (append-nil front)
@@ -56,16 +47,21 @@ last_dropped front last none = rw none (append-nil front)
 pub last_kept : (last : List ℕ) → eqb (length last) 0 ≡ false → lines_of_parts (last ∷ []) ≡ last ∷ []
 last_kept last some = rw some refl
 
-pub lines_done : (parts : List (Bor (List ℕ))) (d : Bor (List ℕ)) (bytes : List ℕ) (ls : List (Bor (List ℕ))) (i : ℕ) → 1 ≤ length parts → shown parts ≡ slice_split (λ b. eqb b 10) bytes
-    → shown ls ≡ map strip_carriage_return (shown (take i (take (length parts - 1) parts))) → length (take (length parts - 1) parts) ≤ i
-    → shown ls ++ lines_of_parts ((get_or parts (length parts - 1) d).now ∷ []) ≡ lines bytes
-lines_done parts d bytes ls i some split read end =
-    let front : List (Bor (List ℕ)) = take (length parts - 1) parts in
-    let all : shown ls ≡ map strip_carriage_return (shown front) = read ∙ ap (λ (ps : List (Bor (List ℕ))). map strip_carriage_return (shown ps)) (take_all i front end) in
-    ap (λ (xs : List (List ℕ)). xs ++ lines_of_parts ((get_or parts (length parts - 1) d).now ∷ [])) all ∙ lines_are parts d bytes some split
-
 pub pushed_last : (ls after : List (Bor (List ℕ))) (last : Bor (List ℕ)) → after ≡ ls ++ last ∷ [] → eqb (length last.now) 0 ≡ false → shown after ≡ shown ls ++ lines_of_parts (last.now ∷ [])
 pushed_last ls after last pushed some = ap shown pushed ∙ map-append (λ (b : Bor (List ℕ)). b.now) ls (last ∷ []) ∙ ap (λ (xs : List (List ℕ)). shown ls ++ xs) (sym (last_kept last.now some))
+
+-- a line in whose place it stands without its CR
+pub dropped_more : (lines before after : List (Bor (List ℕ))) (i : ℕ) (line : Bor (List ℕ)) → i < length lines → i < length before
+    → shown (take i lines) ≡ map strip_carriage_return (shown (take i before)) → drop i lines ≡ drop i before → after ≡ set lines i line → line.now ≡ strip_carriage_return (get_or lines i line).now
+    → (shown (take (i + 1) after) ≡ map strip_carriage_return (shown (take (i + 1) before))) × (drop (i + 1) after ≡ drop (i + 1) before)
+dropped_more lines before after i line h k front back is dropped =
+    let both : get_or lines i line ∷ drop (i + 1) lines ≡ get_or before i line ∷ drop (i + 1) before = sym (drop_more lines i line h) ∙ back ∙ drop_more before i line k in
+    let here : get_or lines i line ≡ get_or before i line = cc in
+    let rest : drop (i + 1) lines ≡ drop (i + 1) before = cc in
+    let left : shown (take (i + 1) after) ≡ shown (take i lines) ++ line.now ∷ [] = ap (λ (l : List (Bor (List ℕ))). shown (take (i + 1) l)) is ∙ ap shown (take_more_set lines i line h) ∙ map-append (λ (b : Bor (List ℕ)). b.now) (take i lines) (line ∷ []) in
+    let right : map strip_carriage_return (shown (take (i + 1) before)) ≡ map strip_carriage_return (shown (take i before)) ++ strip_carriage_return (get_or before i line).now ∷ [] =
+    ap (λ (l : List (Bor (List ℕ))). map strip_carriage_return (shown l)) (take_more before i line k) ∙ ap (map strip_carriage_return) (map-append (λ (b : Bor (List ℕ)). b.now) (take i before) (get_or before i line ∷ [])) ∙ map-append strip_carriage_return (shown (take i before)) ((get_or before i line).now ∷ []) in
+    (left ∙ (λ n. front n ++ (dropped ∙ ap (λ (b : Bor (List ℕ)). strip_carriage_return b.now) here) n ∷ []) ∙ sym right, ap (drop (i + 1)) is ∙ drop-set-lt (i + 1) lines i line (omega arith) ∙ rest)
 
 -- a line that is text, and one that isn't
 pub text_line : (number : ℕ) (line : List ℕ) → IsUtf8 line → text_fault number line ≡ None

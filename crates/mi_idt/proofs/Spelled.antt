@@ -56,7 +56,7 @@ rows_long bytes t s k d h =
 
 -- ---- fields
 
-spelled_at : (cs : List ColumnValue) (fs : List (List ℕ)) (xs : List Cell) (i : ℕ) (c : ColumnValue) → SpellsFields cs fs xs → i < length cs → SpellsField (get_or cs i c) (get_or fs i []) (get_or xs i Nothing)
+pub spelled_at : (cs : List ColumnValue) (fs : List (List ℕ)) (xs : List Cell) (i : ℕ) (c : ColumnValue) → SpellsFields cs fs xs → i < length cs → SpellsField (get_or cs i c) (get_or fs i []) (get_or xs i Nothing)
 spelled_at [] fs xs i c s h = absurd (omega arith)
 spelled_at (k ∷ cs) [] xs i c s h = absurd s
 spelled_at (k ∷ cs) (f ∷ fs) [] i c s h = absurd s

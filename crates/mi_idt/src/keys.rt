@@ -1,15 +1,16 @@
 //! The keys of rows, which are compared in their written form.
 
 ghost use Rattle.std.specs.Prelude.{◌≡◌, ◌<◌, ◌^◌, ◌++◌, [], IfOk, OnOk, length, map};
-ghost use Rattle.std.specs.List.{slice_index_or};
+ghost use Rattle.std.specs.List.{slice_index_or, All};
 ghost use Rattle.mi_idt.specs.Cells.{Nothing, key_of};
 ghost use Rattle.mi_idt.specs.Means.{column_value};
-ghost use Rattle.mi_idt.specs.RowKey.{row_key};
+ghost use Rattle.mi_idt.specs.RowKey.{row_key, IsSpelledRow};
 ghost use Rattle.mi_idt.specs.Rows.{cells_of};
 ghost use Rattle.mi_idt.specs.Texts.{repeat_of};
 ghost use Rattle.mi_idt.specs.Written.{written_cell, written_row};
 
 use crate::escape::push_field;
+use crate::fronts::{first_same, keys_stand};
 use crate::line::push_tab;
 use crate::table::{Column, Row};
 use mi_text::{Bytes, NoMemory};
@@ -50,8 +51,8 @@ fn key_text(
     Ok(Bytes::from_vec(out))
 }
 
-/// The first row, from 1, that has an earlier row's key.
-pub fn first_repeat(
+/// The first row, from 1, whose key is written as that of an earlier row.
+fn first_written(
     alloc: Global,
     columns: &[Column<'_>],
     keys: &[u32],
@@ -68,4 +69,22 @@ pub fn first_repeat(
         }
     }
     Ok(None)
+}
+
+/// The first row, from 1, that has an earlier row's key. Keys are written anew only where they don't stand so.
+pub fn first_repeat(
+    alloc: Global,
+    columns: &[Column<'_>],
+    keys: &[u32],
+    rows: &[Row<'_>],
+) -> Result<Option<u32>, NoMemory>
+    requires few { length rows.now < 2 ^ 31 }
+    requires spelled { All (IsSpelledRow columns.now) rows.now }
+    ensures { IfOk result (λ row. row ≡ repeat_of [] 1 (map (row_key columns.now keys.now) rows.now)) }
+{
+    if keys_stand(columns, keys, rows) {
+        first_same(alloc, keys.len(), rows)
+    } else {
+        first_written(alloc, columns, keys, rows)
+    }
 }

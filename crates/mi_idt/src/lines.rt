@@ -14,11 +14,13 @@ pub fn parts(alloc: Global, bytes: &[u8], mark: u8) -> Result<Vec<&[u8]>, AllocE
     bytes.split(|byte| *byte == mark).collect(alloc)
 }
 
-/// The fields of a line that is text.
-pub fn text_fields(alloc: Global, line: &str) -> Result<Vec<&str>, AllocError>
+/// The fields of a line that is text, with room for `count` of them.
+pub fn text_fields(alloc: Global, line: &str, count: usize) -> Result<Vec<&str>, AllocError>
     ensures { IfOk result (λ v. map (λ b. b.now) v.items ≡ fields_of line.now) }
 {
-    line.split('\t').collect(alloc)
+    let mut fields = Vec::with_capacity(alloc, count)?;
+    fields.extend(line.split('\t'))?;
+    Ok(fields)
 }
 
 /// How many bytes equal `mark`.
@@ -51,18 +53,23 @@ fn without_return(line: &[u8]) -> &[u8]
     }
 }
 
+fn drop_returns(lines: &mut Vec<&[u8]>)
+    ensures { map (λ b. b.now) lines.new.items ≡ map strip_carriage_return (map (λ b. b.now) lines.old.items) }
+{
+    for i in 0..lines.len() {
+        lines[i] = without_return(lines[i]);
+    }
+}
+
 /// The lines: LF ends a line, a CR just before it is dropped, and the last end may be missing.
 pub fn lines_of(alloc: Global, bytes: &[u8]) -> Result<Vec<&[u8]>, AllocError>
     ensures { IfOk result (λ v. map (λ b. b.now) v.items ≡ lines bytes.now) }
 {
-    let parts = parts(alloc, bytes, b'\n')?;
-    let mut lines = Vec::new(alloc);
-    let [ended @ .., last] = parts.as_slice() else {
+    let mut lines = parts(alloc, bytes, b'\n')?;
+    let Some(last) = lines.pop() else {
         return Ok(lines);
     };
-    for part in ended {
-        lines.push(without_return(part))?;
-    }
+    drop_returns(&mut lines);
     if last.is_empty() {
         return Ok(lines);
     }

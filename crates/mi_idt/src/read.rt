@@ -95,7 +95,7 @@ fn read_parts<'a>(
     requires few_columns { length (fields_of texts.names.now) ≤ 32 }
     ensures { ReadsPart result (parts_fault texts.entry.names.now texts.entry.definitions.now texts.entry.head.now (map (λ b. b.now) lines.now)) (λ t. raw t ≡ raw_of_lines (texts.entry.names.now ∷ texts.entry.definitions.now ∷ texts.entry.head.now ∷ map (λ b. b.now) lines.now)) }
 {
-    let list = text_fields(alloc, texts.names)?;
+    let list = text_fields(alloc, texts.names, count_fields(texts.names.as_bytes()))?;
     let names = Names::read(alloc, list)?;
     let columns = read_columns(alloc, &names.list, texts.definitions)?;
     let head = read_head(alloc, texts.head, &names)?;

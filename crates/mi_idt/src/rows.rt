@@ -77,7 +77,7 @@ fn read_row<'a>(
     if count_fields(line) != columns.len() {
         return Err(IdtError::Fault(IdtFault::ColumnCount(row + 3)));
     }
-    let fields = text_fields(alloc, text)?;
+    let fields = text_fields(alloc, text, columns.len())?;
     match check_fields(columns, &fields, row) {
         Ok(()) => Ok(Row { fields }),
         Err(fault) => Err(IdtError::Fault(fault)),
@@ -95,7 +95,7 @@ pub fn read_rows<'a>(
     requires fits { length lines.now + 4 < 2 ^ 32 }
     ensures { ReadsPart result (rows_fault page (map column_value columns.now) 1 (map (λ b. b.now) lines.now)) (λ rs. map raw_row rs.items ≡ map fields_of (map (λ b. b.now) lines.now)) }
 {
-    let mut rows = Vec::new(alloc);
+    let mut rows = Vec::with_capacity(alloc, lines.len())?;
     for (i, line) in lines.iter().enumerate() {
         rows.push(read_row(alloc, page, columns, line, i as u32 + 1)?)?;
     }

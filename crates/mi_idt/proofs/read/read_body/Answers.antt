@@ -1,14 +1,21 @@
 use Rattle.std.proofs.Common.{◌≡◌, ◌∙◌, sym, ap, List, [], map, None, option_map, subst}
+use Rattle.std.specs.List.{All}
 use Rattle.mi_text.specs.declared.answers.IdtFault.TheVariants.{TwoKeys}
 use Rattle.mi_idt.specs.declared.table.Column.{Column}
 use Rattle.mi_idt.specs.Means.{column_value}
-use Rattle.mi_idt.specs.RowKey.{row_key}
+use Rattle.mi_idt.specs.RowKey.{row_key, IsSpelledRow}
 use Rattle.mi_idt.specs.Rows.{rows_fault}
 use Rattle.mi_idt.specs.Texts.{repeat_of}
 use Rattle.mi_idt.proofs.Faults.{or-past}
 use Rattle.mi_idt.proofs.Basics.{shown}
-use Rattle.mi_idt.proofs.ReadLemmas.{body_repeat}
+use Rattle.mi_idt.proofs.ReadLemmas.{body_repeat, rows_spelled}
 use Rattle.mi_idt.proofs.read.read_body.Goals as goal
+
+pub first_repeat-requires-clause-spelled : goal.first_repeat-requires-clause-spelled
+first_repeat-requires-clause-spelled c =
+    let none = subst (λ (cs : List Column). rows_fault c.args.head.page (map column_value cs) 1 (shown c.args.lines.now) ≡ None) c.deref.ensures.value c.in_ok-rows.ensures.0 in
+    let all = rows_spelled c.args.head.page c.args.columns.items c.in_ok-rows.rows.items (shown c.args.lines.now) c.in_ok-rows.ensures.1 none in
+    subst (λ (cs : List Column). All (IsSpelledRow cs) c.deref-4.result.now) (sym c.deref-2.ensures.value) (subst (All (IsSpelledRow c.args.columns.items)) (sym c.deref-4.ensures.value) all)
 
 pub returns-in-Some : goal.returns-in-Some
 returns-in-Some c =
