@@ -68,10 +68,10 @@ first_by_fronts columns keys rows spelled stand =
     repeats_agree (IsPlain columns keys) same_fields bytes_eq (row_front (length keys)) (row_key columns keys) (keys_agree columns keys) [] rows 1 tt (both (IsSpelledRow columns) (KeyStands columns keys) rows spelled stand)
 
 -- a key that stands at the front of a row is no longer than the row
-pub long_enough : (columns : List Column) (keys : List ℕ) (r : Row) → KeyStands columns keys r → length keys ≤ length r.fields.items
+pub long_enough : (columns : List Column) (keys : List ℕ) (r : Row) → KeyStands columns keys r → length keys ≤ length (raw_row r)
 long_enough columns keys r stands =
     let parts : length (map written_cell (key_of keys (row_cells columns r))) ≡ length keys = length-map (key_of keys (row_cells columns r)) written_cell ∙ length-map keys (λ (i : ℕ). get_or (row_cells columns r) i Nothing) in
-    omega (arith, sym (length-take (length keys) (raw_row r)) ∙ ap length stands ∙ parts, length-map r.fields.items (λ (b : Bor (List ℕ)). b.now))
+    omega (arith, sym (length-take (length keys) (raw_row r)) ∙ ap length stands ∙ parts)
 
 -- ---- the key columns are the first ones
 

@@ -11,6 +11,7 @@ pub mod FieldLaws
 pub mod Splits
 pub mod KeyLaws
 pub mod FrontLaws
+pub mod LayLaws
 pub mod ColumnLaws
 pub mod HeadLaws
 pub mod TableLaws

@@ -5,13 +5,16 @@ use Rattle.std.specs.Str.Lines.{lines, lines_of_parts, strip_carriage_return}
 use Rattle.std.specs.List.{count_by, slice_split}
 use Rattle.std.specs.Str.{IsUtf8, is_utf8}
 use Rattle.std.proofs.lemmas.Bool.{cases_Bool}
-use Rattle.std.proofs.lemmas.List.{take_more, take_more_set, drop_more, drop-set-lt, map-append}
+use Rattle.std.proofs.lemmas.Bool.Decides.{nat_tests}
+use Rattle.std.proofs.lemmas.List.{take_more, take_more_set, drop_more, drop-set-lt, drop-map, drop_at, length-map, map-append}
 use Rattle.std.proofs.lemmas.List.Splits.{length-slice_split}
 use Rattle.std.proofs.lemmas.Str.{IsUtf8-from_is_utf8, is_utf8-from_IsUtf8}
+use Rattle.mi_text.specs.declared.answers.IdtFault.{IdtFault}
 use Rattle.mi_text.specs.declared.answers.IdtFault.TheVariants.{NotUtf8}
+use Rattle.mi_idt.specs.Cells.{ColumnValue}
 use Rattle.mi_idt.specs.Fault.{text_fault}
 use Rattle.mi_idt.specs.Fields.{fields_of}
-use Rattle.mi_idt.specs.Rows.{is_in_page, is_line}
+use Rattle.mi_idt.specs.Rows.{is_in_page, is_line, fields_fault, line_fault}
 use Rattle.mi_idt.proofs.Basics.{shown}
 
 pub length_fields : (line : List ℕ) → length (fields_of line) ≡ count_by (λ b. eqb b 9) line + 1
@@ -62,6 +65,17 @@ dropped_more lines before after i line h k front back is dropped =
     let right : map strip_carriage_return (shown (take (i + 1) before)) ≡ map strip_carriage_return (shown (take i before)) ++ strip_carriage_return (get_or before i line).now ∷ [] =
     ap (λ (l : List (Bor (List ℕ))). map strip_carriage_return (shown l)) (take_more before i line k) ∙ ap (map strip_carriage_return) (map-append (λ (b : Bor (List ℕ)). b.now) (take i before) (get_or before i line ∷ [])) ∙ map-append strip_carriage_return (shown (take i before)) ((get_or before i line).now ∷ []) in
     (left ∙ (λ n. front n ++ (dropped ∙ ap (λ (b : Bor (List ℕ)). strip_carriage_return b.now) here) n ∷ []) ∙ sym right, ap (drop (i + 1)) is ∙ drop-set-lt (i + 1) lines i line (omega arith) ∙ rest)
+
+-- what was added behind others
+pub behind : (old new : List (Bor (List ℕ))) (added : List (List ℕ)) (start : ℕ) → shown new ≡ shown old ++ added → start ≡ length old → shown (drop start new) ≡ added
+behind old new added start is before =
+    sym (drop-map (λ (b : Bor (List ℕ)). b.now) start new) ∙ ap (drop start) is ∙ drop_at (shown old) added start (length-map old (λ (b : Bor (List ℕ)). b.now) ∙ sym before)
+
+-- a line of as many fields as there are columns has the fault of its fields
+pub line_fields : (page : Option ℕ) (cs : List ColumnValue) (row : ℕ) (line : List ℕ) (fault : Option IdtFault) → is_line page line ≡ true → length (fields_of line) ≡ length cs → fault ≡ fields_fault row 1 cs (fields_of line) → line_fault page cs row line ≡ fault
+line_fields page cs row line fault is same first =
+    let test : eqb (length (fields_of line)) (length cs) ≡ true = grind (arith, nat_tests) in
+    rw (is, test) (sym first)
 
 -- a line that is text, and one that isn't
 pub text_line : (number : ℕ) (line : List ℕ) → IsUtf8 line → text_fault number line ≡ None

@@ -17,4 +17,5 @@ pub mod TextsRead
 pub mod RowKey
 pub mod Stands
 pub mod HasParts
+pub mod Read
 pub mod Fronts

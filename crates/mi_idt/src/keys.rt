@@ -3,7 +3,7 @@
 ghost use Rattle.std.specs.Prelude.{◌≡◌, ◌<◌, ◌^◌, ◌++◌, [], IfOk, OnOk, length, map};
 ghost use Rattle.std.specs.List.{slice_index_or, All};
 ghost use Rattle.mi_idt.specs.Cells.{Nothing, key_of};
-ghost use Rattle.mi_idt.specs.Means.{column_value};
+ghost use Rattle.mi_idt.specs.Means.{column_value, AreLaid};
 ghost use Rattle.mi_idt.specs.RowKey.{row_key, IsSpelledRow};
 ghost use Rattle.mi_idt.specs.Rows.{cells_of};
 ghost use Rattle.mi_idt.specs.Texts.{repeat_of};
@@ -12,6 +12,7 @@ ghost use Rattle.mi_idt.specs.Written.{written_cell, written_row};
 use crate::escape::push_field;
 use crate::fronts::{first_same, keys_stand};
 use crate::line::push_tab;
+use crate::lines::text_fields;
 use crate::table::{Column, Row};
 use mi_text::{Bytes, NoMemory};
 use std::alloc::Global;
@@ -63,7 +64,8 @@ fn first_written(
 {
     let mut seen = BTreeSet::new(alloc);
     for (i, row) in rows.iter().enumerate() {
-        let key = key_text(alloc, columns, keys, &row.fields)?;
+        let fields = text_fields(alloc, row.line, columns.len())?;
+        let key = key_text(alloc, columns, keys, &fields)?;
         if !seen.insert(key)? {
             return Ok(Some(i as u32 + 1));
         }
@@ -77,13 +79,15 @@ pub fn first_repeat(
     columns: &[Column<'_>],
     keys: &[u32],
     rows: &[Row<'_>],
+    fields: &Vec<&str>,
 ) -> Result<Option<u32>, NoMemory>
     requires few { length rows.now < 2 ^ 31 }
     requires spelled { All (IsSpelledRow columns.now) rows.now }
+    requires laid { AreLaid rows.now fields.now.items }
     ensures { IfOk result (λ row. row ≡ repeat_of [] 1 (map (row_key columns.now keys.now) rows.now)) }
 {
-    if keys_stand(columns, keys, rows) {
-        first_same(alloc, keys.len(), rows)
+    if keys_stand(columns, keys, rows, fields) {
+        first_same(alloc, columns, keys.len(), rows, fields)
     } else {
         first_written(alloc, columns, keys, rows)
     }

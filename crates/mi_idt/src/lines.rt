@@ -1,6 +1,6 @@
 //! Lines and their fields.
 
-ghost use Rattle.std.specs.Prelude.{◌≡◌, ◌==◌, IfOk, length, map, count_by};
+ghost use Rattle.std.specs.Prelude.{◌≡◌, ◌==◌, ◌++◌, IfOk, OnOk, length, map, count_by};
 ghost use Rattle.std.specs.List.{slice_split};
 ghost use Rattle.std.specs.Str.Lines.{lines, strip_carriage_return};
 ghost use Rattle.mi_idt.specs.Fields.{fields_of, is_ascii};
@@ -14,12 +14,19 @@ pub fn parts(alloc: Global, bytes: &[u8], mark: u8) -> Result<Vec<&[u8]>, AllocE
     bytes.split(|byte| *byte == mark).collect(alloc)
 }
 
+/// Adds the fields of a line that is text.
+pub fn push_fields<'a>(fields: &mut Vec<&'a str>, line: &'a str) -> Result<(), AllocError>
+    ensures { OnOk result (map (λ b. b.now) fields.new.items ≡ map (λ b. b.now) fields.old.items ++ fields_of line.now) }
+{
+    fields.extend(line.split('\t'))
+}
+
 /// The fields of a line that is text, with room for `count` of them.
 pub fn text_fields(alloc: Global, line: &str, count: usize) -> Result<Vec<&str>, AllocError>
     ensures { IfOk result (λ v. map (λ b. b.now) v.items ≡ fields_of line.now) }
 {
     let mut fields = Vec::with_capacity(alloc, count)?;
-    fields.extend(line.split('\t'))?;
+    push_fields(&mut fields, line)?;
     Ok(fields)
 }
 
