@@ -1,14 +1,16 @@
 -- Lines, their fields and UTF-8.
-use Rattle.std.proofs.Common.{◌≡◌, ◌+◌, ℕ, true, false, List, [], ◌∷◌, ◌++◌, length, eqb, map, refl, sym, ap, ◌∙◌, arith, inl, inr, Bor, ◌<◌, take, drop, set, get_or, append-nil, Bool, Option, Some, None, is_some}
+use Rattle.std.proofs.Common.{◌≡◌, ◌+◌, ℕ, true, false, List, [], ◌∷◌, ◌++◌, length, eqb, map, refl, sym, ap, subst, ◌∙◌, arith, inl, inr, Bor, ◌<◌, take, drop, set, get_or, append-nil, append_assoc, Bool, Option, Some, None, is_some}
 use Rattle.std.specs.Bool.{then_some}
 use Rattle.std.specs.Str.Lines.{lines, lines_of_parts, strip_carriage_return}
-use Rattle.std.specs.List.{count_by, slice_split}
+use Rattle.std.specs.List.{All, count_by, slice_split}
 use Rattle.std.specs.Str.{IsUtf8, is_utf8}
-use Rattle.std.proofs.lemmas.Bool.{cases_Bool}
+use Rattle.std.proofs.lemmas.Bool.{cases_Bool, false_from_ne_true}
 use Rattle.std.proofs.lemmas.Bool.Decides.{nat_tests}
-use Rattle.std.proofs.lemmas.List.{take_more, take_more_set, drop_more, drop-set-lt, drop-map, drop_at, length-map, map-append}
-use Rattle.std.proofs.lemmas.List.Splits.{length-slice_split}
+use Rattle.std.proofs.lemmas.List.{take_more, take_more_set, drop_more, drop-set-lt, drop-map, drop_at, length-map, length-take-le, get_or-take, take-append-drop, map-append}
+use Rattle.std.proofs.lemmas.List.Elements.{All-from_get_or}
+use Rattle.std.proofs.lemmas.List.Splits.{length-slice_split, slice_split_at, slice_split_none}
 use Rattle.std.proofs.lemmas.Str.{IsUtf8-from_is_utf8, is_utf8-from_IsUtf8}
+use Rattle.memchr.specs.Find.{IsFirstByte, is_byte}
 use Rattle.mi_text.specs.declared.answers.IdtFault.{IdtFault}
 use Rattle.mi_text.specs.declared.answers.IdtFault.TheVariants.{NotUtf8}
 use Rattle.mi_idt.specs.Cells.{ColumnValue}
@@ -83,3 +85,36 @@ text_line number line valid = rw (is_utf8-from_IsUtf8 line valid) refl
 
 pub no_text_line : (number : ℕ) (line : List ℕ) → ¬ (IsUtf8 line) → text_fault number line ≡ Some (NotUtf8 number)
 no_text_line number line none = rw (no_utf8 line none) refl
+
+-- ---- the fields of a line, by its tabs
+
+no_tabs : (bytes : List ℕ) → ((k : ℕ) → k < length bytes → eqb (get_or bytes k 0) 9 ≡ true → ⊥) → All (λ b. eqb b 9 ≡ false) bytes
+no_tabs bytes none = All-from_get_or (λ b. eqb b 9 ≡ false) bytes 0 (λ k h. false_from_ne_true (eqb (get_or bytes k 0) 9) (none k h))
+
+-- the first field ends at the first tab
+pub fields_at : (line : List ℕ) (at : ℕ) → at < length line → eqb (get_or line at 0) 9 ≡ true → ((k : ℕ) → k < at → eqb (get_or line k 0) 9 ≡ true → ⊥) → fields_of line ≡ take at line ∷ fields_of (drop (at + 1) line)
+fields_at line at h tab none =
+    let front : List ℕ = take at line in
+    let long : length front ≡ at = length-take-le at line (omega (arith, h)) in
+    let whole : line ≡ front ++ get_or line at 0 ∷ drop (at + 1) line = sym (take-append-drop at line) ∙ ap (λ (l : List ℕ). take at line ++ l) (drop_more line at 0 h) in
+    ap fields_of whole ∙ slice_split_at (λ b. eqb b 9) front (get_or line at 0) (drop (at + 1) line) (no_tabs front (λ k lt is. none k (omega (arith, long)) (ap (λ (b : ℕ). eqb b 9) (sym (get_or-take at line k 0 (omega (arith, long)))) ∙ is))) tab
+
+-- a line without a tab is one field
+pub fields_alone : (line : List ℕ) → ((k : ℕ) → k < length line → eqb (get_or line k 0) 9 ≡ true → ⊥) → fields_of line ≡ line ∷ []
+fields_alone line none = slice_split_none (λ b. eqb b 9) line (no_tabs line none)
+
+-- what a search for a tab found in a line, or that there is none
+pub found_at : (bytes line : List ℕ) (at : ℕ) → bytes ≡ line → IsFirstByte (is_byte 9) bytes (Some at) → (at < length line) × (eqb (get_or line at 0) 9 ≡ true) × ((k : ℕ) → k < at → eqb (get_or line k 0) 9 ≡ true → ⊥)
+found_at bytes line at is h = subst (λ (l : List ℕ). (at < length l) × (eqb (get_or l at 0) 9 ≡ true) × ((k : ℕ) → k < at → eqb (get_or l k 0) 9 ≡ true → ⊥)) is ((h.0).high, h.1, λ k lt t. (h.0).before k (omega arith) lt t)
+
+pub found_none : (bytes line : List ℕ) → bytes ≡ line → IsFirstByte (is_byte 9) bytes None → (k : ℕ) → k < length line → eqb (get_or line k 0) 9 ≡ true → ⊥
+found_none bytes line is h = subst (λ (l : List ℕ). (k : ℕ) → k < length l → eqb (get_or l k 0) 9 ≡ true → ⊥) is (λ k lt t. h k (omega arith) lt t)
+
+-- a field joins those before
+pub field_joins : (old new : List (Bor (List ℕ))) (field : Bor (List ℕ)) (line rest : List ℕ) (at : ℕ) → at < length line → eqb (get_or line at 0) 9 ≡ true → ((k : ℕ) → k < at → eqb (get_or line k 0) 9 ≡ true → ⊥)
+    → new ≡ old ++ field ∷ [] → field.now ≡ take at line → rest ≡ drop (at + 1) line → shown new ++ fields_of rest ≡ shown old ++ fields_of line
+field_joins old new field line rest at h tab none pushed is left =
+    ap (λ (l : List (Bor (List ℕ))). shown l ++ fields_of rest) pushed
+    ∙ ap (λ (l : List (List ℕ)). l ++ fields_of rest) (map-append (λ (b : Bor (List ℕ)). b.now) old (field ∷ []))
+    ∙ append_assoc (shown old) (field.now ∷ []) (fields_of rest)
+    ∙ ap (λ (l : List (List ℕ)). shown old ++ l) ((λ i. is i ∷ fields_of (left i)) ∙ sym (fields_at line at h tab none))

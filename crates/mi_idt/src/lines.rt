@@ -5,7 +5,7 @@ ghost use Rattle.std.specs.List.{slice_split};
 ghost use Rattle.std.specs.Str.Lines.{lines, strip_carriage_return};
 ghost use Rattle.mi_idt.specs.Fields.{fields_of, is_ascii};
 
-use memchr::memchr_iter;
+use memchr::{memchr, memchr_iter};
 use std::alloc::{AllocError, Global};
 
 /// The parts between the bytes that equal `mark`.
@@ -19,7 +19,13 @@ pub fn parts(alloc: Global, bytes: &[u8], mark: u8) -> Result<Vec<&[u8]>, AllocE
 pub fn push_fields<'a>(fields: &mut Vec<&'a str>, line: &'a str) -> Result<(), AllocError>
     ensures { OnOk result (map (λ b. b.now) fields.new.items ≡ map (λ b. b.now) fields.old.items ++ fields_of line.now) }
 {
-    fields.extend(line.split('\t'))
+    let mut rest = line;
+    while let Some(at) = memchr(b'\t', rest.as_bytes()) {
+        fields.push(&rest[..at])?;
+        rest = &rest[at + 1..];
+    }
+    fields.push(rest)?;
+    Ok(())
 }
 
 /// The fields of a line that is text, with room for `count` of them.
