@@ -86,35 +86,36 @@ text_line number line valid = rw (is_utf8-from_IsUtf8 line valid) refl
 pub no_text_line : (number : ℕ) (line : List ℕ) → ¬ (IsUtf8 line) → text_fault number line ≡ Some (NotUtf8 number)
 no_text_line number line none = rw (no_utf8 line none) refl
 
--- ---- the fields of a line, by its tabs
+-- ---- the parts between marks, found one after the other
 
-no_tabs : (bytes : List ℕ) → ((k : ℕ) → k < length bytes → eqb (get_or bytes k 0) 9 ≡ true → ⊥) → All (λ b. eqb b 9 ≡ false) bytes
-no_tabs bytes none = All-from_get_or (λ b. eqb b 9 ≡ false) bytes 0 (λ k h. false_from_ne_true (eqb (get_or bytes k 0) 9) (none k h))
+module _ (mark : ℕ) where
+  no_marks : (bytes : List ℕ) → ((k : ℕ) → k < length bytes → eqb (get_or bytes k 0) mark ≡ true → ⊥) → All (λ b. eqb b mark ≡ false) bytes
+  no_marks bytes none = All-from_get_or (λ b. eqb b mark ≡ false) bytes 0 (λ k h. false_from_ne_true (eqb (get_or bytes k 0) mark) (none k h))
 
--- the first field ends at the first tab
-pub fields_at : (line : List ℕ) (at : ℕ) → at < length line → eqb (get_or line at 0) 9 ≡ true → ((k : ℕ) → k < at → eqb (get_or line k 0) 9 ≡ true → ⊥) → fields_of line ≡ take at line ∷ fields_of (drop (at + 1) line)
-fields_at line at h tab none =
-    let front : List ℕ = take at line in
-    let long : length front ≡ at = length-take-le at line (omega (arith, h)) in
-    let whole : line ≡ front ++ get_or line at 0 ∷ drop (at + 1) line = sym (take-append-drop at line) ∙ ap (λ (l : List ℕ). take at line ++ l) (drop_more line at 0 h) in
-    ap fields_of whole ∙ slice_split_at (λ b. eqb b 9) front (get_or line at 0) (drop (at + 1) line) (no_tabs front (λ k lt is. none k (omega (arith, long)) (ap (λ (b : ℕ). eqb b 9) (sym (get_or-take at line k 0 (omega (arith, long)))) ∙ is))) tab
+  -- the first part ends at the first mark
+  parts_at : (line : List ℕ) (at : ℕ) → at < length line → eqb (get_or line at 0) mark ≡ true → ((k : ℕ) → k < at → eqb (get_or line k 0) mark ≡ true → ⊥) → slice_split (λ b. eqb b mark) line ≡ take at line ∷ slice_split (λ b. eqb b mark) (drop (at + 1) line)
+  parts_at line at h found none =
+      let front : List ℕ = take at line in
+      let long : length front ≡ at = length-take-le at line (omega (arith, h)) in
+      let whole : line ≡ front ++ get_or line at 0 ∷ drop (at + 1) line = sym (take-append-drop at line) ∙ ap (λ (l : List ℕ). take at line ++ l) (drop_more line at 0 h) in
+      ap (slice_split (λ b. eqb b mark)) whole ∙ slice_split_at (λ b. eqb b mark) front (get_or line at 0) (drop (at + 1) line) (no_marks front (λ k lt is. none k (omega (arith, long)) (ap (λ (b : ℕ). eqb b mark) (sym (get_or-take at line k 0 (omega (arith, long)))) ∙ is))) found
 
--- a line without a tab is one field
-pub fields_alone : (line : List ℕ) → ((k : ℕ) → k < length line → eqb (get_or line k 0) 9 ≡ true → ⊥) → fields_of line ≡ line ∷ []
-fields_alone line none = slice_split_none (λ b. eqb b 9) line (no_tabs line none)
+  -- a line without a mark is one part
+  pub part_alone : (line : List ℕ) → ((k : ℕ) → k < length line → eqb (get_or line k 0) mark ≡ true → ⊥) → slice_split (λ b. eqb b mark) line ≡ line ∷ []
+  part_alone line none = slice_split_none (λ b. eqb b mark) line (no_marks line none)
 
--- what a search for a tab found in a line, or that there is none
-pub found_at : (bytes line : List ℕ) (at : ℕ) → bytes ≡ line → IsFirstByte (is_byte 9) bytes (Some at) → (at < length line) × (eqb (get_or line at 0) 9 ≡ true) × ((k : ℕ) → k < at → eqb (get_or line k 0) 9 ≡ true → ⊥)
-found_at bytes line at is h = subst (λ (l : List ℕ). (at < length l) × (eqb (get_or l at 0) 9 ≡ true) × ((k : ℕ) → k < at → eqb (get_or l k 0) 9 ≡ true → ⊥)) is ((h.0).high, h.1, λ k lt t. (h.0).before k (omega arith) lt t)
+  -- what a search for a mark found in a line, or that there is none
+  pub found_at : (bytes line : List ℕ) (at : ℕ) → bytes ≡ line → IsFirstByte (is_byte mark) bytes (Some at) → (at < length line) × (eqb (get_or line at 0) mark ≡ true) × ((k : ℕ) → k < at → eqb (get_or line k 0) mark ≡ true → ⊥)
+  found_at bytes line at is h = subst (λ (l : List ℕ). (at < length l) × (eqb (get_or l at 0) mark ≡ true) × ((k : ℕ) → k < at → eqb (get_or l k 0) mark ≡ true → ⊥)) is ((h.0).high, h.1, λ k lt t. (h.0).before k (omega arith) lt t)
 
-pub found_none : (bytes line : List ℕ) → bytes ≡ line → IsFirstByte (is_byte 9) bytes None → (k : ℕ) → k < length line → eqb (get_or line k 0) 9 ≡ true → ⊥
-found_none bytes line is h = subst (λ (l : List ℕ). (k : ℕ) → k < length l → eqb (get_or l k 0) 9 ≡ true → ⊥) is (λ k lt t. h k (omega arith) lt t)
+  pub found_none : (bytes line : List ℕ) → bytes ≡ line → IsFirstByte (is_byte mark) bytes None → (k : ℕ) → k < length line → eqb (get_or line k 0) mark ≡ true → ⊥
+  found_none bytes line is h = subst (λ (l : List ℕ). (k : ℕ) → k < length l → eqb (get_or l k 0) mark ≡ true → ⊥) is (λ k lt t. h k (omega arith) lt t)
 
--- a field joins those before
-pub field_joins : (old new : List (Bor (List ℕ))) (field : Bor (List ℕ)) (line rest : List ℕ) (at : ℕ) → at < length line → eqb (get_or line at 0) 9 ≡ true → ((k : ℕ) → k < at → eqb (get_or line k 0) 9 ≡ true → ⊥)
-    → new ≡ old ++ field ∷ [] → field.now ≡ take at line → rest ≡ drop (at + 1) line → shown new ++ fields_of rest ≡ shown old ++ fields_of line
-field_joins old new field line rest at h tab none pushed is left =
-    ap (λ (l : List (Bor (List ℕ))). shown l ++ fields_of rest) pushed
-    ∙ ap (λ (l : List (List ℕ)). l ++ fields_of rest) (map-append (λ (b : Bor (List ℕ)). b.now) old (field ∷ []))
-    ∙ append_assoc (shown old) (field.now ∷ []) (fields_of rest)
-    ∙ ap (λ (l : List (List ℕ)). shown old ++ l) ((λ i. is i ∷ fields_of (left i)) ∙ sym (fields_at line at h tab none))
+  -- a part joins those before
+  pub part_joins : (old new : List (Bor (List ℕ))) (part : Bor (List ℕ)) (line rest : List ℕ) (at : ℕ) → at < length line → eqb (get_or line at 0) mark ≡ true → ((k : ℕ) → k < at → eqb (get_or line k 0) mark ≡ true → ⊥)
+      → new ≡ old ++ part ∷ [] → part.now ≡ take at line → rest ≡ drop (at + 1) line → shown new ++ slice_split (λ b. eqb b mark) rest ≡ shown old ++ slice_split (λ b. eqb b mark) line
+  part_joins old new part line rest at h found none pushed is left =
+      ap (λ (l : List (Bor (List ℕ))). shown l ++ slice_split (λ b. eqb b mark) rest) pushed
+      ∙ ap (λ (l : List (List ℕ)). l ++ slice_split (λ b. eqb b mark) rest) (map-append (λ (b : Bor (List ℕ)). b.now) old (part ∷ []))
+      ∙ append_assoc (shown old) (part.now ∷ []) (slice_split (λ b. eqb b mark) rest)
+      ∙ ap (λ (l : List (List ℕ)). shown old ++ l) ((λ i. is i ∷ slice_split (λ b. eqb b mark) (left i)) ∙ sym (parts_at line at h found none))

@@ -12,7 +12,15 @@ use std::alloc::{AllocError, Global};
 pub fn parts(alloc: Global, bytes: &[u8], mark: u8) -> Result<Vec<&[u8]>, AllocError>
     ensures { IfOk result (λ v. map (λ b. b.now) v.items ≡ slice_split (λ b. b == mark) bytes.now) }
 {
-    bytes.split(|byte| *byte == mark).collect(alloc)
+    let mut parts = Vec::with_capacity(alloc, count(bytes, mark) + 1)?;
+    let mut rest = bytes;
+    while let Some(at) = memchr(mark, rest) {
+        let (part, behind) = rest.split_at(at);
+        parts.push(part)?;
+        rest = &behind[1..];
+    }
+    parts.push(rest)?;
+    Ok(parts)
 }
 
 /// Adds the fields of a line that is text.
