@@ -56,9 +56,10 @@ keys_agree columns keys a b p q =
     let count : ℕ = length keys in
     let told : Decides (bytes_eq (row_key columns keys a) (row_key columns keys b)) (key_of keys (row_cells columns a) ≡ key_of keys (row_cells columns b)) = key_text_Decides (map column_value columns) keys (key_of keys (row_cells columns a)) (key_of keys (row_cells columns b)) (raw_row a, row_cells columns a, p.0, refl) (raw_row b, row_cells columns b, q.0, refl) in
     same_bool _ _ (row_front count a ≡ row_front count b)
-    (slice_eq-Decides bytes_eq-Decides (row_front count a) (row_front count b) _ refl)
-    (λ t. p.1 ∙ ap (map written_cell) (told.0 t) ∙ sym q.1,
-     λ e. (bytes_eq-Decides _ _).1 (ap (join_with_byte 9) (sym p.1 ∙ e ∙ q.1)))
+    (slice_eq-Decides bytes_eq-Decides (row_front count a) (row_front count b) _ refl) (
+      λ t. p.1 ∙ ap (map written_cell) (told.0 t) ∙ sym q.1,
+      λ e. (bytes_eq-Decides _ _).1 (ap (join_with_byte 9) (sym p.1 ∙ e ∙ q.1)),
+    )
 
 both : {X : Type 0} (P Q : X → Type 0) (xs : List X) → All P xs → All Q xs → AllByRecursion (λ x. P x × Q x) xs
 both P Q xs p q = recursion_from_All (λ x. P x × Q x) xs (λ k d h. (p k d h, q k d h))

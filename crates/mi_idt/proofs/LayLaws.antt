@@ -1,13 +1,12 @@
 -- The fields of all rows, one row behind the other.
-use Rattle.std.proofs.Common.{◌≡◌, ℕ, zero, suc, ◌+◌, ◌-◌, ◌*◌, ◌<◌, ◌≤◌, List, [], ◌∷◌, ◌++◌, length, map, take, drop, get_or, refl, sym, ap, ◌∙◌, arith, append_assoc, append-nil, Bor}
+use Rattle.std.proofs.Common.{◌≡◌, ℕ, zero, suc, ◌+◌, ◌*◌, ◌<◌, ◌≤◌, List, [], ◌∷◌, ◌++◌, length, map, take, drop, get_or, refl, sym, ap, ◌∙◌, arith, append_assoc, append-nil, Bor}
 use Rattle.std.specs.List.{All, flat_map}
 use Rattle.std.proofs.Math.Nat.{zero-mul, suc-mul}
-use Rattle.std.proofs.lemmas.List.{length-map, length-append, take-map, drop-map, take_at, drop_at, map-append}
+use Rattle.std.proofs.lemmas.List.{length-map, length-append, take-map, drop-map, take_at, drop_at}
 use Rattle.std.proofs.lemmas.List.Concat.{flat_map-append}
 use Rattle.std.proofs.lemmas.List.Elements.{All-head, All-tail}
 use Rattle.mi_idt.specs.declared.table.Column.{Column}
 use Rattle.mi_idt.specs.declared.table.Row.{Row}
-use Rattle.mi_idt.specs.Fields.{fields_of}
 use Rattle.mi_idt.specs.Means.{column_value, raw_row, AreLaid}
 use Rattle.mi_idt.specs.RowKey.{row_cells, IsSpelledRow}
 use Rattle.mi_idt.proofs.Basics.{shown}

@@ -17,7 +17,7 @@ use Rattle.mi_idt.specs.Cells.{ColumnValue}
 use Rattle.mi_idt.specs.Columns.{◌or_else◌}
 use Rattle.mi_idt.specs.Fault.{is_too_large, texts_fault, parts_fault, table_fault, lines_fault, idt_fault}
 use Rattle.mi_idt.specs.Fields.{fields_of}
-use Rattle.mi_idt.specs.Means.{column_value, raw_row, raw, meaning, Stands, IsSpelledBy}
+use Rattle.mi_idt.specs.Means.{column_value, raw_row, raw, meaning, IsRaw, IsSpelledBy}
 use Rattle.mi_idt.specs.Raw.{raw_of_lines, raw_of, value_of}
 use Rattle.mi_idt.specs.Reads.{ReadsTable}
 use Rattle.mi_idt.specs.RowKey.{row_key, IsSpelledRow}
@@ -158,10 +158,10 @@ meaning_is : (t : Table) → meaning t ≡ value_of (raw t)
 unfolding meaning
 meaning_is t = refl
 
-spelled_by : (bytes : List ℕ) (t : Table) → idt_fault bytes ≡ None → Stands t (raw_of bytes) → IsSpelledBy bytes t
+spelled_by : (bytes : List ℕ) (t : Table) → idt_fault bytes ≡ None → IsRaw t (raw_of bytes) → IsSpelledBy bytes t
 spelled_by bytes t none (stands, laid) = record { spells = subst (Spells bytes) (ap value_of (sym stands) ∙ sym (meaning_is t)) (bytes_spell bytes none); stands = stands; laid = laid }
 
-pub reads_table : (r : Result Table IdtError) (bytes : List ℕ) (ls : List (List ℕ)) → length bytes ≤ 16777216 → ls ≡ lines bytes → ReadsPart r (lines_fault ls) (λ t. Stands t (raw_of_lines ls)) → ReadsTable r bytes
+pub reads_table : (r : Result Table IdtError) (bytes : List ℕ) (ls : List (List ℕ)) → length bytes ≤ 16777216 → ls ≡ lines bytes → ReadsPart r (lines_fault ls) (λ t. IsRaw t (raw_of_lines ls)) → ReadsTable r bytes
 reads_table (Ok t) bytes ls small are h =
     let same = by_lines bytes (le-ltb _ _ small) in
     spelled_by bytes t (same ∙ ap lines_fault (sym are) ∙ h.0) (h.1.0 ∙ ap raw_of_lines are ∙ sym (raw_by_lines bytes), h.1.1)

@@ -14,7 +14,7 @@ use Rattle.mi_idt.specs.RowKey.{IsSpelledRow}
 use Rattle.mi_idt.specs.Rows.{cells_of}
 use Rattle.mi_idt.specs.Spells.{SpellsRow, SpellsField, SpellsFields, SpellsInteger}
 use Rattle.mi_idt.proofs.Basics.{and_true, shown}
-use Rattle.mi_idt.proofs.FieldLaws.{are_fields, limit_most}
+use Rattle.mi_idt.proofs.FieldLaws.{limit_most}
 
 -- ---- rows
 

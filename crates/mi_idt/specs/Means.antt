@@ -23,9 +23,9 @@ AreLaid rows fields = map (λ b. b.now) fields ≡ flat_map raw_row rows
 abbrev pub raw : Table → RawTable
 raw t = record { name = t.name.now; page = t.page; columns = map column_value t.columns.items; keys = t.keys.items; rows = map raw_row t.rows.items }
 
--- a table in memory that stands so
-abbrev pub Stands : Table → RawTable → Type 0
-Stands t r = (raw t ≡ r) × AreLaid t.rows.items t.fields.items
+-- a table in memory of these lines, whose fields are laid so
+abbrev pub IsRaw : Table → RawTable → Type 0
+IsRaw t r = (raw t ≡ r) × AreLaid t.rows.items t.fields.items
 
 -- the value of a table in memory
 unfoldable pub meaning : Table → TableValue

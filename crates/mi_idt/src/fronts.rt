@@ -42,7 +42,7 @@ fn are_first(keys: &[u32]) -> bool
     true
 }
 
-/// The fields of a row, from 0, among those of all rows.
+/// The fields of a row, from 0, among those of all rows, which are a `Vec` since its length is bounded.
 pub fn row_fields<'s, 'a>(
     columns: &[Column<'_>],
     rows: &[Row<'_>],

@@ -1,4 +1,4 @@
-use Rattle.std.proofs.Common.{◌≡◌, ◌∙◌, ◌+◌, ◌-◌, ◌*◌, ◌≤◌, ℕ, List, length, take, drop, sym, ap, arith, Bor}
+use Rattle.std.proofs.Common.{◌≡◌, ◌∙◌, ◌+◌, ◌-◌, ◌*◌, ◌≤◌, ℕ, List, length, take, drop, ap, arith, Bor}
 use Rattle.std.proofs.lemmas.List.{length-take, length-drop}
 use Rattle.mi_idt.proofs.Basics.{shown}
 use Rattle.mi_idt.proofs.LayLaws.{row_within, row_there, no_row}

@@ -1,4 +1,4 @@
-use Rattle.std.proofs.Common.{◌≡◌, ◌∙◌, ℕ, Option, List, subst, get_or, IfOk}
+use Rattle.std.proofs.Common.{◌≡◌, ℕ, Option, subst, get_or, IfOk}
 use Rattle.mi_idt.proofs.FrontLaws.{first_by_fronts, long_enough}
 use Rattle.mi_idt.proofs.keys.first_repeat.Goals as goal
 

@@ -1,4 +1,4 @@
-use Rattle.std.proofs.Common.{◌∙◌, ap, List, ℕ, length}
+use Rattle.std.proofs.Common.{◌∙◌, ap, length}
 use Rattle.memchr.specs.Find.{is_byte}
 use Rattle.mi_idt.proofs.Counts.{places_counted}
 use Rattle.mi_idt.proofs.lines.count.Goals as goal

@@ -1,4 +1,4 @@
-use Rattle.std.proofs.Common.{◌≡◌, ◌∙◌, ◌++◌, ◌∷◌, List, [], ℕ, map, sym, ap, arith, append-nil, Bor}
+use Rattle.std.proofs.Common.{◌≡◌, ◌∙◌, ◌++◌, ◌∷◌, List, [], ℕ, map, sym, ap, arith, append-nil}
 use Rattle.std.specs.Str.Lines.{lines_of_parts, strip_carriage_return}
 use Rattle.std.proofs.lemmas.List.{nil_from_length}
 use Rattle.mi_idt.proofs.Basics.{shown}

@@ -2,7 +2,6 @@ use Rattle.std.proofs.Common.{◌≡◌, ◌∙◌, ◌++◌, ◌-◌, ℕ, List
 use Rattle.std.specs.Str.{IsUtf8}
 use Rattle.std.proofs.lemmas.List.{map-append}
 use Rattle.std.proofs.lemmas.Str.{IsCharBoundary-after_ascii}
-use Rattle.mi_idt.specs.Fields.{fields_of}
 use Rattle.mi_idt.proofs.Basics.{shown}
 use Rattle.mi_idt.proofs.LineLemmas.{found_at, found_none, part_joins, part_alone}
 use Rattle.mi_idt.proofs.lines.push_fields.Goals as goal

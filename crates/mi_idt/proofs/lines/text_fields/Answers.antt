@@ -1,4 +1,4 @@
-use Rattle.std.proofs.Common.{◌∙◌, ◌++◌, List, ℕ, ap}
+use Rattle.std.proofs.Common.{◌∙◌, ◌++◌, ap}
 use Rattle.mi_idt.proofs.Basics.{shown}
 use Rattle.mi_idt.specs.Fields.{fields_of}
 use Rattle.mi_idt.proofs.lines.text_fields.Goals as goal

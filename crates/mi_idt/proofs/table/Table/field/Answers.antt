@@ -1,4 +1,4 @@
-use Rattle.std.proofs.Common.{◌≡◌, ◌∙◌, ◌<◌, sym, ap, arith, subst, List, [], ℕ, length, get_or, IfOk, IsOk, Some, option_map, Bor}
+use Rattle.std.proofs.Common.{◌≡◌, ◌∙◌, ◌<◌, sym, ap, arith, subst, List, ℕ, length, get_or, IfOk, IsOk, Some, option_map, Bor}
 use Rattle.std.specs.Cow.{cow_str_bytes}
 use Rattle.std.specs.List.{All}
 use Rattle.std.proofs.lemmas.List.{length-map}
@@ -7,7 +7,6 @@ use Rattle.mi_idt.specs.declared.table.Row.{Row}
 use Rattle.mi_idt.specs.Raw.{text_of, field_at}
 use Rattle.mi_idt.specs.Means.{raw, raw_row, AreLaid, cell_at, meaning}
 use Rattle.mi_idt.specs.RowKey.{IsSpelledRow}
-use Rattle.mi_idt.proofs.Basics.{shown}
 use Rattle.mi_idt.proofs.LayLaws.{row_wide, no_row}
 use Rattle.mi_idt.proofs.Spelled.{rows_spelled, field_is, shows_at, shows_so}
 use Rattle.mi_idt.proofs.table.Table.field.Goals as goal
