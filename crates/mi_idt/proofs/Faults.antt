@@ -12,7 +12,7 @@ use Rattle.mi_idt.specs.Fields.{fields_of}
 use Rattle.mi_idt.specs.Head.{head_fault, page_of, after_page, keys_in, places_of}
 use Rattle.mi_idt.specs.HasParts.{HasParts}
 use Rattle.mi_idt.specs.HeadIs.{HeadIs}
-use Rattle.mi_idt.specs.Means.{column_value, raw}
+use Rattle.mi_idt.specs.Means.{column_value, IsRaw}
 use Rattle.mi_idt.specs.Raw.{raw_of_lines}
 use Rattle.mi_idt.specs.Steps.{IsFirst, ReadsPart}
 
@@ -64,15 +64,17 @@ parts_past names definitions head rows ns are named defined headed =
 -- the parts that were read make the table that stands there
 pub parts_read : (t : Table) (h : Head) (columns : List Column) (names definitions head : List ℕ) (lines : List (List ℕ)) (ns : List (List ℕ)) → ns ≡ fields_of names
     → map column_value columns ≡ columns_in ns (fields_of definitions) → HeadIs h ns (fields_of head) → HasParts t h columns lines
-    → raw t ≡ raw_of_lines (names ∷ definitions ∷ head ∷ lines)
-parts_read t h columns names definitions head lines ns are cs said parts =
-    parts ∙ (λ i. record {
-      name = said.1 i;
-      page = said.0 i;
-      columns = (cs ∙ ap (λ (l : List (List ℕ)). columns_in l (fields_of definitions)) are) i;
-      keys = (said.2 ∙ ap (λ (l : List (List ℕ)). places_of l (keys_in (after_page (fields_of head)))) are) i;
-      rows = map fields_of lines;
-    })
+    → IsRaw t (raw_of_lines (names ∷ definitions ∷ head ∷ lines))
+parts_read t h columns names definitions head lines ns are cs said parts = (
+  parts.0 ∙ (λ i. record {
+    name = said.1 i;
+    page = said.0 i;
+    columns = (cs ∙ ap (λ (l : List (List ℕ)). columns_in l (fields_of definitions)) are) i;
+    keys = (said.2 ∙ ap (λ (l : List (List ℕ)). places_of l (keys_in (after_page (fields_of head)))) are) i;
+    rows = map fields_of lines;
+  }),
+  parts.1,
+)
 
 pub body_same : (h : Head) (columns : List Column) (names definitions head : List ℕ) (lines : List (List ℕ)) (ns : List (List ℕ))
     → map column_value columns ≡ columns_in ns (fields_of definitions) → HeadIs h ns (fields_of head)

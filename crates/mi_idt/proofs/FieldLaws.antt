@@ -44,7 +44,7 @@ field_is c row place (b ∷ bs) e =
           ]
     ]
 
-is_field : (c : ColumnValue) (row place : ℕ) (field : List ℕ) (x : Cell) → SpellsField c field x → (field_fault c row place field ≡ None) × (x ≡ cell_of c field)
+pub is_field : (c : ColumnValue) (row place : ℕ) (field : List ℕ) (x : Cell) → SpellsField c field x → (field_fault c row place field ≡ None) × (x ≡ cell_of c field)
 is_field c row place [] Nothing s = (rw s.1 refl, refl)
 is_field c row place (b ∷ bs) Nothing s = absurd (cons_not b bs s.0)
 is_field c row place [] (Text t) s = absurd (s.0 refl)

@@ -1,10 +1,10 @@
 -- Parts joined by tabs, as the writer adds them one by one.
-use Rattle.std.proofs.Common.{◌≡◌, ℕ, zero, suc, ◌+◌, ◌<◌, ◌≤◌, List, [], ◌∷◌, ◌++◌, length, map, drop, get_or, eqb, Bool, true, false, ◌||◌, ◌⊎◌, cond, take, nat_cmp, inl, inr, Some, refl, sym, ap, ◌∙◌, arith, append_assoc, append-nil, Bor}
+use Rattle.std.proofs.Common.{◌≡◌, ℕ, zero, suc, ◌+◌, ◌<◌, ◌≤◌, List, [], ◌∷◌, ◌++◌, length, map, drop, get_or, eqb, Bool, true, false, not, ◌||◌, ◌⊎◌, cond, take, nat_cmp, inl, inr, Some, refl, sym, ap, ◌∙◌, arith, append_assoc, append-nil, Bor}
 use Rattle.std.specs.List.{join_with_byte, list_any}
 use Rattle.std.specs.BTreeSet.{BTreeSet, contains_by, UpdatesBy}
 use Rattle.std.specs.Cmp.Lexicographic.{slice_cmp}
 use Rattle.std.specs.Str.{bytes_eq}
-use Rattle.std.proofs.lemmas.List.{drop_more, drop_all, take_more, map-append, length-map, get_or-map}
+use Rattle.std.proofs.lemmas.List.{drop_more, drop_all, map_more, length-map, get_or-map}
 use Rattle.std.proofs.lemmas.List.Folds.{list_any-append}
 use Rattle.std.proofs.lemmas.Map.Text.{is_eq-slice_cmp}
 use Rattle.std.proofs.lemmas.Slice.Eq.{bytes_eq-Decides}
@@ -14,7 +14,7 @@ use Rattle.mi_idt.specs.Cells.{Cell, Nothing, ColumnValue, key_of}
 use Rattle.mi_idt.specs.declared.table.Column.{Column}
 use Rattle.mi_idt.specs.Means.{column_value}
 use Rattle.mi_idt.specs.Rows.{cell_of, cells_of}
-use Rattle.mi_idt.specs.Texts.{separator, tabbed, repeat_of}
+use Rattle.mi_idt.specs.Texts.{separator, tabbed, repeat_by}
 use Rattle.mi_idt.specs.Written.{written_cell, written_row, written_definition}
 use Rattle.mi_idt.proofs.NameLemmas.{bytes_eq-sym}
 
@@ -90,19 +90,32 @@ key_is cells keys i out end same = parts_end (key_part cells) keys i i out (tabb
 
 -- ---- the first text that stands twice
 
-map_more : {A : Type 0} (f : A → List ℕ) (xs : List A) (i : ℕ) (d : A) → i < length xs → map f (take (i + 1) xs) ≡ map f (take i xs) ++ f (get_or xs i d) ∷ []
-map_more f xs i d h = ap (map f) (take_more xs i d h) ∙ map-append f (take i xs) (get_or xs i d ∷ [])
+pub repeat_next : {A X : Type 0} (same : X → X → Bool) (f : A → X) (xs : List A) (i : ℕ) (d : A) → i < length xs → list_any (same (f (get_or xs i d))) (map f (take i xs)) ≡ false
+    → repeat_by same (map f (take i xs)) (i + 1) (map f (drop i xs)) ≡ repeat_by same (map f (take (i + 1) xs)) (i + 1 + 1) (map f (drop (i + 1) xs))
+repeat_next {A} {X} same f xs i d in_range fresh =
+    let x : X = f (get_or xs i d) in
+    let step : repeat_by same (map f (take i xs)) (i + 1) (x ∷ map f (drop (i + 1) xs)) ≡ repeat_by same (map f (take i xs) ++ x ∷ []) (i + 1 + 1) (map f (drop (i + 1) xs)) = rw fresh refl in
+    ap (λ (ys : List A). repeat_by same (map f (take i xs)) (i + 1) (map f ys)) (drop_more xs i d in_range) ∙ step
+    ∙ ap (λ (ts : List X). repeat_by same ts (i + 1 + 1) (map f (drop (i + 1) xs))) (sym (map_more f xs i d in_range))
 
-pub repeat_next : {A : Type 0} (f : A → List ℕ) (xs : List A) (i : ℕ) (d : A) → i < length xs → list_any (bytes_eq (f (get_or xs i d))) (map f (take i xs)) ≡ false
-    → repeat_of (map f (take i xs)) (i + 1) (map f (drop i xs)) ≡ repeat_of (map f (take (i + 1) xs)) (i + 1 + 1) (map f (drop (i + 1) xs))
-repeat_next {A} f xs i d in_range fresh =
-    let x : List ℕ = f (get_or xs i d) in
-    let step : repeat_of (map f (take i xs)) (i + 1) (x ∷ map f (drop (i + 1) xs)) ≡ repeat_of (map f (take i xs) ++ x ∷ []) (i + 1 + 1) (map f (drop (i + 1) xs)) = rw fresh refl in
-    ap (λ (ys : List A). repeat_of (map f (take i xs)) (i + 1) (map f ys)) (drop_more xs i d in_range) ∙ step
-    ∙ ap (λ (ts : List (List ℕ)). repeat_of ts (i + 1 + 1) (map f (drop (i + 1) xs))) (sym (map_more f xs i d in_range))
+pub repeat_here : {A X : Type 0} (same : X → X → Bool) (f : A → X) (xs : List A) (i : ℕ) (d : A) → i < length xs → list_any (same (f (get_or xs i d))) (map f (take i xs)) ≡ true → repeat_by same (map f (take i xs)) (i + 1) (map f (drop i xs)) ≡ Some (i + 1)
+repeat_here {A} same f xs i d in_range held = ap (λ (ys : List A). repeat_by same (map f (take i xs)) (i + 1) (map f ys)) (drop_more xs i d in_range) ∙ rw held refl
 
-pub repeat_here : {A : Type 0} (f : A → List ℕ) (xs : List A) (i : ℕ) (d : A) → i < length xs → list_any (bytes_eq (f (get_or xs i d))) (map f (take i xs)) ≡ true → repeat_of (map f (take i xs)) (i + 1) (map f (drop i xs)) ≡ Some (i + 1)
-repeat_here {A} f xs i d in_range held = ap (λ (ys : List A). repeat_of (map f (take i xs)) (i + 1) (map f ys)) (drop_more xs i d in_range) ∙ rw held refl
+-- what an insertion into a set says of the key
+pub absent : (a b : Bool) → a ≡ not b → a ≡ true → b ≡ false
+absent a true e t = absurd cc
+absent a false e t = refl
+
+pub present : (a b : Bool) → a ≡ not b → a ≡ false → b ≡ true
+present a true e t = refl
+present a false e t = absurd cc
+
+-- a key joins the set either way round
+pub swapped : (a b c : Bool) → a ≡ b → cond a true c ≡ (c || (b || false))
+swapped true true c e = grind arith
+swapped false false c e = grind arith
+swapped true false c e = absurd cc
+swapped false true c e = absurd cc
 
 -- the set after a text joined it
 pub held_next : {A : Type 0} (f : A → List ℕ) (xs : List A) (i : ℕ) (d : A) (seen after : BTreeSet (List ℕ)) → i < length xs → ((q : List ℕ) → contains_by (slice_cmp nat_cmp q) seen ≡ list_any (bytes_eq q) (map f (take i xs)))
@@ -120,12 +133,6 @@ held_next f xs i d seen after in_range held updates q =
       | inl t ↦ t ∙ sym ((bytes_eq-Decides q x).1 (sym ((bytes_eq-Decides x q).0 t)))
       | inr f ↦ f ∙ sym (bytes_eq-sym x q f)
     ]
-
-    swapped : (a b c : Bool) → a ≡ b → cond a true c ≡ (c || (b || false))
-    swapped true true c e = grind arith
-    swapped false false c e = grind arith
-    swapped true false c e = absurd cc
-    swapped false true c e = absurd cc
 
 -- ---- the definitions of the columns
 

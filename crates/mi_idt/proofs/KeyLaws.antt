@@ -44,7 +44,7 @@ cell_Decides (Number m) (Text b) = (λ t. absurd cc, λ e. absurd cc)
 pub key_Decides : (a b : List Cell) → Decides (same_key a b) (a ≡ b)
 key_Decides a b = slice_eq-Decides cell_Decides a b (same_key a b) refl
 
-same_bool : (a b : Bool) (P : Type 0) → Decides a P → Decides b P → a ≡ b
+pub same_bool : (a b : Bool) (P : Type 0) → Decides a P → Decides b P → a ≡ b
 same_bool true b P d e = sym (e.1 (d.0 refl))
 same_bool false true P d e = d.1 (e.0 refl)
 same_bool false false P d e = refl

@@ -1,5 +1,6 @@
 pub mod Basics
 pub mod LineLemmas
+pub mod Counts
 pub mod Numbers
 pub mod HeadLemmas
 pub mod NameLemmas
@@ -10,10 +11,13 @@ pub mod Pairs
 pub mod FieldLaws
 pub mod Splits
 pub mod KeyLaws
+pub mod FrontLaws
+pub mod LayLaws
 pub mod ColumnLaws
 pub mod HeadLaws
 pub mod TableLaws
 pub mod ReadLemmas
 pub mod Spelled
+pub mod StandLaws
 pub mod WriteLemmas
 pub mod WriteLaws

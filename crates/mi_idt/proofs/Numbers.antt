@@ -17,7 +17,7 @@ abbrev pub capped_on : ℕ → List ℕ → Option ℕ
 capped_on n [] = Some n
 capped_on n (d ∷ ds) = cond (is_digit d) (capped_on (min (n * 10 + (d - 48)) 4294967295) ds) None
 
-number_on-le : (n : ℕ) (ds : List ℕ) → n ≤ number_on n ds
+pub number_on-le : (n : ℕ) (ds : List ℕ) → n ≤ number_on n ds
 number_on-le n [] = omega arith
 number_on-le n (d ∷ ds) = omega (arith, number_on-le (n * 10 + (d - 48)) ds)
 
@@ -90,7 +90,7 @@ integer_is limit (b ∷ bs) z e =
           inl (m.0, r.0, r.1, m.2)
     ]
 
-digit_no_minus : (b : ℕ) → is_digit b ≡ true → eqb b 45 ≡ false
+pub digit_no_minus : (b : ℕ) → is_digit b ≡ true → eqb b 45 ≡ false
 digit_no_minus b e = elim (cases_Bool (eqb b 45)) [ inl t ↦ let no : is_digit b ≡ false = ap is_digit (eqb-true b 45 t) in absurd cc | inr f ↦ f ]
 
 pub is_integer : (limit : ℕ) (field : List ℕ) (z : ℤ) → SpellsInteger limit field z → integer_within limit field ≡ Some z

@@ -1,9 +1,10 @@
 -- What the top of the reader needs.
 use Rattle.std.proofs.Common.{◌≡◌, ℕ, ◌+◌, ◌-◌, ◌<◌, ◌≤◌, eqb, ltb, Bool, true, false, cond, List, [], ◌∷◌, length, map, take, drop, get_or, Option, Some, None, option_map, Result, Ok, Err, refl, sym, ap, subst, ◌∙◌, arith, inl, inr, Bor}
-use Rattle.std.specs.List.{AllZip, slice_split, count_by}
+use Rattle.std.specs.List.{All, AllZip, AllByRecursion, slice_split, count_by}
 use Rattle.std.specs.Str.Lines.{lines, lines_of_parts}
 use Rattle.std.proofs.lemmas.Bool.{cases_Bool, ltb-false, lt-ltb, le-ltb}
 use Rattle.std.proofs.lemmas.List.{length-map, take_all}
+use Rattle.std.proofs.lemmas.List.Elements.{All-from_recursion}
 use Rattle.std.proofs.lemmas.List.Splits.{length-slice_split}
 use Rattle.mi_text.specs.declared.answers.IdtFault.{IdtFault}
 use Rattle.mi_text.specs.declared.answers.IdtFault.TheVariants.{TooLarge, TooFewLines, TwoKeys}
@@ -16,12 +17,12 @@ use Rattle.mi_idt.specs.Cells.{ColumnValue}
 use Rattle.mi_idt.specs.Columns.{◌or_else◌}
 use Rattle.mi_idt.specs.Fault.{is_too_large, texts_fault, parts_fault, table_fault, lines_fault, idt_fault}
 use Rattle.mi_idt.specs.Fields.{fields_of}
-use Rattle.mi_idt.specs.Means.{column_value, raw_row, raw, meaning, IsSpelledBy}
+use Rattle.mi_idt.specs.Means.{column_value, raw_row, raw, meaning, IsRaw, IsSpelledBy}
 use Rattle.mi_idt.specs.Raw.{raw_of_lines, raw_of, value_of}
 use Rattle.mi_idt.specs.Reads.{ReadsTable}
-use Rattle.mi_idt.specs.RowKey.{row_key}
-use Rattle.mi_idt.specs.Rows.{rows_fault, repeat_fault, keys_of}
-use Rattle.mi_idt.specs.Spells.{Spells, SpellsRow}
+use Rattle.mi_idt.specs.RowKey.{row_key, IsSpelledRow}
+use Rattle.mi_idt.specs.Rows.{cells_of, rows_fault, repeat_fault, keys_of}
+use Rattle.mi_idt.specs.Spells.{Spells, SpellsRow, SpellsFields}
 use Rattle.mi_idt.specs.Steps.{ReadsPart}
 use Rattle.mi_idt.specs.Texts.{repeat_of}
 use Rattle.mi_idt.specs.Written.{written_row}
@@ -40,6 +41,18 @@ keys_known page cs keys (line ∷ lines) s = ((fields_of line, cells_in cs line,
 key_rows : (columns : List Column) (keys : List ℕ) (rows : List Row) → map written_row (keys_of (map column_value columns) keys (map raw_row rows)) ≡ map (row_key columns keys) rows
 key_rows columns keys [] = refl
 key_rows columns keys (r ∷ rows) = ap (λ (l : List (List ℕ)). row_key columns keys r ∷ l) (key_rows columns keys rows)
+
+-- rows that were read without a fault spell their cells
+spelled_rows : (page : Option ℕ) (columns : List Column) (rows : List Row) (lines : List (List ℕ)) → map raw_row rows ≡ map fields_of lines → AllZip (SpellsRow page (map column_value columns)) lines (map (cells_in (map column_value columns)) lines) → AllByRecursion (IsSpelledRow columns) rows
+spelled_rows page columns [] lines same s = tt
+spelled_rows page columns (r ∷ rows) [] same s = absurd cc
+spelled_rows page columns (r ∷ rows) (line ∷ lines) same s =
+    let here : raw_row r ≡ fields_of line = cc in
+    let rest : map raw_row rows ≡ map fields_of lines = cc in
+    (subst (λ (fs : List (List ℕ)). SpellsFields (map column_value columns) fs (cells_of (map column_value columns) fs)) (sym here) s.0.1, spelled_rows page columns rows lines rest s.1)
+
+pub rows_spelled : (page : Option ℕ) (columns : List Column) (rows : List Row) (lines : List (List ℕ)) → map raw_row rows ≡ map fields_of lines → rows_fault page (map column_value columns) 1 lines ≡ None → All (IsSpelledRow columns) rows
+rows_spelled page columns rows lines read none = All-from_recursion (IsSpelledRow columns) rows (spelled_rows page columns rows lines read (rows_are page (map column_value columns) 1 lines none))
 
 pub body_repeat : (page : Option ℕ) (columns : List Column) (keys : List ℕ) (rows : List Row) (lines : List (List ℕ)) → map raw_row rows ≡ map fields_of lines → rows_fault page (map column_value columns) 1 lines ≡ None
     → repeat_fault [] 1 (keys_of (map column_value columns) keys (map fields_of lines)) ≡ option_map TwoKeys (repeat_of [] 1 (map (row_key columns keys) rows))
@@ -145,12 +158,12 @@ meaning_is : (t : Table) → meaning t ≡ value_of (raw t)
 unfolding meaning
 meaning_is t = refl
 
-spelled_by : (bytes : List ℕ) (t : Table) → idt_fault bytes ≡ None → raw t ≡ raw_of bytes → IsSpelledBy bytes t
-spelled_by bytes t none stands = record { spells = subst (Spells bytes) (ap value_of (sym stands) ∙ sym (meaning_is t)) (bytes_spell bytes none); stands = stands }
+spelled_by : (bytes : List ℕ) (t : Table) → idt_fault bytes ≡ None → IsRaw t (raw_of bytes) → IsSpelledBy bytes t
+spelled_by bytes t none (stands, laid) = record { spells = subst (Spells bytes) (ap value_of (sym stands) ∙ sym (meaning_is t)) (bytes_spell bytes none); stands = stands; laid = laid }
 
-pub reads_table : (r : Result Table IdtError) (bytes : List ℕ) (ls : List (List ℕ)) → length bytes ≤ 16777216 → ls ≡ lines bytes → ReadsPart r (lines_fault ls) (λ t. raw t ≡ raw_of_lines ls) → ReadsTable r bytes
+pub reads_table : (r : Result Table IdtError) (bytes : List ℕ) (ls : List (List ℕ)) → length bytes ≤ 16777216 → ls ≡ lines bytes → ReadsPart r (lines_fault ls) (λ t. IsRaw t (raw_of_lines ls)) → ReadsTable r bytes
 reads_table (Ok t) bytes ls small are h =
     let same = by_lines bytes (le-ltb _ _ small) in
-    spelled_by bytes t (same ∙ ap lines_fault (sym are) ∙ h.0) (h.1 ∙ ap raw_of_lines are ∙ sym (raw_by_lines bytes))
+    spelled_by bytes t (same ∙ ap lines_fault (sym are) ∙ h.0) (h.1.0 ∙ ap raw_of_lines are ∙ sym (raw_by_lines bytes), h.1.1)
 reads_table (Err error.NoMemory) bytes ls small are h = tt
 reads_table (Err (error.Fault f)) bytes ls small are h = by_lines bytes (le-ltb _ _ small) ∙ ap lines_fault (sym are) ∙ h

@@ -10,10 +10,11 @@ use Rattle.mi_idt.specs.Columns.{limit_of}
 use Rattle.mi_idt.specs.Fields.{fields_of, unescaped, is_digit}
 use Rattle.mi_idt.specs.Means.{column_value, raw_row, raw, meaning, IsSpelledBy, cell_at, Shows}
 use Rattle.mi_idt.specs.Raw.{raw_of_lines, raw_of, field_at, text_of}
+use Rattle.mi_idt.specs.RowKey.{IsSpelledRow}
 use Rattle.mi_idt.specs.Rows.{cells_of}
 use Rattle.mi_idt.specs.Spells.{SpellsRow, SpellsField, SpellsFields, SpellsInteger}
-use Rattle.mi_idt.proofs.Basics.{and_true}
-use Rattle.mi_idt.proofs.FieldLaws.{are_fields, limit_most}
+use Rattle.mi_idt.proofs.Basics.{and_true, shown}
+use Rattle.mi_idt.proofs.FieldLaws.{limit_most}
 
 -- ---- rows
 
@@ -47,33 +48,28 @@ row_spells bytes t s row h =
     let spelled = zip_at (SpellsRow t.page cs) lines cells row [] [] (row_cells bytes t s) within in
     subst (λ (rows : List (List Cell)). SpellsFields cs (get_or (map raw_row t.rows.items) row []) (get_or rows row [])) (sym (meaning_rows t)) (subst (λ (fs : List (List ℕ)). SpellsFields cs fs (get_or cells row [])) fields spelled.1)
 
-pub rows_long : (bytes : List ℕ) (t : Table) → IsSpelledBy bytes t → All (λ r. length r.fields.items ≡ length t.columns.items) t.rows.items
-rows_long bytes t s k d h =
-    let r : Row = get_or t.rows.items k d in
-    let is : get_or (map raw_row t.rows.items) k [] ≡ raw_row r = get_or-map raw_row t.rows.items k d [] h in
-    let same = (are_fields 0 0 (map column_value t.columns.items) (get_or (map raw_row t.rows.items) k []) (get_or (meaning t).rows k []) (row_spells bytes t s k h)).2 in
-    omega (arith, same, ap length is, length-map r.fields.items (λ (b : Bor (List ℕ)). b.now), length-map t.columns.items column_value)
+pub rows_spelled : (bytes : List ℕ) (t : Table) → IsSpelledBy bytes t → All (IsSpelledRow t.columns.items) t.rows.items
+unfolding meaning
+rows_spelled bytes t s k d h =
+    let cs : List ColumnValue = map column_value t.columns.items in
+    let row : get_or (map raw_row t.rows.items) k [] ≡ raw_row (get_or t.rows.items k d) = get_or-map raw_row t.rows.items k d [] h in
+    let cells : get_or (map (cells_of cs) (map raw_row t.rows.items)) k [] ≡ cells_of cs (raw_row (get_or t.rows.items k d)) = get_or-map (cells_of cs) (map raw_row t.rows.items) k [] [] (omega (arith, h, length-map t.rows.items raw_row)) ∙ ap (cells_of cs) row in
+    subst (SpellsFields cs (raw_row (get_or t.rows.items k d))) cells (subst (λ (fs : List (List ℕ)). SpellsFields cs fs (get_or (map (cells_of cs) (map raw_row t.rows.items)) k [])) row (row_spells bytes t s k h))
 
 -- ---- fields
 
-spelled_at : (cs : List ColumnValue) (fs : List (List ℕ)) (xs : List Cell) (i : ℕ) (c : ColumnValue) → SpellsFields cs fs xs → i < length cs → SpellsField (get_or cs i c) (get_or fs i []) (get_or xs i Nothing)
+pub spelled_at : (cs : List ColumnValue) (fs : List (List ℕ)) (xs : List Cell) (i : ℕ) (c : ColumnValue) → SpellsFields cs fs xs → i < length cs → SpellsField (get_or cs i c) (get_or fs i []) (get_or xs i Nothing)
 spelled_at [] fs xs i c s h = absurd (omega arith)
 spelled_at (k ∷ cs) [] xs i c s h = absurd s
 spelled_at (k ∷ cs) (f ∷ fs) [] i c s h = absurd s
 spelled_at (k ∷ cs) (f ∷ fs) (x ∷ xs) zero c s h = s.0
 spelled_at (k ∷ cs) (f ∷ fs) (x ∷ xs) (suc i) c s h = spelled_at cs fs xs i c s.1 (omega arith)
 
--- a row that was read has a field for each column
-pub in_row : (bytes : List ℕ) (t : Table) → IsSpelledBy bytes t → (row column : ℕ) (r : Row) → r ≡ get_or t.rows.items row r → row < length t.rows.items → column < length t.columns.items → column < length r.fields.items
-in_row bytes t s row column r is h within = let long = rows_long bytes t s row r h in omega (arith, long, ap (λ (r : Row). length r.fields.items) is)
-
--- a field that was read in it
-pub field_is : (bytes : List ℕ) (t : Table) → IsSpelledBy bytes t → (row column : ℕ) (r : Row) (f : Bor (List ℕ)) → r ≡ get_or t.rows.items row r → f ≡ get_or r.fields.items column f → row < length t.rows.items → column < length t.columns.items → f.now ≡ field_at (raw t) row column
-field_is bytes t s row column r f is_row is_field h within =
-    ap (λ (b : Bor (List ℕ)). b.now) is_field
-    ∙ sym (get_or-map (λ (b : Bor (List ℕ)). b.now) r.fields.items column f [] (in_row bytes t s row column r is_row h within))
-    ∙ ap (λ (r : Row). get_or (raw_row r) column []) is_row
-    ∙ ap (λ (fs : List (List ℕ)). get_or fs column []) (sym (get_or-map raw_row t.rows.items row r [] h))
+-- a field of a row that was read
+pub field_is : (t : Table) (row column : ℕ) (d : Row) (fields : List (Bor (List ℕ))) (e : Bor (List ℕ)) → shown fields ≡ raw_row (get_or t.rows.items row d) → row < length t.rows.items → column < length fields → (get_or fields column e).now ≡ field_at (raw t) row column
+field_is t row column d fields e read h within =
+    sym (get_or-map (λ (b : Bor (List ℕ)). b.now) fields column e [] within)
+    ∙ ap (λ (fs : List (List ℕ)). get_or fs column []) (read ∙ sym (get_or-map raw_row t.rows.items row d [] h))
 
 -- ---- what is shown
 

@@ -15,5 +15,7 @@ pub mod HeadIs
 pub mod Texts
 pub mod TextsRead
 pub mod RowKey
+pub mod Stands
 pub mod HasParts
+pub mod Read
 pub mod Fronts

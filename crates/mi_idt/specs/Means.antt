@@ -1,21 +1,31 @@
 -- What a table in memory means.
 use Rattle.std.specs.Prelude.{◌≡◌, ℕ, List, [], map, Option, Some, None}
-use Rattle.std.specs.List.{slice_index_or}
+use Rattle.std.specs.List.{slice_index_or, flat_map}
 use Rattle.mi_idt.specs.declared.table.Column.{Column}
 use Rattle.mi_idt.specs.declared.table.Row.{Row}
 use Rattle.mi_idt.specs.declared.table.Table.{Table}
 use Rattle.mi_idt.specs.Cells.{Cell, Nothing, Text, Number, ColumnValue, TableValue}
+use Rattle.mi_idt.specs.Fields.{fields_of}
 use Rattle.mi_idt.specs.Raw.{RawTable, raw_of, value_of}
 use Rattle.mi_idt.specs.Spells.{Spells, SpellsInteger}
+use denote.Ref.{Bor}
 
 abbrev pub column_value : Column → ColumnValue
 column_value c = record { name = c.name.now; letter = c.letter; width = c.width }
 
 abbrev pub raw_row : Row → List (List ℕ)
-raw_row r = map (λ b. b.now) r.fields.items
+raw_row r = fields_of r.line.now
+
+-- the fields of all rows, one row behind the other
+abbrev pub AreLaid : List Row → List (Bor (List ℕ)) → Type 0
+AreLaid rows fields = map (λ b. b.now) fields ≡ flat_map raw_row rows
 
 abbrev pub raw : Table → RawTable
 raw t = record { name = t.name.now; page = t.page; columns = map column_value t.columns.items; keys = t.keys.items; rows = map raw_row t.rows.items }
+
+-- a table in memory of these lines, whose fields are laid so
+abbrev pub IsRaw : Table → RawTable → Type 0
+IsRaw t r = (raw t ≡ r) × AreLaid t.rows.items t.fields.items
 
 -- the value of a table in memory
 unfoldable pub meaning : Table → TableValue
@@ -25,6 +35,7 @@ meaning t = value_of (raw t)
 pub record IsSpelledBy (bytes : List ℕ) (t : Table) : Type 0 where
   pub spells : Spells bytes (meaning t)
   pub stands : raw t ≡ raw_of bytes
+  pub laid : AreLaid t.rows.items t.fields.items
 
 -- some bytes spell it
 abbrev pub IsSpelled : Table → Type 0

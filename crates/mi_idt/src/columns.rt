@@ -82,6 +82,6 @@ pub fn read_columns<'a>(
     if count_fields(line.as_bytes()) != names.len() {
         return Err(IdtError::Fault(IdtFault::ColumnCount(2)));
     }
-    let definitions = text_fields(alloc, line)?;
+    let definitions = text_fields(alloc, line, names.len())?;
     read_definitions(alloc, names, &definitions)
 }

@@ -8,7 +8,7 @@ ghost use Rattle.mi_idt.specs.Columns.{place_of};
 ghost use Rattle.mi_idt.specs.HeadIs.{NamedIs, HeadIs, PageReads, IsNewPlace};
 ghost use Rattle.mi_idt.specs.Steps.{IsFirst, ReadsPart};
 
-use crate::lines::text_fields;
+use crate::lines::{count_fields, text_fields};
 use crate::names::Names;
 use crate::number::numeral;
 use crate::table::IdtError;
@@ -105,7 +105,7 @@ fn read_named<'a>(
 pub fn read_head<'a>(alloc: Global, line: &'a str, names: &Names<'_>) -> Result<Head<'a>, IdtError>
     ensures { ReadsPart result (head_fault (map (λ b. b.now) names.now.list.items) (fields_of line.now)) (λ h. HeadIs h (map (λ b. b.now) names.now.list.items) (fields_of line.now)) }
 {
-    let fields = text_fields(alloc, line)?;
+    let fields = text_fields(alloc, line, count_fields(line.as_bytes()))?;
     let [first, rest @ ..] = fields.as_slice() else {
         return Err(no_key(alloc));
     };

@@ -3,6 +3,7 @@
 
 mod columns;
 mod escape;
+mod fronts;
 mod head;
 mod keys;
 mod laws;
@@ -12,6 +13,7 @@ mod names;
 mod number;
 mod read;
 mod rows;
+mod stands;
 mod table;
 mod write;
 

@@ -1,31 +1,55 @@
 //! Lines and their fields.
 
-ghost use Rattle.std.specs.Prelude.{◌≡◌, ◌==◌, IfOk, length, map, count_by};
+ghost use Rattle.std.specs.Prelude.{◌≡◌, ◌==◌, ◌++◌, IfOk, OnOk, length, map, count_by};
 ghost use Rattle.std.specs.List.{slice_split};
 ghost use Rattle.std.specs.Str.Lines.{lines, strip_carriage_return};
 ghost use Rattle.mi_idt.specs.Fields.{fields_of, is_ascii};
 
+use memchr::{memchr, memchr_iter};
 use std::alloc::{AllocError, Global};
 
 /// The parts between the bytes that equal `mark`.
 pub fn parts(alloc: Global, bytes: &[u8], mark: u8) -> Result<Vec<&[u8]>, AllocError>
     ensures { IfOk result (λ v. map (λ b. b.now) v.items ≡ slice_split (λ b. b == mark) bytes.now) }
 {
-    bytes.split(|byte| *byte == mark).collect(alloc)
+    let mut parts = Vec::with_capacity(alloc, count(bytes, mark) + 1)?;
+    let mut rest = bytes;
+    while let Some(at) = memchr(mark, rest) {
+        let (part, behind) = rest.split_at(at);
+        parts.push(part)?;
+        rest = &behind[1..];
+    }
+    parts.push(rest)?;
+    Ok(parts)
 }
 
-/// The fields of a line that is text.
-pub fn text_fields(alloc: Global, line: &str) -> Result<Vec<&str>, AllocError>
+/// Adds the fields of a line that is text.
+pub fn push_fields<'a>(fields: &mut Vec<&'a str>, line: &'a str) -> Result<(), AllocError>
+    ensures { OnOk result (map (λ b. b.now) fields.new.items ≡ map (λ b. b.now) fields.old.items ++ fields_of line.now) }
+{
+    let mut rest = line;
+    while let Some(at) = memchr(b'\t', rest.as_bytes()) {
+        fields.push(&rest[..at])?;
+        rest = &rest[at + 1..];
+    }
+    fields.push(rest)?;
+    Ok(())
+}
+
+/// The fields of a line that is text, with room for `count` of them.
+pub fn text_fields(alloc: Global, line: &str, count: usize) -> Result<Vec<&str>, AllocError>
     ensures { IfOk result (λ v. map (λ b. b.now) v.items ≡ fields_of line.now) }
 {
-    line.split('\t').collect(alloc)
+    let mut fields = Vec::with_capacity(alloc, count)?;
+    push_fields(&mut fields, line)?;
+    Ok(fields)
 }
 
 /// How many bytes equal `mark`.
 pub fn count(bytes: &[u8], mark: u8) -> usize
     ensures { result ≡ count_by (λ b. b == mark) bytes.now }
 {
-    bytes.iter().filter(|byte| **byte == mark).count()
+    memchr_iter(mark, bytes).count()
 }
 
 /// How many fields a line has.
@@ -51,18 +75,23 @@ fn without_return(line: &[u8]) -> &[u8]
     }
 }
 
+fn drop_returns(lines: &mut Vec<&[u8]>)
+    ensures { map (λ b. b.now) lines.new.items ≡ map strip_carriage_return (map (λ b. b.now) lines.old.items) }
+{
+    for i in 0..lines.len() {
+        lines[i] = without_return(lines[i]);
+    }
+}
+
 /// The lines: LF ends a line, a CR just before it is dropped, and the last end may be missing.
 pub fn lines_of(alloc: Global, bytes: &[u8]) -> Result<Vec<&[u8]>, AllocError>
     ensures { IfOk result (λ v. map (λ b. b.now) v.items ≡ lines bytes.now) }
 {
-    let parts = parts(alloc, bytes, b'\n')?;
-    let mut lines = Vec::new(alloc);
-    let [ended @ .., last] = parts.as_slice() else {
+    let mut lines = parts(alloc, bytes, b'\n')?;
+    let Some(last) = lines.pop() else {
         return Ok(lines);
     };
-    for part in ended {
-        lines.push(without_return(part))?;
-    }
+    drop_returns(&mut lines);
     if last.is_empty() {
         return Ok(lines);
     }

@@ -4,7 +4,7 @@ ghost use Rattle.std.specs.Prelude.{◌≡◌, ◌↔◌, ◌<◌, ◌≤◌, No
 ghost use Rattle.mi_idt.specs.Cells.{TableValue};
 ghost use Rattle.mi_idt.specs.Fault.{idt_fault, lines_fault, parts_fault, body_fault, is_too_large};
 ghost use Rattle.mi_idt.specs.Fields.{fields_of};
-ghost use Rattle.mi_idt.specs.Means.{raw, column_value};
+ghost use Rattle.mi_idt.specs.Means.{IsRaw, column_value};
 ghost use Rattle.mi_idt.specs.Raw.{raw_of_lines};
 ghost use Rattle.mi_idt.specs.Reads.{ReadsTable};
 ghost use Rattle.mi_idt.specs.HasParts.{HasParts};
@@ -73,15 +73,16 @@ fn read_body<'a>(
     requires few_columns { vec_len columns ≤ 32 }
     ensures { ReadsPart result (body_fault head.entry.page (map column_value columns.entry.items) head.entry.keys.items (map (λ b. b.now) lines.now)) (λ t. HasParts t head.entry columns.entry.items (map (λ b. b.now) lines.now)) }
 {
-    let rows = read_rows(alloc, head.page, &columns, lines)?;
-    match first_repeat(alloc, &columns, &head.keys, &rows)? {
+    let body = read_rows(alloc, head.page, &columns, lines)?;
+    match first_repeat(alloc, &columns, &head.keys, &body.rows, &body.fields)? {
         Some(row) => Err(IdtError::Fault(IdtFault::TwoKeys(row))),
         None => Ok(Table {
             name: head.name,
             page: head.page,
             columns,
             keys: head.keys,
-            rows,
+            rows: body.rows,
+            fields: body.fields,
         }),
     }
 }
@@ -93,9 +94,9 @@ fn read_parts<'a>(
 ) -> Result<Table<'a>, IdtError>
     requires few_rows { length lines.now ≤ 65535 }
     requires few_columns { length (fields_of texts.names.now) ≤ 32 }
-    ensures { ReadsPart result (parts_fault texts.entry.names.now texts.entry.definitions.now texts.entry.head.now (map (λ b. b.now) lines.now)) (λ t. raw t ≡ raw_of_lines (texts.entry.names.now ∷ texts.entry.definitions.now ∷ texts.entry.head.now ∷ map (λ b. b.now) lines.now)) }
+    ensures { ReadsPart result (parts_fault texts.entry.names.now texts.entry.definitions.now texts.entry.head.now (map (λ b. b.now) lines.now)) (λ t. IsRaw t (raw_of_lines (texts.entry.names.now ∷ texts.entry.definitions.now ∷ texts.entry.head.now ∷ map (λ b. b.now) lines.now))) }
 {
-    let list = text_fields(alloc, texts.names)?;
+    let list = text_fields(alloc, texts.names, count_fields(texts.names.as_bytes()))?;
     let names = Names::read(alloc, list)?;
     let columns = read_columns(alloc, &names.list, texts.definitions)?;
     let head = read_head(alloc, texts.head, &names)?;
@@ -115,7 +116,7 @@ fn is_too_large(lines: &[&[u8]]) -> bool
 }
 
 fn read_lines<'a>(alloc: Global, lines: &[&'a [u8]]) -> Result<Table<'a>, IdtError>
-    ensures { ReadsPart result (lines_fault (map (λ b. b.now) lines.now)) (λ t. raw t ≡ raw_of_lines (map (λ b. b.now) lines.now)) }
+    ensures { ReadsPart result (lines_fault (map (λ b. b.now) lines.now)) (λ t. IsRaw t (raw_of_lines (map (λ b. b.now) lines.now))) }
 {
     if is_too_large(lines) {
         return Err(IdtError::Fault(IdtFault::TooLarge));

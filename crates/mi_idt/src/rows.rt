@@ -1,12 +1,13 @@
 //! The rows, from line 4 on.
 
-ghost use Rattle.std.specs.Prelude.{◌≡◌, ◌+◌, ◌<◌, ◌^◌, length, map, is_some, IfSome};
+ghost use Rattle.std.specs.Prelude.{◌≡◌, ◌+◌, ◌++◌, ◌<◌, ◌^◌, length, map, is_some, IfSome, OnOk};
 ghost use Rattle.mi_idt.specs.Fields.{fields_of};
-ghost use Rattle.mi_idt.specs.Means.{column_value, raw_row};
+ghost use Rattle.mi_idt.specs.Means.{column_value};
+ghost use Rattle.mi_idt.specs.Read.{AreRead};
 ghost use Rattle.mi_idt.specs.Rows.{is_in_page, is_line, field_fault, fields_fault, line_fault, rows_fault};
 ghost use Rattle.mi_idt.specs.Steps.{ReadsPart, fault_of};
 
-use crate::lines::{all_ascii, count_fields, text_fields};
+use crate::lines::{all_ascii, count_fields, push_fields};
 use crate::number::integer_within;
 use crate::table::{Column, IdtError, Row};
 use mi_text::IdtFault;
@@ -61,15 +62,16 @@ fn check_fields(columns: &[Column<'_>], fields: &[&str], row: u32) -> Result<(),
 }
 
 fn read_row<'a>(
-    alloc: Global,
     page: Option<u32>,
     columns: &[Column<'_>],
     line: &'a [u8],
     row: u32,
+    fields: &mut Vec<&'a str>,
 ) -> Result<Row<'a>, IdtError>
     requires few { length columns.now < 2 ^ 31 }
     requires fits { row + 3 < 2 ^ 32 }
-    ensures { ReadsPart result (line_fault page (map column_value columns.now) row line.now) (λ r. raw_row r ≡ fields_of line.now) }
+    ensures read { ReadsPart result (line_fault page (map column_value columns.now) row line.now) (λ r. r.line.now ≡ line.now) }
+    ensures added { OnOk result (map (λ b. b.now) fields.new.items ≡ map (λ b. b.now) fields.old.items ++ fields_of line.now) }
 {
     let Some(text) = line_text(page, line) else {
         return Err(IdtError::Fault(IdtFault::NotUtf8(row + 3)));
@@ -77,11 +79,19 @@ fn read_row<'a>(
     if count_fields(line) != columns.len() {
         return Err(IdtError::Fault(IdtFault::ColumnCount(row + 3)));
     }
-    let fields = text_fields(alloc, text)?;
-    match check_fields(columns, &fields, row) {
-        Ok(()) => Ok(Row { fields }),
+    let start = fields.len();
+    push_fields(fields, text)?;
+    match check_fields(columns, &fields[start..], row) {
+        Ok(()) => Ok(Row { line: text }),
         Err(fault) => Err(IdtError::Fault(fault)),
     }
+}
+
+/// The rows of a table, and their fields one row behind the other.
+#[derive(Drop)]
+pub struct Body<'a> {
+    pub rows: Vec<Row<'a>>,
+    pub fields: Vec<&'a str>,
 }
 
 /// Reads the rows.
@@ -90,14 +100,15 @@ pub fn read_rows<'a>(
     page: Option<u32>,
     columns: &[Column<'_>],
     lines: &[&'a [u8]],
-) -> Result<Vec<Row<'a>>, IdtError>
+) -> Result<Body<'a>, IdtError>
     requires few { length columns.now < 2 ^ 31 }
     requires fits { length lines.now + 4 < 2 ^ 32 }
-    ensures { ReadsPart result (rows_fault page (map column_value columns.now) 1 (map (λ b. b.now) lines.now)) (λ rs. map raw_row rs.items ≡ map fields_of (map (λ b. b.now) lines.now)) }
+    ensures { ReadsPart result (rows_fault page (map column_value columns.now) 1 (map (λ b. b.now) lines.now)) (λ b. AreRead b (map (λ b. b.now) lines.now)) }
 {
-    let mut rows = Vec::new(alloc);
+    let mut rows = Vec::with_capacity(alloc, lines.len())?;
+    let mut fields = Vec::with_capacity(alloc, lines.len().saturating_mul(columns.len()))?;
     for (i, line) in lines.iter().enumerate() {
-        rows.push(read_row(alloc, page, columns, line, i as u32 + 1)?)?;
+        rows.push(read_row(page, columns, line, i as u32 + 1, &mut fields)?)?;
     }
-    Ok(rows)
+    Ok(Body { rows, fields })
 }

@@ -5,6 +5,7 @@ ghost use Rattle.std.specs.Cow.{cow_str_bytes};
 ghost use Rattle.mi_idt.specs.declared.table.IdtError.TheVariants.{NoMemory as no_memory};
 
 use crate::escape::text_of;
+use crate::fronts::row_fields;
 use mi_text::{IdtFault, NoMemory};
 use std::alloc::{AllocError, AllocFailed, Global};
 use std::borrow::CowStr;
@@ -18,13 +19,14 @@ pub struct Column<'a> {
     pub width: u8,
 }
 
-/// The fields of a row, slices of the text that are still escaped.
-#[derive(Drop)]
+/// A row as its line, in which the fields are still escaped.
+#[derive(Clone, Copy)]
 pub struct Row<'a> {
-    pub fields: Vec<&'a str>,
+    pub line: &'a str,
 }
 
-/// A table; `page` is its code page, and `keys` are the places of the key columns, from 0.
+/// A table; `page` is its code page, `keys` are the places of the key columns, from 0, and `fields` those of all rows,
+/// one row behind the other.
 #[derive(Drop)]
 pub struct Table<'a> {
     pub name: &'a str,
@@ -32,6 +34,7 @@ pub struct Table<'a> {
     pub columns: Vec<Column<'a>>,
     pub keys: Vec<u32>,
     pub rows: Vec<Row<'a>>,
+    pub fields: Vec<&'a str>,
 }
 
 /// Why a text archive file isn't read.
@@ -116,7 +119,7 @@ impl<'a> Table<'a> {
         // So it shows the cell that the table means.
         ensures cell { IfOk result (λ text. Shows (option_map cow_str_bytes text) (cell_at (meaning self.now) row column)) }
     {
-        let row = &self.rows[row];
-        text_of(alloc, row.fields[column])
+        let fields = row_fields(&self.columns, &self.rows, &self.fields, row);
+        text_of(alloc, fields[column])
     }
 }

@@ -12,6 +12,7 @@ ghost use Rattle.mi_idt.specs.Fronts.{row_text, page_text, front_texts};
 
 use crate::escape::push_field;
 use crate::line::{push_part, push_tab};
+use crate::lines::text_fields;
 use crate::table::{Column, Row, Table};
 use mi_text::{Bytes, NoMemory};
 use std::alloc::Global;
@@ -97,11 +98,12 @@ fn push_rows(
     columns: &[Column<'_>],
     rows: &[Row<'_>],
 ) -> Result<(), NoMemory>
-    requires { All (λ r. length r.fields.items ≡ length columns.now) rows.now }
+    requires { All (λ r. length (raw_row r) ≡ length columns.now) rows.now }
     ensures { OnOk result (out.new.items ≡ out.old.items ++ with_ends (map (row_text columns.now) rows.now)) }
 {
     for row in rows {
-        push_row(alloc, out, columns, &row.fields)?;
+        let fields = text_fields(alloc, row.line, columns.len())?;
+        push_row(alloc, out, columns, &fields)?;
         push_end(out)?;
     }
     Ok(())

@@ -1,35 +1,9 @@
-use Rattle.std.proofs.Common.{◌≡◌, ◌∙◌, List, ℕ, Bool, true, false, not, map, Bor, refl, sym, ap, subst, nat_cmp, take}
-use Rattle.std.specs.BTreeSet.{UpdatesBy}
-use Rattle.std.specs.Cmp.Lexicographic.{slice_cmp}
-use Rattle.std.specs.List.{list_any}
-use Rattle.std.specs.Str.{bytes_eq}
-use Rattle.mi_idt.specs.Cells.{key_of}
-use Rattle.mi_idt.specs.Means.{column_value}
-use Rattle.mi_idt.specs.RowKey.{row_key}
-use Rattle.mi_idt.specs.Rows.{cells_of}
-use Rattle.mi_idt.specs.Written.{written_row}
-use Rattle.mi_idt.proofs.Joins.{repeat_next, repeat_here, held_next}
+use Rattle.std.proofs.Common.{◌≡◌, ℕ, Option, subst, get_or, IfOk}
+use Rattle.mi_idt.proofs.FrontLaws.{first_by_fronts, long_enough}
 use Rattle.mi_idt.proofs.keys.first_repeat.Goals as goal
 
-absent : (a b : Bool) → a ≡ not b → a ≡ true → b ≡ false
-absent a true e t = absurd cc
-absent a false e t = refl
+pub first_same-requires-clause-long : goal.first_same-requires-clause-long
+first_same-requires-clause-long c = λ k d h. long_enough c.args.columns.now c.args.keys.now (get_or c.args.rows.now k d) (c.keys_stand.ensures c.if-keys_stand.true k d h)
 
-present : (a b : Bool) → a ≡ not b → a ≡ false → b ≡ true
-present a true e t = refl
-present a false e t = absurd cc
-
-pub returns-then-not-branch : goal.returns-then-not-branch
-returns-then-not-branch c =
-    let key = c.in_ok-key.ensures ∙ ap (λ (fs : List (Bor (List ℕ))). written_row (key_of c.args.keys.now (cells_of (map column_value c.args.columns.now) (map (λ b. b.now) fs)))) c.deref.ensures.value ∙ ap (row_key c.args.columns.now c.args.keys.now) c.index-rows-i.is in
-    let held = sym (c.loop-i.invariant.held c.in_ok-key.key) ∙ present _ _ c.in_ok-insert.ensures.added c.if-not-branch.true in
-    sym (repeat_here (row_key c.args.columns.now c.args.keys.now) c.args.rows.now c.loop-i.i c.index-rows-i.result c.loop-i-test.true (subst (λ (t : List ℕ). list_any (bytes_eq t) (map (row_key c.args.columns.now c.args.keys.now) (take c.loop-i.i c.args.rows.now)) ≡ true) key held)) ∙ c.loop-i.invariant.rest
-
-pub loop-i-preserved : goal.loop-i-preserved
-loop-i-preserved c =
-    let key = c.in_ok-key.ensures ∙ ap (λ (fs : List (Bor (List ℕ))). written_row (key_of c.args.keys.now (cells_of (map column_value c.args.columns.now) (map (λ b. b.now) fs)))) c.deref.ensures.value ∙ ap (row_key c.args.columns.now c.args.keys.now) c.index-rows-i.is in
-    let fresh = sym (c.loop-i.invariant.held c.in_ok-key.key) ∙ absent _ _ c.in_ok-insert.ensures.added c.if-not-branch.false in
-    record {
-      held = held_next (row_key c.args.columns.now c.args.keys.now) c.args.rows.now c.loop-i.i c.index-rows-i.result c.loop-i.seen c.insert.new.self c.loop-i-test.true c.loop-i.invariant.held (subst (λ (t : List ℕ). UpdatesBy (slice_cmp nat_cmp) (slice_cmp nat_cmp t) c.loop-i.seen c.insert.new.self true) key c.in_ok-insert.ensures.updates);
-      rest = sym (repeat_next (row_key c.args.columns.now c.args.keys.now) c.args.rows.now c.loop-i.i c.index-rows-i.result c.loop-i-test.true (subst (λ (t : List ℕ). list_any (bytes_eq t) (map (row_key c.args.columns.now c.args.keys.now) (take c.loop-i.i c.args.rows.now)) ≡ false) key fresh)) ∙ c.loop-i.invariant.rest;
-    }
+pub returns-then-keys_stand : goal.returns-then-keys_stand
+returns-then-keys_stand c = subst (λ (first : Option ℕ). IfOk c.first_same.result (λ row. row ≡ first)) (first_by_fronts c.args.columns.now c.args.keys.now c.args.rows.now c.requires.spelled (c.keys_stand.ensures c.if-keys_stand.true)) c.first_same.ensures

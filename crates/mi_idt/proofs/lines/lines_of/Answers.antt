@@ -1,14 +1,23 @@
-use Rattle.std.proofs.Common.{◌∙◌, sym, ap}
+use Rattle.std.proofs.Common.{◌≡◌, ◌∙◌, ◌++◌, ◌∷◌, List, [], ℕ, map, sym, ap, arith, append-nil}
+use Rattle.std.specs.Str.Lines.{lines_of_parts, strip_carriage_return}
+use Rattle.std.proofs.lemmas.List.{nil_from_length}
 use Rattle.mi_idt.proofs.Basics.{shown}
-use Rattle.mi_idt.proofs.LineLemmas.{lines_done, last_dropped, pushed_last}
+use Rattle.mi_idt.proofs.LineLemmas.{lines_are, last_dropped, pushed_last}
 use Rattle.mi_idt.proofs.lines.lines_of.Goals as goal
+
+pub returns-in_default : goal.returns-in_default
+returns-in_default c =
+    let none : c.pop.new.self.items ≡ [] = nil_from_length c.pop.new.self.items (omega (arith, c.in_default.ensures.cases.1, c.pop.new.self.ok.0)) in
+    let all : c.in_ok-lines.lines.items ≡ [] = c.in_default.ensures.items ∙ append-nil c.pop.new.self.items ∙ none in
+    ap shown none ∙ ap lines_of_parts (sym (ap shown all) ∙ c.in_ok-lines.ensures)
 
 pub returns-then-is_empty : goal.returns-then-is_empty
 returns-then-is_empty c =
-    sym (last_dropped (shown c.loop-part.lines.items) _ (sym c.is_empty.ensures ∙ c.if-is_empty.true))
-    ∙ lines_done c.as_slice.result.now _ c.args.bytes.now c.loop-part.lines.items c.loop-part.part-index c.in-len1-up.len_at_least (ap shown c.as_slice.ensures.value ∙ c.in_ok-parts.ensures) c.loop-part.invariant c.loop-part-test.false
+    c.drop_returns.ensures ∙ sym (last_dropped (map strip_carriage_return (shown c.pop.new.self.items)) c.in-Some.last.now (sym c.is_empty.ensures ∙ c.if-is_empty.true))
+    ∙ lines_are c.pop.new.self.items c.in-Some.last c.in_ok-lines.lines.items c.args.bytes.now c.in-Some.ensures.items c.in_ok-lines.ensures
 
 pub returns : goal.returns
 returns c =
-    pushed_last c.loop-part.lines.items c.push-2.new.self.items _ c.in_ok-push-2.ensures.items (sym c.is_empty.ensures ∙ c.if-is_empty.false)
-    ∙ lines_done c.as_slice.result.now _ c.args.bytes.now c.loop-part.lines.items c.loop-part.part-index c.in-len1-up.len_at_least (ap shown c.as_slice.ensures.value ∙ c.in_ok-parts.ensures) c.loop-part.invariant c.loop-part-test.false
+    pushed_last c.drop_returns.new.lines.items c.push.new.self.items c.in-Some.last c.in_ok-push.ensures.items (sym c.is_empty.ensures ∙ c.if-is_empty.false)
+    ∙ ap (λ (xs : List (List ℕ)). xs ++ lines_of_parts (c.in-Some.last.now ∷ [])) c.drop_returns.ensures
+    ∙ lines_are c.pop.new.self.items c.in-Some.last c.in_ok-lines.lines.items c.args.bytes.now c.in-Some.ensures.items c.in_ok-lines.ensures

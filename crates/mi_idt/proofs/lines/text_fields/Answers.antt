@@ -1,7 +1,7 @@
-use Rattle.std.proofs.Common.{lit<}
-use Rattle.std.proofs.lemmas.Iterator.Consumers.{map_from_collect}
-use Rattle.std.proofs.lemmas.Iterator.Splits.{YieldsList-from_str_split}
+use Rattle.std.proofs.Common.{◌∙◌, ◌++◌, ap}
+use Rattle.mi_idt.proofs.Basics.{shown}
+use Rattle.mi_idt.specs.Fields.{fields_of}
 use Rattle.mi_idt.proofs.lines.text_fields.Goals as goal
 
 pub returns : goal.returns
-returns c = map_from_collect _ c.collect.ensures.ran (YieldsList-from_str_split 9 c.args.line.now (lit< tt) c.split.ensures.text c.split.ensures.has_more c.split.ensures.pattern)
+returns c = c.in_ok-push_fields.ensures ∙ ap (λ fs. shown fs ++ fields_of c.args.line.now) c.in_ok-fields.ensures.items

@@ -18,7 +18,7 @@ pub returns-in-Ok : goal.returns-in-Ok
 returns-in-Ok c =
     let t = c.in-Ok.ensures in
     ReadsPart-same c.read_parts.result _ _ _ _ (parts_only c.args.lines.now _ c.in-Ok.texts.names.now c.in-Ok.texts.definitions.now c.in-Ok.texts.head.now c.in-len3-up.len_at_least (sym c.is_too_large.ensures ∙ c.if-is_too_large.false) t.0 t.1 t.2 t.3)
-    (λ x h. h ∙ raw_only c.args.lines.now _ c.in-Ok.texts.names.now c.in-Ok.texts.definitions.now c.in-Ok.texts.head.now c.in-len3-up.len_at_least t.1 t.2 t.3) c.read_parts.ensures
+    (λ x h. (h.0 ∙ raw_only c.args.lines.now _ c.in-Ok.texts.names.now c.in-Ok.texts.definitions.now c.in-Ok.texts.head.now c.in-len3-up.len_at_least t.1 t.2 t.3, h.1)) c.read_parts.ensures
 
 pub read_parts-requires-clause-few_rows : goal.read_parts-requires-clause-few_rows
 read_parts-requires-clause-few_rows c = (sizes c.args.lines.now (record { ref_ptr = (0, 0); now = [] }) c.in-len3-up.len_at_least (sym c.is_too_large.ensures ∙ c.if-is_too_large.false)).0

@@ -3,13 +3,15 @@ use Rattle.std.specs.List.{All}
 use Rattle.mi_idt.specs.declared.table.Column.{Column}
 use Rattle.mi_idt.specs.Fronts.{row_text, front_texts}
 use Rattle.mi_idt.specs.Written.{with_ends}
-use Rattle.mi_idt.proofs.Spelled.{rows_long}
+use Rattle.mi_idt.specs.Means.{raw_row}
+use Rattle.mi_idt.proofs.LayLaws.{wide}
+use Rattle.mi_idt.proofs.Spelled.{rows_spelled}
 use Rattle.mi_idt.proofs.WriteLemmas.{written_is}
 use Rattle.mi_idt.proofs.WriteLaws.{written_spells}
 use Rattle.mi_idt.proofs.write.write_table.Goals as goal
 
 pub push_rows-requires : goal.push_rows-requires
-push_rows-requires c = subst (λ (cs : List Column). All (λ r. length r.fields.items ≡ length cs) c.deref-2.result.now) (sym c.deref.ensures.value) (subst (All (λ r. length r.fields.items ≡ length c.args.table.now.columns.items)) (sym c.deref-2.ensures.value) (rows_long c.requires.spelled.0 c.args.table.now c.requires.spelled.1))
+push_rows-requires c = subst (λ (cs : List Column). All (λ r. length (raw_row r) ≡ length cs) c.deref-2.result.now) (sym c.deref.ensures.value) (subst (All (λ r. length (raw_row r) ≡ length c.args.table.now.columns.items)) (sym c.deref-2.ensures.value) (wide c.args.table.now.columns.items c.args.table.now.rows.items (rows_spelled c.requires.spelled.0 c.args.table.now c.requires.spelled.1)))
 
 pub returns-clause-written : goal.returns-clause-written
 returns-clause-written c =

@@ -5,7 +5,7 @@ use Rattle.std.specs.List.{list_any}
 use Rattle.std.specs.Str.{bytes_eq}
 use Rattle.mi_idt.specs.RowKey.{row_key}
 use Rattle.mi_idt.specs.Texts.{repeat_of}
-use Rattle.mi_idt.proofs.keys.first_repeat.Given as goal
+use Rattle.mi_idt.proofs.keys.first_written.Given as goal
 
 abbrev pub invariant-loop-i : goal.invariant-loop-i
 invariant-loop-i l = record {
