@@ -5,7 +5,8 @@ use mi_edges::{EdgeFault, FolderVolume, StdSink};
 use mi_show::{DiffError, ShowError, diff, is_waiting, show};
 use mi_source::Sink;
 use mi_text::Name;
-use mi_volume::VolFault;
+use mi_volume::{VolFault, Volume};
+use std::alloc::Global;
 use std::io::ErrorKind;
 use std::process::ExitCode;
 use std::{env, io};
@@ -156,11 +157,20 @@ fn print_machine(rt: HostRuntime, folder: &str) -> Result<(), Stop> {
     print(rt, text.as_slice())
 }
 
+// Whether a run was stopped in the folder that is compared with.
+fn is_other_waiting<V: Volume>(alloc: Global, other: &mut V) -> Result<bool, Stop> {
+    match is_waiting(alloc, other) {
+        Ok(waits) => Ok(waits),
+        Err(VolFault::NoMemory) => Err(Stop::NoMemory),
+        Err(VolFault::Failed) => Err(Stop::OtherFault),
+    }
+}
+
 fn print_difference(rt: HostRuntime, other: &str, folder: &str) -> Result<(), Stop> {
     let alloc = rt.alloc();
     let mut before = FolderVolume::to_read(rt, alloc, other)?;
     let mut volume = FolderVolume::to_read(rt, alloc, folder)?;
-    let before_waits = is_waiting(alloc, &mut before)?;
+    let before_waits = is_other_waiting(alloc, &mut before)?;
     let waits = is_waiting(alloc, &mut volume)?;
     let text = diff(alloc, &mut volume, &mut before)?;
     if before_waits {
