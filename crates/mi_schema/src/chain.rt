@@ -3,12 +3,10 @@
 ghost use Rattle.std.specs.Prelude.{◌≡◌, ◌≤◌, ℕ, List, Option, map, length, codes, IfOk, option_map, option_and_then};
 ghost use Rattle.std.specs.Map.{keys_of};
 ghost use Rattle.mi_text.specs.Maps.{Name};
-ghost use Rattle.mi_base.specs.declared.answers.Fault.TheVariants as faults;
 ghost use Rattle.mi_schema.specs.Answers.{Answers};
 ghost use Rattle.mi_schema.specs.Checks.{companion_of, parent_of_directory, row_with, parents_of, chain_fault, cycles_fault};
 ghost use Rattle.mi_schema.specs.Laws.{TablesSmall};
 ghost use Rattle.mi_schema.specs.Named.{AreNamed};
-ghost use Rattle.mi_schema.specs.Reads.{Refuses};
 ghost use Rattle.mi_schema.specs.RowsOf.{rows_in, behind};
 
 use crate::error::LoadError;
@@ -97,16 +95,6 @@ fn parents_of<R: HasParent>(
     Ok(parents)
 }
 
-/// The fault of a row whose chain of parents doesn't end.
-fn endless(alloc: Global, table: &str, row: u32) -> LoadError
-    ensures { Refuses result (faults.Cycle table.now row) }
-{
-    match Text::copy_of(alloc, table) {
-        Ok(table) => LoadError::Table(Fault::Cycle(table, row)),
-        Err(_) => LoadError::NoMemory,
-    }
-}
-
 /// Refuses with the first row whose chain of parents doesn't end.
 fn check_chains<R: HasParent>(
     alloc: Global,
@@ -120,7 +108,10 @@ fn check_chains<R: HasParent>(
     let parents = parents_of(alloc, rows)?;
     match order_of(alloc, parents.as_slice()) {
         Ok(_) => Ok(()),
-        Err(DirError::Fault(DirFault::Cycle(row))) => Err(endless(alloc, table, row)),
+        Err(DirError::Fault(DirFault::Cycle(row))) => {
+            let name = Text::copy_of(alloc, table)?;
+            Err(LoadError::Table(Fault::Cycle(name, row)))
+        }
         Err(DirError::Fault(DirFault::BadPath(_))) => unreachable!(),
         Err(DirError::NoMemory) => Err(LoadError::NoMemory),
     }

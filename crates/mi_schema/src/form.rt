@@ -1,11 +1,9 @@
 //! The form of the source files.
 
 ghost use Rattle.std.specs.Prelude.{◌≡◌, ◌%◌};
-ghost use Rattle.mi_base.specs.declared.answers.Fault.TheVariants as faults;
 ghost use Rattle.mi_idt.specs.Fields.{number_on};
 ghost use Rattle.mi_schema.specs.Answers.{Answers};
 ghost use Rattle.mi_schema.specs.Checks.{compressed_fault};
-ghost use Rattle.mi_schema.specs.Reads.{Refuses};
 ghost use Rattle.mi_schema.specs.RowsOf.{rows_in, behind};
 ghost use Rattle.mi_schema.specs.Source.{word_count, number_or_zero, has_attributes, is_compressed, file_fault, has_short_names, is_source_compressed};
 
@@ -74,16 +72,6 @@ fn is_compressed(source: bool, row: &FileRow) -> bool
     has_attributes(row, 16384) || (source && !has_attributes(row, 8192))
 }
 
-/// The fault of a compressed file.
-fn compressed(alloc: Global, file: &str) -> LoadError
-    ensures { Refuses result (faults.Compressed file.now) }
-{
-    match Text::copy_of(alloc, file) {
-        Ok(file) => LoadError::Table(Fault::Compressed(file)),
-        Err(_) => LoadError::NoMemory,
-    }
-}
-
 /// Refuses with the first compressed file.
 fn check_files(
     alloc: Global,
@@ -94,7 +82,8 @@ fn check_files(
 {
     for row in files.values() {
         if is_compressed(source, row) {
-            return Err(compressed(alloc, row.file.as_str()));
+            let file = Text::copy_of(alloc, row.file.as_str())?;
+            return Err(LoadError::Table(Fault::Compressed(file)));
         }
     }
     Ok(())

@@ -8,8 +8,6 @@ ghost use Rattle.mi_schema.specs.Listed.{layout_of, table_of, tables, listed_as}
 ghost use Rattle.mi_schema.specs.Loaded.{AreRead, IsPut, IsOther, AreLoaded};
 ghost use Rattle.mi_schema.specs.Package.{IsPackage, HoldsAll};
 ghost use Rattle.mi_schema.specs.RowsOf.{folder_rows, rows_in};
-ghost use Rattle.mi_base.specs.declared.answers.Fault.TheVariants as faults;
-ghost use Rattle.mi_schema.specs.Reads.{Refuses};
 ghost use Rattle.mi_schema.specs.Rows.{table_fault};
 ghost use Rattle.mi_schema.specs.Suits.{KeysTell};
 ghost use Rattle.mi_schema.specs.Checks.{Content, content_of, tables_fault, missing_table, missing_fault, load_fault};
@@ -17,7 +15,7 @@ ghost use Rattle.mi_schema.specs.Checks.{Content, content_of, tables_fault, miss
 use crate::check::check_rows;
 use crate::error::LoadError;
 use crate::form::has_short_names;
-use crate::known::Known;
+use crate::known::{Known, each_table};
 use crate::package::Package;
 use crate::table::{is_there, load_table, path_of, refuse_table};
 use crate::table_row::{Key, TableRow};
@@ -46,6 +44,14 @@ fn load_rows<K: Key, R: TableRow<K>, S: Source>(
     Ok(())
 }
 
+macro_rules! load_into {
+    ($alloc:ident, $src:ident, $folder:ident, $known:ident, $loaded:ident: $($table:ident $rows:ident),*) => {
+        match $known {
+            $(Known::$table => load_rows($alloc, $src, $folder, &mut $loaded.$rows),)*
+        }
+    };
+}
+
 /// Reads the rows of a known table in a folder into a package.
 fn load_known<S: Source>(
     alloc: Global,
@@ -60,33 +66,7 @@ fn load_known<S: Source>(
     ensures stays { S.files src.new ≡ S.files src.old }
     ensures counts { S.faults src.old ≤ S.faults src.new }
 {
-    match known {
-        Known::Component => load_rows(alloc, src, folder, &mut loaded.component),
-        Known::Condition => load_rows(alloc, src, folder, &mut loaded.condition),
-        Known::CreateFolder => load_rows(alloc, src, folder, &mut loaded.create_folder),
-        Known::CustomAction => load_rows(alloc, src, folder, &mut loaded.custom_action),
-        Known::Directory => load_rows(alloc, src, folder, &mut loaded.directory),
-        Known::DuplicateFile => load_rows(alloc, src, folder, &mut loaded.duplicate_file),
-        Known::Environment => load_rows(alloc, src, folder, &mut loaded.environment),
-        Known::Feature => load_rows(alloc, src, folder, &mut loaded.feature),
-        Known::FeatureComponents => load_rows(alloc, src, folder, &mut loaded.feature_components),
-        Known::File => load_rows(alloc, src, folder, &mut loaded.file),
-        Known::InstallExecuteSequence => load_rows(
-            alloc,
-            src,
-            folder,
-            &mut loaded.install_execute_sequence,
-        ),
-        Known::LaunchCondition => load_rows(alloc, src, folder, &mut loaded.launch_condition),
-        Known::MsiFileHash => load_rows(alloc, src, folder, &mut loaded.msi_file_hash),
-        Known::Property => load_rows(alloc, src, folder, &mut loaded.property),
-        Known::Registry => load_rows(alloc, src, folder, &mut loaded.registry),
-        Known::RemoveFile => load_rows(alloc, src, folder, &mut loaded.remove_file),
-        Known::RemoveRegistry => load_rows(alloc, src, folder, &mut loaded.remove_registry),
-        Known::Shortcut => load_rows(alloc, src, folder, &mut loaded.shortcut),
-        Known::SummaryInformation => load_rows(alloc, src, folder, &mut loaded.summary_information),
-        Known::Upgrade => load_rows(alloc, src, folder, &mut loaded.upgrade),
-    }
+    each_table!(load_into: alloc, src, folder, known, loaded)
 }
 
 /// Reads a table of the list in a folder into a package.
@@ -130,15 +110,6 @@ fn load_tables<S: Source>(
     Ok(())
 }
 
-fn missing_table(alloc: Global, table: &str) -> LoadError
-    ensures { Refuses result (faults.MissingTable table.now) }
-{
-    match Text::copy_of(alloc, table) {
-        Ok(table) => LoadError::Table(Fault::MissingTable(table)),
-        Err(_) => LoadError::NoMemory,
-    }
-}
-
 /// Refuses where a table has no file.
 fn require<S: Source>(
     alloc: Global,
@@ -155,7 +126,8 @@ fn require<S: Source>(
     if is_there(src, path.as_str())? {
         return Ok(());
     }
-    Err(missing_table(alloc, table))
+    let name = Text::copy_of(alloc, table)?;
+    Err(LoadError::Table(Fault::MissingTable(name)))
 }
 
 /// Refuses where a table that each package has has no file.

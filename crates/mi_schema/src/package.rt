@@ -1,6 +1,6 @@
 //! A package: the rows of the known tables.
 
-use crate::known::Target;
+use crate::known::{Target, each_table};
 use crate::typed_rows::{
     ComponentRow, ConditionRow, CreateFolderRow, CustomActionRow, DirectoryRow, DuplicateFileRow,
     EnvironmentRow, FeatureComponentsRow, FeatureRow, FileRow, InstallExecuteSequenceRow,
@@ -41,6 +41,15 @@ pub struct Package {
     pub summary_information: IndexMap<i32, SummaryInformationRow>,
 }
 
+macro_rules! without_rows {
+    ($alloc:ident: $($table:ident $rows:ident),*) => {
+        Package {
+            short_names: false,
+            $($rows: IndexMap::new($alloc)),*
+        }
+    };
+}
+
 impl Package {
     ghost use Rattle.std.specs.Prelude.{◌≡◌, None};
     ghost use Rattle.mi_schema.specs.Named.{AreNamed};
@@ -53,29 +62,7 @@ impl Package {
     pub(crate) fn empty(alloc: Global) -> Package
         ensures { HoldsAll result (λ _. None) }
     {
-        Package {
-            short_names: false,
-            property: IndexMap::new(alloc),
-            directory: IndexMap::new(alloc),
-            component: IndexMap::new(alloc),
-            feature: IndexMap::new(alloc),
-            feature_components: IndexMap::new(alloc),
-            condition: IndexMap::new(alloc),
-            file: IndexMap::new(alloc),
-            msi_file_hash: IndexMap::new(alloc),
-            remove_file: IndexMap::new(alloc),
-            create_folder: IndexMap::new(alloc),
-            duplicate_file: IndexMap::new(alloc),
-            registry: IndexMap::new(alloc),
-            remove_registry: IndexMap::new(alloc),
-            environment: IndexMap::new(alloc),
-            shortcut: IndexMap::new(alloc),
-            launch_condition: IndexMap::new(alloc),
-            custom_action: IndexMap::new(alloc),
-            install_execute_sequence: IndexMap::new(alloc),
-            upgrade: IndexMap::new(alloc),
-            summary_information: IndexMap::new(alloc),
-        }
+        each_table!(without_rows: alloc)
     }
 
     /// Whether a table has a row of this key.

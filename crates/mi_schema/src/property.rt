@@ -2,11 +2,9 @@
 
 ghost use Rattle.std.specs.Prelude.{◌≡◌, map};
 ghost use Rattle.std.specs.Map.{keys_of};
-ghost use Rattle.mi_base.specs.declared.answers.Fault.TheVariants as faults;
 ghost use Rattle.mi_schema.specs.Answers.{Answers};
 ghost use Rattle.mi_schema.specs.Checks.{first_fault, missing_property, required_fault};
 ghost use Rattle.mi_schema.specs.Named.{AreNamed};
-ghost use Rattle.mi_schema.specs.Reads.{Refuses};
 ghost use Rattle.mi_schema.specs.RowsOf.{rows_in, behind};
 
 use crate::error::LoadError;
@@ -24,15 +22,6 @@ const REQUIRED: [&str; 5] = [
     "ProductVersion",
 ];
 
-fn missing_property(alloc: Global, name: &str) -> LoadError
-    ensures { Refuses result (faults.MissingProperty name.now) }
-{
-    match Text::copy_of(alloc, name) {
-        Ok(name) => LoadError::Table(Fault::MissingProperty(name)),
-        Err(_) => LoadError::NoMemory,
-    }
-}
-
 fn check_names(
     alloc: Global,
     properties: &IndexMap<Text, PropertyRow>,
@@ -44,7 +33,7 @@ fn check_names(
     for name in names {
         let key = Text::copy_of(alloc, name)?;
         if !properties.contains_key(&key) {
-            return Err(missing_property(alloc, name));
+            return Err(LoadError::Table(Fault::MissingProperty(key)));
         }
     }
     Ok(())

@@ -1,12 +1,10 @@
 //! Rows that name rows of other tables.
 
 ghost use Rattle.std.specs.Prelude.{◌≡◌, ◌≤◌, ℕ, Option, length};
-ghost use Rattle.mi_base.specs.declared.answers.Fault.TheVariants as faults;
 ghost use Rattle.mi_schema.specs.Answers.{Answers};
 ghost use Rattle.mi_schema.specs.Checks.{references_fault};
 ghost use Rattle.mi_schema.specs.Laws.{TablesSmall};
 ghost use Rattle.mi_schema.specs.Named.{AreNamed};
-ghost use Rattle.mi_schema.specs.Reads.{Refuses};
 ghost use Rattle.mi_schema.specs.References.{names, may_name, key_path_target, sets_directory, first_dangling, rows_dangling, component_dangling, condition_dangling, create_folder_dangling, custom_action_dangling, directory_dangling, duplicate_file_dangling, environment_dangling, feature_dangling, feature_components_dangling, file_dangling, msi_file_hash_dangling, registry_dangling, remove_file_dangling, remove_registry_dangling, shortcut_dangling};
 ghost use Rattle.mi_schema.specs.RowsOf.{rows_in, behind};
 ghost use Rattle.mi_schema.specs.TableRows.{Rows};
@@ -219,16 +217,6 @@ impl Naming for ShortcutRow {
     }
 }
 
-/// The fault of a value that names no row.
-fn dangling_at(alloc: Global, table: &str, row: u32, column: u32) -> LoadError
-    ensures { Refuses result (faults.Reference table.now row column) }
-{
-    match Text::copy_of(alloc, table) {
-        Ok(table) => LoadError::Table(Fault::Reference(table, row, column)),
-        Err(_) => LoadError::NoMemory,
-    }
-}
-
 /// Refuses with the first value of a table that names no row.
 fn check_table<K: Key, R: Naming>(
     alloc: Global,
@@ -243,11 +231,22 @@ fn check_table<K: Key, R: Naming>(
     let mut number = 1;
     for row in rows.values() {
         if let Some(column) = row.dangling(loaded) {
-            return Err(dangling_at(alloc, table, number, column));
+            let name = Text::copy_of(alloc, table)?;
+            return Err(LoadError::Table(Fault::Reference(name, number, column)));
         }
         number += 1;
     }
     Ok(())
+}
+
+// The tables whose rows name rows, each with the field of its rows; the others.
+macro_rules! check_known {
+    ($alloc:ident, $loaded:ident, $known:ident: $($table:ident $rows:ident),*; $($other:ident),*) => {
+        match $known {
+            $(Known::$table => check_table($alloc, $loaded, stringify!($table), &$loaded.$rows),)*
+            $(Known::$other)|* => Ok(()),
+        }
+    };
 }
 
 /// Refuses with the first value of a known table that names no row.
@@ -257,38 +256,13 @@ fn check_known(alloc: Global, loaded: &Package, known: Known) -> Result<(), Load
     requires few { TablesSmall loaded.now }
     ensures { Answers ⊥ (rows_dangling (rows_in loaded.now) known) (λ _. Unit {0}) result }
 {
-    match known {
-        Known::Component => check_table(alloc, loaded, "Component", &loaded.component),
-        Known::Condition => check_table(alloc, loaded, "Condition", &loaded.condition),
-        Known::CreateFolder => check_table(alloc, loaded, "CreateFolder", &loaded.create_folder),
-        Known::CustomAction => check_table(alloc, loaded, "CustomAction", &loaded.custom_action),
-        Known::Directory => check_table(alloc, loaded, "Directory", &loaded.directory),
-        Known::DuplicateFile => check_table(alloc, loaded, "DuplicateFile", &loaded.duplicate_file),
-        Known::Environment => check_table(alloc, loaded, "Environment", &loaded.environment),
-        Known::Feature => check_table(alloc, loaded, "Feature", &loaded.feature),
-        Known::FeatureComponents => check_table(
-            alloc,
-            loaded,
-            "FeatureComponents",
-            &loaded.feature_components,
-        ),
-        Known::File => check_table(alloc, loaded, "File", &loaded.file),
-        Known::MsiFileHash => check_table(alloc, loaded, "MsiFileHash", &loaded.msi_file_hash),
-        Known::Registry => check_table(alloc, loaded, "Registry", &loaded.registry),
-        Known::RemoveFile => check_table(alloc, loaded, "RemoveFile", &loaded.remove_file),
-        Known::RemoveRegistry => check_table(
-            alloc,
-            loaded,
-            "RemoveRegistry",
-            &loaded.remove_registry,
-        ),
-        Known::Shortcut => check_table(alloc, loaded, "Shortcut", &loaded.shortcut),
-        Known::InstallExecuteSequence
-        | Known::LaunchCondition
-        | Known::Property
-        | Known::SummaryInformation
-        | Known::Upgrade => Ok(()),
-    }
+    check_known!(alloc, loaded, known: Component component, Condition condition,
+        CreateFolder create_folder, CustomAction custom_action, Directory directory,
+        DuplicateFile duplicate_file, Environment environment, Feature feature,
+        FeatureComponents feature_components, File file, MsiFileHash msi_file_hash,
+        Registry registry, RemoveFile remove_file, RemoveRegistry remove_registry,
+        Shortcut shortcut; InstallExecuteSequence, LaunchCondition, Property, SummaryInformation,
+        Upgrade)
 }
 
 /// Refuses with the first value that names no row, by table, row and column.

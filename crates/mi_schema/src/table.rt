@@ -89,26 +89,6 @@ fn has_columns(known: &[Column], table: &Table) -> bool
     keyed && begun
 }
 
-/// A fault that names its table.
-fn unsupported(alloc: Global, table: &str) -> LoadError
-    ensures { Refuses result (faults.Unsupported table.now) }
-{
-    match Text::copy_of(alloc, table) {
-        Ok(table) => LoadError::Table(Fault::Unsupported(table)),
-        Err(_) => LoadError::NoMemory,
-    }
-}
-
-/// A fault that names its table.
-fn other_columns(alloc: Global, table: &str) -> LoadError
-    ensures { Refuses result (faults.Columns table.now) }
-{
-    match Text::copy_of(alloc, table) {
-        Ok(table) => LoadError::Table(Fault::Columns(table)),
-        Err(_) => LoadError::NoMemory,
-    }
-}
-
 /// A fault of the text of a table.
 fn misspelled(alloc: Global, table: &str, why: IdtFault) -> LoadError
     ensures { Refuses result (faults.Idt table.now why) }
@@ -131,7 +111,8 @@ fn read_spelled<K: Key, R: TableRow<K>>(
     ensures { Answers ⊥ (value_fault (table_as layout.now) (meaning table.now)) (λ rows. rows.entries ≡ keyed K.key R.value (rows_in (table_as layout.now) (meaning table.now))) result }
 {
     if !has_columns(layout.columns, table) {
-        return Err(other_columns(alloc, layout.name));
+        let name = Text::copy_of(alloc, layout.name)?;
+        return Err(LoadError::Table(Fault::Columns(name)));
     }
     read_rows(alloc, layout, table)
 }
@@ -161,7 +142,8 @@ fn refuse_spelled(alloc: Global, name: &str, table: &Table) -> Result<(), LoadEr
     if table.rows.is_empty() {
         return Ok(());
     }
-    Err(unsupported(alloc, name))
+    let name = Text::copy_of(alloc, name)?;
+    Err(LoadError::Table(Fault::Unsupported(name)))
 }
 
 /// Refuses these bytes where they hold a row, or spell no table.

@@ -14,53 +14,24 @@ pub enum Listed {
     Refused(&'static str),
 }
 
-const LISTED: [Listed; 45] = [
-    Listed::Refused("AppId"),
-    Listed::Refused("BindImage"),
-    Listed::Refused("Class"),
-    Listed::Refused("Complus"),
-    Listed::Known(Known::Component),
-    Listed::Known(Known::Condition),
-    Listed::Known(Known::CreateFolder),
-    Listed::Known(Known::CustomAction),
-    Listed::Known(Known::Directory),
-    Listed::Known(Known::DuplicateFile),
-    Listed::Known(Known::Environment),
-    Listed::Refused("Extension"),
-    Listed::Known(Known::Feature),
-    Listed::Known(Known::FeatureComponents),
-    Listed::Known(Known::File),
-    Listed::Refused("Font"),
-    Listed::Refused("IniFile"),
-    Listed::Known(Known::InstallExecuteSequence),
-    Listed::Refused("IsolatedComponent"),
-    Listed::Known(Known::LaunchCondition),
-    Listed::Refused("LockPermissions"),
-    Listed::Refused("MIME"),
-    Listed::Refused("MoveFile"),
-    Listed::Refused("MsiAssembly"),
-    Listed::Known(Known::MsiFileHash),
-    Listed::Refused("ODBCAttribute"),
-    Listed::Refused("ODBCDataSource"),
-    Listed::Refused("ODBCDriver"),
-    Listed::Refused("ODBCSourceAttribute"),
-    Listed::Refused("ODBCTranslator"),
-    Listed::Refused("ProgId"),
-    Listed::Known(Known::Property),
-    Listed::Refused("PublishComponent"),
-    Listed::Known(Known::Registry),
-    Listed::Known(Known::RemoveFile),
-    Listed::Refused("RemoveIniFile"),
-    Listed::Known(Known::RemoveRegistry),
-    Listed::Refused("SelfReg"),
-    Listed::Refused("ServiceControl"),
-    Listed::Refused("ServiceInstall"),
-    Listed::Known(Known::Shortcut),
-    Listed::Refused("TypeLib"),
-    Listed::Known(Known::Upgrade),
-    Listed::Refused("Verb"),
-    Listed::Known(Known::SummaryInformation),
-];
+macro_rules! one {
+    ($refused:literal) => { Listed::Refused($refused) };
+    ($known:ident) => { Listed::Known(Known::$known) };
+}
+
+macro_rules! all {
+    ($($table:tt)*) => { [$(one!($table)),*] };
+}
+
+const LISTED: [Listed; 45] = all!(
+    "AppId" "BindImage" "Class" "Complus" Component Condition CreateFolder CustomAction Directory
+    DuplicateFile Environment "Extension" Feature FeatureComponents File "Font" "IniFile"
+    InstallExecuteSequence "IsolatedComponent" LaunchCondition "LockPermissions" "MIME" "MoveFile"
+    "MsiAssembly" MsiFileHash "ODBCAttribute" "ODBCDataSource" "ODBCDriver" "ODBCSourceAttribute"
+    "ODBCTranslator" "ProgId" Property "PublishComponent" Registry RemoveFile "RemoveIniFile"
+    RemoveRegistry "SelfReg" "ServiceControl" "ServiceInstall" Shortcut "TypeLib" Upgrade "Verb"
+    SummaryInformation
+);
 
 /// Every table that is known or refused, in byte order of the names.
 #[tactic(auto, unfolding(crate::specs::Listed::listed))]

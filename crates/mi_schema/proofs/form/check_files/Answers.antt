@@ -5,7 +5,6 @@ use Rattle.mi_base.specs.declared.answers.Fault.TheVariants.{Compressed}
 use Rattle.mi_schema.specs.RowsOf.{behind}
 use Rattle.mi_schema.specs.Source.{file_fault}
 use Rattle.mi_schema.proofs.CheckLemmas.{file_on, file_not}
-use Rattle.mi_schema.proofs.RowLemmas.{refused_at}
 use Rattle.mi_schema.proofs.form.check_files.Goals as goal
 
 pub loop-row-init : goal.loop-row-init
@@ -14,9 +13,8 @@ loop-row-init c = ap (file_fault c.args.source) (c.into_iter-row-iterator.ensure
 pub returns-then-is_compressed : goal.returns-then-is_compressed
 returns-then-is_compressed c =
     let next = rest_more deref c.loop-row.row-iterator c.next.new.self c.next.result c.in-Some.row c.in-Some.is c.next.ensures.steps in
-    refused_at ⊥ c.compressed.result _ _ c.compressed.ensures
-    (file_not c.args.source (behind c.args.files.now.entries) c.loop-row.row-iterator c.next.new.self c.in-Some.row.now c.loop-row.invariant next (sym c.is_compressed.ensures ∙ c.if-is_compressed.true)
-    ∙ ap (λ n. Some (Compressed n)) (sym c.as_str.ensures))
+    file_not c.args.source (behind c.args.files.now.entries) c.loop-row.row-iterator c.next.new.self c.in-Some.row.now c.loop-row.invariant next (sym c.is_compressed.ensures ∙ c.if-is_compressed.true)
+    ∙ ap (λ n. Some (Compressed n)) (sym (c.in_ok-file.ensures ∙ c.as_str.ensures))
 
 pub loop-row-preserved : goal.loop-row-preserved
 loop-row-preserved c =
