@@ -26,13 +26,14 @@ use Rattle.mi_schema.specs.Loaded.{AreRead}
 use Rattle.mi_schema.specs.Package.{keyed}
 use Rattle.mi_schema.specs.Read.{raw_row}
 use Rattle.mi_schema.specs.Rows.{◌or_else◌, begins_with, has_columns, is_refused, key_places, keys_of, rows_in, cell_fault, cells_fault, fault_at, row_fault, rows_fault, unsupported, value_fault, table_fault, table_rows}
-use Rattle.mi_schema.specs.Suits.{all_suit, keys_tell, KeysDiffer}
+use Rattle.mi_schema.specs.Suits.{all_suit}
 use Rattle.mi_schema.specs.Tables.{Column, Table}
 use Rattle.mi_schema.specs.Values.{Row, value_of, row_of, kind_fault, unless, meets}
 use Rattle.mi_schema.proofs.FitLemmas.{front, back, row_fits}
 use Rattle.mi_schema.proofs.RowLemmas.{passed_on}
 use Rattle.mi_schema.proofs.SuitLemmas.{each_fits, suits_row}
 use Rattle.mi_schema.proofs.DifferLemmas.{differ}
+use Rattle.mi_schema.proofs.Words.{keys_tell, KeysDiffer}
 
 -- ---- where no column asks for keys, the faults are the same whatever they are
 

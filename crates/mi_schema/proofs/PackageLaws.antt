@@ -34,9 +34,7 @@ use Rattle.mi_schema.specs.References.{keys_in, names, may_name, must_name, key_
 use Rattle.mi_schema.specs.RowsOf.{rows_in, behind}
 use Rattle.mi_schema.specs.Source.{has_attributes, is_source_compressed, has_short_names}
 use Rattle.mi_schema.specs.TableRows.{Rows}
-use Rattle.mi_schema.specs.Conditions.{IsCondition}
 use Rattle.mi_schema.specs.Laws.{IsKeyOf, IsWithin, HasOtherCode, HasProperty, KeysStand, KeysApart, ReferencesStand, ParentsEnd, PropertiesStand, ValuesStand, SourceStands, TablesSmall, key_paths}
-use Rattle.mi_schema.specs.Lawful.{IsOfTables}
 use Rattle.mi_schema.specs.Package.{HoldsAll}
 use Rattle.mi_schema.specs.Rows.{keys_of as keys_of_rows}
 use Rattle.mi_schema.specs.Tables.{required_properties, component, condition, create_folder, custom_action, directory, duplicate_file, environment, feature, feature_components, file, install_execute_sequence, launch_condition, msi_file_hash, property, registry, remove_file, remove_registry, shortcut, summary_information, upgrade}
@@ -54,6 +52,7 @@ use Rattle.mi_schema.proofs.ReferenceLaws.{each_keyed, keys_keyed, suits_here, s
 use Rattle.mi_schema.proofs.RowLaws.{summary_is}
 use Rattle.mi_schema.proofs.ValueLaws.{pairs_keyed, any_before, one_root, other_code, text_before, number_before, root_before, kind_suits, text_there, passes, if_passes, if_name, if_pattern, within, if_within}
 use Rattle.mi_schema.proofs.SuitLemmas.{or_none}
+use Rattle.mi_schema.proofs.Words.{IsCondition, IsOfTables}
 
 -- ---- parts
 

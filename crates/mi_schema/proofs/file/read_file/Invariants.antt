@@ -1,5 +1,5 @@
 use Rattle.std.proofs.Common.{◌-◌, length}
-use Rattle.mi_schema.specs.Files.{ReadSoFar}
+use Rattle.mi_schema.proofs.Words.{ReadSoFar}
 use Rattle.mi_schema.proofs.file.read_file.Given as goal
 
 abbrev pub invariant-loop-alloc : goal.invariant-loop-alloc
