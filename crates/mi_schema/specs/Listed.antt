@@ -2,8 +2,8 @@
 use Rattle.std.specs.Prelude.{ℕ, List, [], ◌∷◌, codes, map}
 use Rattle.mi_schema.specs.declared.known.Known.{Known}
 use Rattle.mi_schema.specs.declared.known.Known.TheVariants as of
-use Rattle.mi_schema.specs.declared.tables.Listed.{Listed as InCode}
-use Rattle.mi_schema.specs.declared.tables.Listed.TheVariants as code
+use Rattle.mi_schema.specs.declared.known.Listed.{Listed as InCode}
+use Rattle.mi_schema.specs.declared.known.Listed.TheVariants as code
 use Rattle.mi_schema.specs.Tables as table
 use Rattle.mi_schema.specs.Tables.{Table}
 

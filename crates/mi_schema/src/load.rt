@@ -12,14 +12,12 @@ ghost use Rattle.mi_schema.specs.Rows.{table_fault};
 ghost use Rattle.mi_schema.specs.Suits.{KeysTell};
 ghost use Rattle.mi_schema.specs.Checks.{Content, content_of, tables_fault, missing_table, missing_fault, load_fault};
 
-use crate::check::check_rows;
+use crate::check::{check_rows, has_short_names};
 use crate::error::LoadError;
-use crate::form::has_short_names;
-use crate::known::{Known, each_table};
+use crate::known::{Known, Listed, each_table, tables};
 use crate::package::Package;
 use crate::table::{is_there, load_table, path_of, refuse_table};
 use crate::table_row::{Key, TableRow};
-use crate::tables::{Listed, tables};
 use indexmap::IndexMap;
 use mi_base::{Fault, Text};
 use mi_source::Source;

@@ -10,11 +10,10 @@ ghost use Rattle.mi_schema.specs.RowsOf.{rows_in, behind};
 ghost use Rattle.mi_schema.specs.TableRows.{Rows};
 
 use crate::error::LoadError;
-use crate::known::{Known, Target};
+use crate::known::{Known, Listed, Target, tables};
 use crate::package::Package;
 use crate::rule::lacks;
 use crate::table_row::Key;
-use crate::tables::{Listed, tables};
 use crate::typed_rows::{
     ComponentRow, ConditionRow, CreateFolderRow, CustomActionRow, DirectoryRow, DuplicateFileRow,
     EnvironmentRow, FeatureComponentsRow, FeatureRow, FileRow, MsiFileHashRow, RegistryRow,

@@ -1,9 +1,9 @@
 //! A table of the package, from its file.
 
-ghost use Rattle.std.specs.Prelude.{◌≡◌, ◌≤◌, ◌&&◌, Some, IfOk, IfErr, OnErr, OnOk, is_some, map};
+ghost use Rattle.mi_base.specs.declared.answers.Fault.TheVariants as faults;
+ghost use Rattle.std.specs.Prelude.{◌≡◌, ◌≤◌, ◌&&◌, Some, IfOk, IfErr, OnErr, OnOk, is_some, map, ◌<◌, IsErrOf};
 ghost use Rattle.std.specs.FinMap.{get};
 ghost use Rattle.std.specs.Str.{bytes_eq};
-ghost use Rattle.mi_base.specs.declared.answers.Fault.TheVariants as faults;
 ghost use Rattle.mi_source.specs.Counts.{Rose};
 ghost use Rattle.mi_idt.specs.Means.{IsSpelled, meaning, column_value};
 ghost use Rattle.mi_schema.specs.Answers.{Answers, Fails, IsCounted};
@@ -16,18 +16,44 @@ ghost use Rattle.mi_schema.specs.Rows.{is_of_class, begins_with, key_places, has
 ghost use Rattle.mi_schema.specs.Suits.{KeysTell};
 ghost use Rattle.mi_schema.specs.Tables.{refused};
 ghost use Rattle.mi_schema.specs.Checks.{table_path, content_of};
+ghost use Rattle.mi_source.specs.Paths.{bytes_or_none};
+ghost use Rattle.mi_schema.specs.Files.{IsWhole};
 
 use crate::column::{Column, Kind, Layout};
 use crate::error::LoadError;
-use crate::file::read_file;
 use crate::row::read_rows;
 use crate::table_row::{Key, TableRow};
 use indexmap::IndexMap;
 use mi_base::{Fault, IdtFault, NoMemory, Text};
 use mi_idt::{Column as Spelled, IdtError, Table, read_table};
-use mi_source::{Failed, Source};
+use mi_source::{Failed, PIECE, Source, SrcFault};
 use mi_text::Bytes;
 use std::alloc::Global;
+
+/// The greatest length of a table, in bytes.
+pub const TABLE_LIMIT: usize = 16_777_216;
+
+/// The bytes of a file, or None where there are more than a table may have. It is read in pieces.
+pub fn read_file<S: Source>(
+    alloc: Global,
+    src: &mut S,
+    path: &str,
+) -> Result<Option<Bytes>, SrcFault>
+    ensures value { S.told → IfOk result (λ found. IsWhole found (bytes_or_none (get (S.files src.old) path.now))) }
+    ensures stays { S.files src.new ≡ S.files src.old }
+    ensures counts { S.faults src.old ≤ S.faults src.new }
+    ensures failed { IsErrOf result SrcFault.Failed → Rose (S.faults src.old) (S.faults src.new) }
+{
+    let mut bytes = Bytes::new(alloc);
+    while bytes.len() <= TABLE_LIMIT {
+        let piece = src.read(alloc, path, bytes.len() as u64, PIECE)?;
+        bytes.extend(piece.as_slice())?;
+        if piece.len() < PIECE {
+            return Ok(Some(bytes));
+        }
+    }
+    Ok(None)
+}
 
 /// Whether the letter of a definition is of the class of a kind.
 fn is_of_class(kind: Kind, letter: u8) -> bool

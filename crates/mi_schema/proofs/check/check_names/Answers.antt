@@ -5,7 +5,7 @@ use Rattle.mi_schema.specs.Values.{is_key_in}
 use Rattle.mi_schema.specs.declared.typed_rows.PropertyRow.{PropertyRow}
 use Rattle.mi_schema.proofs.CheckLemmas.{has_key, name_on, name_not, drop_map, map_drop}
 use Rattle.mi_schema.proofs.ListLemmas.{map_next}
-use Rattle.mi_schema.proofs.property.check_names.Goals as goal
+use Rattle.mi_schema.proofs.check.check_names.Goals as goal
 
 pub returns-then-not-contains_key : goal.returns-then-not-contains_key
 returns-then-not-contains_key c =

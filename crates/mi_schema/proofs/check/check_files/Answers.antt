@@ -5,7 +5,7 @@ use Rattle.mi_base.specs.declared.answers.Fault.TheVariants.{Compressed}
 use Rattle.mi_schema.specs.RowsOf.{behind}
 use Rattle.mi_schema.specs.Source.{file_fault}
 use Rattle.mi_schema.proofs.CheckLemmas.{file_on, file_not}
-use Rattle.mi_schema.proofs.form.check_files.Goals as goal
+use Rattle.mi_schema.proofs.check.check_files.Goals as goal
 
 pub loop-row-init : goal.loop-row-init
 loop-row-init c = ap (file_fault c.args.source) (c.into_iter-row-iterator.ensures.into_iter_gives ∙ c.values-row-items.ensures.rest)

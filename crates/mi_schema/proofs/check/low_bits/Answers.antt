@@ -1,6 +1,6 @@
 use Rattle.std.proofs.Common.{◌∙◌, arith}
 use Rattle.mi_schema.proofs.CheckLemmas.{low_step}
-use Rattle.mi_schema.proofs.form.low_bits.Goals as goal
+use Rattle.mi_schema.proofs.check.low_bits.Goals as goal
 
 pub loop-digit-preserved : goal.loop-digit-preserved
 loop-digit-preserved c = (

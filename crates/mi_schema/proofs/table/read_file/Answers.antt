@@ -3,7 +3,7 @@ use Rattle.std.specs.FinMap.{get}
 use Rattle.mi_source.specs.Paths.{Files, bytes_or_none}
 use Rattle.mi_source.specs.declared.source.TheConstants.{PIECE}
 use Rattle.mi_text.proofs.PieceLemmas.{front_piece, last_piece}
-use Rattle.mi_schema.proofs.file.read_file.Goals as goal
+use Rattle.mi_schema.proofs.table.read_file.Goals as goal
 
 pub returns-then-len-lt-PIECE-clause-value : goal.returns-then-len-lt-PIECE-clause-value
 returns-then-len-lt-PIECE-clause-value g c = λ told.
