@@ -29,9 +29,8 @@ use Rattle.mi_schema.specs.declared.typed_rows.PropertyRow.{PropertyRow}
 use Rattle.mi_schema.specs.declared.package.Package.{Package}
 use Rattle.mi_schema.specs.Checks.{Content, rows_at, chain_fault, companion_of, parent_of_directory, first_fault, missing_property}
 use Rattle.mi_schema.specs.Listed.{Listed, Loaded, layout_of, table_of, listed}
-use Rattle.mi_schema.specs.Named.{AreNamed}
 use Rattle.mi_schema.specs.References.{keys_in, names, may_name, must_name, key_path_target, sets_directory, rows_dangling, table_dangling, component_dangling, condition_dangling, create_folder_dangling, custom_action_dangling, directory_dangling, duplicate_file_dangling, environment_dangling, feature_dangling, feature_components_dangling, file_dangling, msi_file_hash_dangling, registry_dangling, remove_file_dangling, remove_registry_dangling, shortcut_dangling}
-use Rattle.mi_schema.specs.RowsOf.{rows_in, behind}
+use Rattle.mi_schema.specs.RowsOf.{rows_in, behind, AreNamed}
 use Rattle.mi_schema.specs.Source.{has_attributes, is_source_compressed, has_short_names}
 use Rattle.mi_schema.specs.TableRows.{Rows}
 use Rattle.mi_schema.specs.Laws.{IsKeyOf, IsWithin, HasOtherCode, HasProperty, KeysStand, KeysApart, ReferencesStand, ParentsEnd, PropertiesStand, ValuesStand, SourceStands, TablesSmall, key_paths}

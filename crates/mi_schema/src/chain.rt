@@ -6,8 +6,7 @@ ghost use Rattle.mi_text.specs.Maps.{Name};
 ghost use Rattle.mi_schema.specs.Answers.{Answers};
 ghost use Rattle.mi_schema.specs.Checks.{companion_of, parent_of_directory, row_with, parents_of, chain_fault, cycles_fault};
 ghost use Rattle.mi_schema.specs.Laws.{TablesSmall};
-ghost use Rattle.mi_schema.specs.Named.{AreNamed};
-ghost use Rattle.mi_schema.specs.RowsOf.{rows_in, behind};
+ghost use Rattle.mi_schema.specs.RowsOf.{rows_in, behind, AreNamed};
 
 use crate::error::LoadError;
 use crate::package::Package;

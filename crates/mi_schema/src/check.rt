@@ -3,8 +3,7 @@
 ghost use Rattle.mi_schema.specs.Answers.{Answers};
 ghost use Rattle.mi_schema.specs.Checks.{package_fault, first_fault, missing_property, required_fault, compressed_fault};
 ghost use Rattle.mi_schema.specs.Laws.{TablesSmall};
-ghost use Rattle.mi_schema.specs.Named.{AreNamed};
-ghost use Rattle.mi_schema.specs.RowsOf.{rows_in, behind};
+ghost use Rattle.mi_schema.specs.RowsOf.{rows_in, behind, AreNamed};
 ghost use Rattle.std.specs.Prelude.{◌≡◌, map, ◌%◌};
 ghost use Rattle.std.specs.Map.{keys_of};
 ghost use Rattle.mi_idt.specs.Fields.{number_on};
@@ -47,7 +46,7 @@ fn check_names(
 
 /// Refuses with the first property that each package has and that isn't there.
 #[tactic(auto, unfolding(crate::specs::RowsOf::rows_in))]
-pub fn check_properties(alloc: Global, loaded: &Package) -> Result<(), LoadError>
+fn check_properties(alloc: Global, loaded: &Package) -> Result<(), LoadError>
     requires { AreNamed loaded.now }
     ensures { Answers ⊥ (required_fault (rows_in loaded.now)) (λ _. Unit {0}) result }
 {
@@ -111,29 +110,19 @@ fn is_compressed(source: bool, row: &FileRow) -> bool
     has_attributes(row, 16384) || (source && !has_attributes(row, 8192))
 }
 
-/// Refuses with the first compressed file.
-fn check_files(
-    alloc: Global,
-    source: bool,
-    files: &IndexMap<Text, FileRow>,
-) -> Result<(), LoadError>
-    ensures { Answers ⊥ (file_fault source (behind files.now.entries)) (λ _. Unit {0}) result }
+/// Refuses with the first compressed file of a package.
+#[tactic(auto, unfolding(crate::specs::RowsOf::rows_in))]
+fn check_compressed(alloc: Global, loaded: &Package) -> Result<(), LoadError>
+    ensures { Answers ⊥ (compressed_fault (rows_in loaded.now)) (λ _. Unit {0}) result }
 {
-    for row in files.values() {
+    let source = is_source_compressed(loaded);
+    for row in loaded.file.values() {
         if is_compressed(source, row) {
             let file = Text::copy_of(alloc, row.file.as_str())?;
             return Err(LoadError::Table(Fault::Compressed(file)));
         }
     }
     Ok(())
-}
-
-/// Refuses with the first compressed file of a package.
-#[tactic(auto, unfolding(crate::specs::RowsOf::rows_in))]
-pub fn check_compressed(alloc: Global, loaded: &Package) -> Result<(), LoadError>
-    ensures { Answers ⊥ (compressed_fault (rows_in loaded.now)) (λ _. Unit {0}) result }
-{
-    check_files(alloc, is_source_compressed(loaded), &loaded.file)
 }
 
 /// Refuses with the first fault of the rows of all tables.

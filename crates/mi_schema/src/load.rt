@@ -5,11 +5,10 @@ ghost use Rattle.mi_source.specs.Counts.{Rose};
 ghost use Rattle.mi_schema.specs.Answers.{Answers, Fails, IsCounted};
 ghost use Rattle.mi_schema.specs.Lawful.{IsLawful};
 ghost use Rattle.mi_schema.specs.Listed.{layout_of, table_of, tables, listed_as};
-ghost use Rattle.mi_schema.specs.Loaded.{AreRead, IsPut, IsOther, AreLoaded};
+ghost use Rattle.mi_schema.specs.Loaded.{IsPut, IsOther, AreLoaded};
 ghost use Rattle.mi_schema.specs.Package.{IsPackage, HoldsAll};
 ghost use Rattle.mi_schema.specs.RowsOf.{folder_rows, rows_in};
 ghost use Rattle.mi_schema.specs.Rows.{table_fault};
-ghost use Rattle.mi_schema.specs.Suits.{KeysTell};
 ghost use Rattle.mi_schema.specs.Checks.{Content, content_of, tables_fault, missing_table, missing_fault, load_fault};
 
 use crate::check::{check_rows, has_short_names};
@@ -17,35 +16,14 @@ use crate::error::LoadError;
 use crate::known::{Known, Listed, each_table, tables};
 use crate::package::Package;
 use crate::table::{is_there, load_table, path_of, refuse_table};
-use crate::table_row::{Key, TableRow};
-use indexmap::IndexMap;
 use mi_base::{Fault, Text};
 use mi_source::Source;
 use std::alloc::Global;
 
-/// Reads the rows of a table in a folder into a map, under their keys.
-fn load_rows<K: Key, R: TableRow<K>, S: Source>(
-    alloc: Global,
-    src: &mut S,
-    folder: &str,
-    map: &mut IndexMap<K, R>,
-) -> Result<(), LoadError>
-    requires { KeysTell K.eq K.key (layout_of R.known).columns }
-    ensures read { OnOk result (AreRead K.key R.value S.told (content_of (S.files src.old) folder.now (layout_of R.known).name) (layout_of R.known) map.new.entries) }
-    ensures fault { S.told → IfErr result (Fails (Rose (S.faults src.old) (S.faults src.new)) (table_fault (layout_of R.known) (content_of (S.files src.old) folder.now (layout_of R.known).name))) }
-    ensures counted { IsCounted (Rose (S.faults src.old) (S.faults src.new)) result }
-    ensures stays { S.files src.new ≡ S.files src.old }
-    ensures counts { S.faults src.old ≤ S.faults src.new }
-{
-    let rows = load_table(alloc, src, folder, R::layout())?;
-    *map = rows;
-    Ok(())
-}
-
 macro_rules! load_into {
     ($alloc:ident, $src:ident, $folder:ident, $known:ident, $loaded:ident: $($table:ident $rows:ident),*) => {
         match $known {
-            $(Known::$table => load_rows($alloc, $src, $folder, &mut $loaded.$rows),)*
+            $(Known::$table => load_table($alloc, $src, $folder, &mut $loaded.$rows),)*
         }
     };
 }

@@ -4,9 +4,8 @@ ghost use Rattle.std.specs.Prelude.{◌≡◌, ◌≤◌, ℕ, Option, length};
 ghost use Rattle.mi_schema.specs.Answers.{Answers};
 ghost use Rattle.mi_schema.specs.Checks.{references_fault};
 ghost use Rattle.mi_schema.specs.Laws.{TablesSmall};
-ghost use Rattle.mi_schema.specs.Named.{AreNamed};
 ghost use Rattle.mi_schema.specs.References.{names, may_name, key_path_target, sets_directory, first_dangling, rows_dangling, component_dangling, condition_dangling, create_folder_dangling, custom_action_dangling, directory_dangling, duplicate_file_dangling, environment_dangling, feature_dangling, feature_components_dangling, file_dangling, msi_file_hash_dangling, registry_dangling, remove_file_dangling, remove_registry_dangling, shortcut_dangling};
-ghost use Rattle.mi_schema.specs.RowsOf.{rows_in, behind};
+ghost use Rattle.mi_schema.specs.RowsOf.{rows_in, behind, AreNamed};
 ghost use Rattle.mi_schema.specs.TableRows.{Rows};
 
 use crate::error::LoadError;
@@ -14,11 +13,7 @@ use crate::known::{Known, Listed, Target, tables};
 use crate::package::Package;
 use crate::rule::lacks;
 use crate::table_row::Key;
-use crate::typed_rows::{
-    ComponentRow, ConditionRow, CreateFolderRow, CustomActionRow, DirectoryRow, DuplicateFileRow,
-    EnvironmentRow, FeatureComponentsRow, FeatureRow, FileRow, MsiFileHashRow, RegistryRow,
-    RemoveFileRow, RemoveRegistryRow, ShortcutRow,
-};
+use crate::typed_rows as rows;
 use indexmap::IndexMap;
 use mi_base::{Fault, Text};
 use std::alloc::Global;
@@ -58,7 +53,7 @@ fn may_name(loaded: &Package, target: Target, column: u32, key: &Option<Text>) -
 }
 
 /// The table that the key path of a component names a row of (Component table, KeyPath).
-fn key_path_target(row: &ComponentRow) -> Target
+fn key_path_target(row: &rows::ComponentRow) -> Target
     ensures { result ≡ key_path_target row.now }
 {
     if lacks(4, row.attributes) {
@@ -75,7 +70,7 @@ fn sets_directory(kind: i32) -> bool
     kind.cast_unsigned() & 63 == 35
 }
 
-impl Naming for ComponentRow {
+impl Naming for rows::ComponentRow {
     ghost dangles = { component_dangling };
 
     fn dangling(&self, loaded: &Package) -> Option<u32> {
@@ -86,7 +81,7 @@ impl Naming for ComponentRow {
     }
 }
 
-impl Naming for ConditionRow {
+impl Naming for rows::ConditionRow {
     ghost dangles = { condition_dangling };
 
     fn dangling(&self, loaded: &Package) -> Option<u32> {
@@ -94,7 +89,7 @@ impl Naming for ConditionRow {
     }
 }
 
-impl Naming for CreateFolderRow {
+impl Naming for rows::CreateFolderRow {
     ghost dangles = { create_folder_dangling };
 
     fn dangling(&self, loaded: &Package) -> Option<u32> {
@@ -105,7 +100,7 @@ impl Naming for CreateFolderRow {
     }
 }
 
-impl Naming for CustomActionRow {
+impl Naming for rows::CustomActionRow {
     ghost dangles = { custom_action_dangling };
 
     fn dangling(&self, loaded: &Package) -> Option<u32> {
@@ -119,7 +114,7 @@ impl Naming for CustomActionRow {
     }
 }
 
-impl Naming for DirectoryRow {
+impl Naming for rows::DirectoryRow {
     ghost dangles = { directory_dangling };
 
     fn dangling(&self, loaded: &Package) -> Option<u32> {
@@ -127,7 +122,7 @@ impl Naming for DirectoryRow {
     }
 }
 
-impl Naming for DuplicateFileRow {
+impl Naming for rows::DuplicateFileRow {
     ghost dangles = { duplicate_file_dangling };
 
     fn dangling(&self, loaded: &Package) -> Option<u32> {
@@ -138,7 +133,7 @@ impl Naming for DuplicateFileRow {
     }
 }
 
-impl Naming for EnvironmentRow {
+impl Naming for rows::EnvironmentRow {
     ghost dangles = { environment_dangling };
 
     fn dangling(&self, loaded: &Package) -> Option<u32> {
@@ -146,7 +141,7 @@ impl Naming for EnvironmentRow {
     }
 }
 
-impl Naming for FeatureRow {
+impl Naming for rows::FeatureRow {
     ghost dangles = { feature_dangling };
 
     fn dangling(&self, loaded: &Package) -> Option<u32> {
@@ -154,7 +149,7 @@ impl Naming for FeatureRow {
     }
 }
 
-impl Naming for FeatureComponentsRow {
+impl Naming for rows::FeatureComponentsRow {
     ghost dangles = { feature_components_dangling };
 
     fn dangling(&self, loaded: &Package) -> Option<u32> {
@@ -165,7 +160,7 @@ impl Naming for FeatureComponentsRow {
     }
 }
 
-impl Naming for FileRow {
+impl Naming for rows::FileRow {
     ghost dangles = { file_dangling };
 
     fn dangling(&self, loaded: &Package) -> Option<u32> {
@@ -173,7 +168,7 @@ impl Naming for FileRow {
     }
 }
 
-impl Naming for MsiFileHashRow {
+impl Naming for rows::MsiFileHashRow {
     ghost dangles = { msi_file_hash_dangling };
 
     fn dangling(&self, loaded: &Package) -> Option<u32> {
@@ -181,7 +176,7 @@ impl Naming for MsiFileHashRow {
     }
 }
 
-impl Naming for RegistryRow {
+impl Naming for rows::RegistryRow {
     ghost dangles = { registry_dangling };
 
     fn dangling(&self, loaded: &Package) -> Option<u32> {
@@ -189,7 +184,7 @@ impl Naming for RegistryRow {
     }
 }
 
-impl Naming for RemoveFileRow {
+impl Naming for rows::RemoveFileRow {
     ghost dangles = { remove_file_dangling };
 
     fn dangling(&self, loaded: &Package) -> Option<u32> {
@@ -197,7 +192,7 @@ impl Naming for RemoveFileRow {
     }
 }
 
-impl Naming for RemoveRegistryRow {
+impl Naming for rows::RemoveRegistryRow {
     ghost dangles = { remove_registry_dangling };
 
     fn dangling(&self, loaded: &Package) -> Option<u32> {
@@ -205,7 +200,7 @@ impl Naming for RemoveRegistryRow {
     }
 }
 
-impl Naming for ShortcutRow {
+impl Naming for rows::ShortcutRow {
     ghost dangles = { shortcut_dangling };
 
     fn dangling(&self, loaded: &Package) -> Option<u32> {

@@ -9,7 +9,7 @@ ghost use Rattle.mi_idt.specs.Means.{IsSpelled, meaning, column_value};
 ghost use Rattle.mi_schema.specs.Answers.{Answers, Fails, IsCounted};
 ghost use Rattle.mi_schema.specs.Described.{column_as, table_as};
 ghost use Rattle.mi_schema.specs.Listed.{layout_of};
-ghost use Rattle.mi_schema.specs.Loaded.{AreRead, IsRight};
+ghost use Rattle.mi_schema.specs.Loaded.{AreRead, IsRight, IsWhole};
 ghost use Rattle.mi_schema.specs.Package.{keyed};
 ghost use Rattle.mi_schema.specs.Reads.{Refuses};
 ghost use Rattle.mi_schema.specs.Rows.{is_of_class, begins_with, key_places, has_columns, rows_in, value_fault, size_fault, table_fault, table_rows};
@@ -17,7 +17,6 @@ ghost use Rattle.mi_schema.specs.Suits.{KeysTell};
 ghost use Rattle.mi_schema.specs.Tables.{refused};
 ghost use Rattle.mi_schema.specs.Checks.{table_path, content_of};
 ghost use Rattle.mi_source.specs.Paths.{bytes_or_none};
-ghost use Rattle.mi_schema.specs.Files.{IsWhole};
 
 use crate::column::{Column, Kind, Layout};
 use crate::error::LoadError;
@@ -125,36 +124,39 @@ fn misspelled(alloc: Global, table: &str, why: IdtFault) -> LoadError
     }
 }
 
-/// The rows of a known table that its bytes spell, or its first fault.
+/// Reads the rows of a known table that its bytes spell into a map, or refuses with its first fault.
 fn read_spelled<K: Key, R: TableRow<K>>(
     alloc: Global,
     layout: &Layout,
     table: &Table,
-) -> Result<IndexMap<K, R>, LoadError>
+    rows: &mut IndexMap<K, R>,
+) -> Result<(), LoadError>
     requires is { table_as layout.now ≡ layout_of R.known }
     requires spelled { IsSpelled table.now }
     requires apart { KeysTell K.eq K.key (layout_of R.known).columns }
-    ensures { Answers ⊥ (value_fault (table_as layout.now) (meaning table.now)) (λ rows. rows.entries ≡ keyed K.key R.value (rows_in (table_as layout.now) (meaning table.now))) result }
+    ensures { Answers ⊥ (value_fault (table_as layout.now) (meaning table.now)) (λ _. rows.new.entries ≡ keyed K.key R.value (rows_in (table_as layout.now) (meaning table.now))) result }
 {
     if !has_columns(layout.columns, table) {
         let name = Text::copy_of(alloc, layout.name)?;
         return Err(LoadError::Table(Fault::Columns(name)));
     }
-    read_rows(alloc, layout, table)
+    *rows = read_rows(alloc, layout, table)?;
+    Ok(())
 }
 
-/// The rows of a known table in these bytes, or its first fault.
+/// Reads the rows of a known table in these bytes into a map, or refuses with its first fault.
 fn read_bytes<K: Key, R: TableRow<K>>(
     alloc: Global,
     layout: &Layout,
     bytes: &[u8],
-) -> Result<IndexMap<K, R>, LoadError>
+    rows: &mut IndexMap<K, R>,
+) -> Result<(), LoadError>
     requires is { table_as layout.now ≡ layout_of R.known }
     requires apart { KeysTell K.eq K.key (layout_of R.known).columns }
-    ensures { Answers ⊥ (table_fault (table_as layout.now) (Some bytes.now)) (λ rows. rows.entries ≡ keyed K.key R.value (table_rows (table_as layout.now) (Some bytes.now))) result }
+    ensures { Answers ⊥ (table_fault (table_as layout.now) (Some bytes.now)) (λ _. rows.new.entries ≡ keyed K.key R.value (table_rows (table_as layout.now) (Some bytes.now))) result }
 {
     match read_table(alloc, bytes) {
-        Ok(table) => read_spelled(alloc, layout, &table),
+        Ok(table) => read_spelled(alloc, layout, &table, rows),
         Err(IdtError::NoMemory) => Err(LoadError::NoMemory),
         Err(IdtError::Fault(fault)) => Err(misspelled(alloc, layout.name, fault)),
     }
@@ -228,24 +230,27 @@ fn bytes_of<S: Source>(
     }
 }
 
-/// The rows of a known table in a folder, or its first fault; none where its file isn't there.
+/// Reads the rows of a known table in a folder into a map, under their keys; none where its file isn't there.
 pub fn load_table<K: Key, R: TableRow<K>, S: Source>(
     alloc: Global,
     src: &mut S,
     folder: &str,
-    layout: &Layout,
-) -> Result<IndexMap<K, R>, LoadError>
-    requires is { table_as layout.now ≡ layout_of R.known }
-    requires apart { KeysTell K.eq K.key (layout_of R.known).columns }
-    ensures read { IfOk result (λ rows. AreRead K.key R.value S.told (content_of (S.files src.old) folder.now layout.now.name.now) (table_as layout.now) rows.entries) }
-    ensures fault { S.told → IfErr result (Fails (Rose (S.faults src.old) (S.faults src.new)) (table_fault (table_as layout.now) (content_of (S.files src.old) folder.now layout.now.name.now))) }
+    rows: &mut IndexMap<K, R>,
+) -> Result<(), LoadError>
+    requires { KeysTell K.eq K.key (layout_of R.known).columns }
+    ensures read { OnOk result (AreRead K.key R.value S.told (content_of (S.files src.old) folder.now (layout_of R.known).name) (layout_of R.known) rows.new.entries) }
+    ensures fault { S.told → IfErr result (Fails (Rose (S.faults src.old) (S.faults src.new)) (table_fault (layout_of R.known) (content_of (S.files src.old) folder.now (layout_of R.known).name))) }
     ensures counted { IsCounted (Rose (S.faults src.old) (S.faults src.new)) result }
     ensures stays { S.files src.new ≡ S.files src.old }
     ensures counts { S.faults src.old ≤ S.faults src.new }
 {
+    let layout = R::layout();
     match bytes_of(alloc, src, folder, layout.name)? {
-        Some(bytes) => read_bytes(alloc, layout, bytes.as_slice()),
-        None => Ok(IndexMap::new(alloc)),
+        Some(bytes) => read_bytes(alloc, layout, bytes.as_slice(), rows),
+        None => {
+            *rows = IndexMap::new(alloc);
+            Ok(())
+        }
     }
 }
 
