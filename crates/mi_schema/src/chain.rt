@@ -36,12 +36,9 @@ impl HasParent for DirectoryRow {
     ghost parent = { parent_of_directory };
 
     fn parent(&self) -> Option<&Text> {
-        let parent = self.directory_parent.as_ref()?;
-        if parent.as_str() == self.directory.as_str() {
-            None
-        } else {
-            Some(parent)
-        }
+        self.directory_parent
+            .as_ref()
+            .filter(|parent| parent.as_str() != self.directory.as_str())
     }
 }
 
@@ -61,12 +58,9 @@ impl HasParent for FileRow {
     ghost parent = { λ r. companion_of r.version };
 
     fn parent(&self) -> Option<&Text> {
-        let version = self.version.as_ref()?;
-        if is_version(version.as_str()) {
-            None
-        } else {
-            Some(version)
-        }
+        self.version
+            .as_ref()
+            .filter(|version| !is_version(version.as_str()))
     }
 }
 

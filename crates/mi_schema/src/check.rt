@@ -97,10 +97,7 @@ fn is_source_compressed(loaded: &Package) -> bool
 fn has_attributes(row: &FileRow, bits: u32) -> bool
     ensures { result ≡ has_attributes row.now bits }
 {
-    match row.attributes {
-        Some(attributes) => !lacks(bits, attributes),
-        None => !lacks(bits, 0),
-    }
+    !lacks(bits, row.attributes.unwrap_or(0))
 }
 
 /// Whether a file is compressed.

@@ -34,11 +34,7 @@ fn names(loaded: &Package, target: Target, column: u32, key: &Text) -> Option<u3
     requires { AreNamed loaded.now }
     ensures { result ≡ names (rows_in loaded.now) target column key.now }
 {
-    if loaded.has(target, key) {
-        None
-    } else {
-        Some(column)
-    }
+    (!loaded.has(target, key)).then_some(column)
 }
 
 /// The column, unless it is null or the row that it names is there.
@@ -46,10 +42,8 @@ fn may_name(loaded: &Package, target: Target, column: u32, key: &Option<Text>) -
     requires { AreNamed loaded.now }
     ensures { result ≡ may_name (rows_in loaded.now) target column key.now }
 {
-    match key {
-        Some(key) => names(loaded, target, column, key),
-        None => None,
-    }
+    key.as_ref()
+        .and_then(|key| names(loaded, target, column, key))
 }
 
 /// The table that the key path of a component names a row of (Component table, KeyPath).

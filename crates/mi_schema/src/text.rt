@@ -78,10 +78,7 @@ pub fn are_languages(text: &str) -> bool
 fn is_product_code(text: &str) -> bool
     ensures { result ≡ is_product_code text.now }
 {
-    match Guid::read(text) {
-        Ok(code) => code.number != 0,
-        Err(_) => false,
-    }
+    Guid::read(text).is_ok_and(|code| code.number != 0)
 }
 
 /// Whether a text is a version.
