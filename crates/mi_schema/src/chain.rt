@@ -8,7 +8,7 @@ ghost use Rattle.mi_schema.specs.Checks.{companion_of, parent_of_directory, row_
 ghost use Rattle.mi_schema.specs.Laws.{TablesSmall};
 ghost use Rattle.mi_schema.specs.RowsOf.{rows_in, behind, AreNamed};
 
-use crate::error::LoadError;
+use crate::error::{Checked, LoadError};
 use crate::package::Package;
 use crate::text::is_version;
 use crate::typed_rows::{DirectoryRow, FeatureRow, FileRow};
@@ -89,11 +89,7 @@ fn parents_of<R: HasParent>(
 }
 
 /// Refuses with the first row whose chain of parents doesn't end.
-fn check_chains<R: HasParent>(
-    alloc: Global,
-    table: &str,
-    rows: &IndexMap<Text, R>,
-) -> Result<(), LoadError>
+fn check_chains<R: HasParent>(alloc: Global, table: &str, rows: &IndexMap<Text, R>) -> Checked
     requires named { keys_of rows.now.entries ≡ map R.own (behind rows.now.entries) }
     requires few { length rows.now.entries ≤ 65535 }
     ensures { Answers ⊥ (chain_fault table.now R.own R.parent (behind rows.now.entries)) (λ _. Unit {0}) result }
@@ -112,7 +108,7 @@ fn check_chains<R: HasParent>(
 
 /// Refuses with the first row of Directory, Feature or File whose chain of parents doesn't end.
 #[tactic(auto, unfolding(crate::specs::RowsOf::rows_in))]
-pub fn check_cycles(alloc: Global, loaded: &Package) -> Result<(), LoadError>
+pub fn check_cycles(alloc: Global, loaded: &Package) -> Checked
     requires named { AreNamed loaded.now }
     requires few { TablesSmall loaded.now }
     ensures { Answers ⊥ (cycles_fault (rows_in loaded.now)) (λ _. Unit {0}) result }

@@ -10,7 +10,7 @@ ghost use Rattle.mi_idt.specs.Fields.{number_on};
 ghost use Rattle.mi_schema.specs.Source.{word_count, number_or_zero, has_attributes, is_compressed, file_fault, has_short_names, is_source_compressed};
 
 use crate::chain::check_cycles;
-use crate::error::LoadError;
+use crate::error::{Checked, LoadError};
 use crate::package::Package;
 use crate::reference::check_references;
 use crate::rule::lacks;
@@ -27,11 +27,7 @@ const REQUIRED: [&str; 5] = [
     "ProductVersion",
 ];
 
-fn check_names(
-    alloc: Global,
-    properties: &IndexMap<Text, PropertyRow>,
-    names: &[&str],
-) -> Result<(), LoadError>
+fn check_names(alloc: Global, properties: &IndexMap<Text, PropertyRow>, names: &[&str]) -> Checked
     requires { keys_of properties.now.entries ≡ map (λ r. r.property) (behind properties.now.entries) }
     ensures { Answers ⊥ (first_fault (missing_property (behind properties.now.entries)) (map (λ n. n.now) names.now)) (λ _. Unit {0}) result }
 {
@@ -46,7 +42,7 @@ fn check_names(
 
 /// Refuses with the first property that each package has and that isn't there.
 #[tactic(auto, unfolding(crate::specs::RowsOf::rows_in))]
-fn check_properties(alloc: Global, loaded: &Package) -> Result<(), LoadError>
+fn check_properties(alloc: Global, loaded: &Package) -> Checked
     requires { AreNamed loaded.now }
     ensures { Answers ⊥ (required_fault (rows_in loaded.now)) (λ _. Unit {0}) result }
 {
@@ -109,7 +105,7 @@ fn is_compressed(source: bool, row: &FileRow) -> bool
 
 /// Refuses with the first compressed file of a package.
 #[tactic(auto, unfolding(crate::specs::RowsOf::rows_in))]
-fn check_compressed(alloc: Global, loaded: &Package) -> Result<(), LoadError>
+fn check_compressed(alloc: Global, loaded: &Package) -> Checked
     ensures { Answers ⊥ (compressed_fault (rows_in loaded.now)) (λ _. Unit {0}) result }
 {
     let source = is_source_compressed(loaded);
@@ -123,7 +119,7 @@ fn check_compressed(alloc: Global, loaded: &Package) -> Result<(), LoadError>
 }
 
 /// Refuses with the first fault of the rows of all tables.
-pub fn check_rows(alloc: Global, loaded: &Package) -> Result<(), LoadError>
+pub fn check_rows(alloc: Global, loaded: &Package) -> Checked
     requires named { AreNamed loaded.now }
     requires few { TablesSmall loaded.now }
     ensures { Answers ⊥ (package_fault (rows_in loaded.now)) (λ _. Unit {0}) result }

@@ -19,6 +19,9 @@ pub enum LoadError {
     Table(Fault),
 }
 
+/// What a check answers: nothing, or why the package isn't loaded.
+pub type Checked = Result<(), LoadError>;
+
 impl From<NoMemory> for LoadError {
     ghost from_gives = { λ _ e. e ≡ no_memory };
 

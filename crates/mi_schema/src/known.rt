@@ -38,16 +38,20 @@ pub enum Target {
     Registry,
 }
 
-// Hands a macro each known table with the field of its rows.
+// Hands a macro each known table with its layout and the field of its rows.
 macro_rules! each_table {
     ($then:ident: $($with:ident),*) => {
-        $then!($($with),*: Component component, Condition condition, CreateFolder create_folder,
-            CustomAction custom_action, Directory directory, DuplicateFile duplicate_file,
-            Environment environment, Feature feature, FeatureComponents feature_components,
-            File file, InstallExecuteSequence install_execute_sequence,
-            LaunchCondition launch_condition, MsiFileHash msi_file_hash, Property property,
-            Registry registry, RemoveFile remove_file, RemoveRegistry remove_registry,
-            Shortcut shortcut, SummaryInformation summary_information, Upgrade upgrade)
+        $then!($($with),*: Component COMPONENT component, Condition CONDITION condition,
+            CreateFolder CREATE_FOLDER create_folder, CustomAction CUSTOM_ACTION custom_action,
+            Directory DIRECTORY directory, DuplicateFile DUPLICATE_FILE duplicate_file,
+            Environment ENVIRONMENT environment, Feature FEATURE feature,
+            FeatureComponents FEATURE_COMPONENTS feature_components, File FILE file,
+            InstallExecuteSequence INSTALL_EXECUTE_SEQUENCE install_execute_sequence,
+            LaunchCondition LAUNCH_CONDITION launch_condition,
+            MsiFileHash MSI_FILE_HASH msi_file_hash, Property PROPERTY property,
+            Registry REGISTRY registry, RemoveFile REMOVE_FILE remove_file,
+            RemoveRegistry REMOVE_REGISTRY remove_registry, Shortcut SHORTCUT shortcut,
+            SummaryInformation SUMMARY_INFORMATION summary_information, Upgrade UPGRADE upgrade)
     };
 }
 

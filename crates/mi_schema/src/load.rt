@@ -12,18 +12,19 @@ ghost use Rattle.mi_schema.specs.Rows.{table_fault};
 ghost use Rattle.mi_schema.specs.Checks.{Content, content_of, tables_fault, missing_table, missing_fault, load_fault};
 
 use crate::check::{check_rows, has_short_names};
-use crate::error::LoadError;
+use crate::error::{Checked, LoadError};
 use crate::known::{Known, Listed, each_table, tables};
 use crate::package::Package;
 use crate::table::{is_there, load_table, path_of, refuse_table};
+use crate::typed_rows as rows;
 use mi_base::{Fault, Text};
 use mi_source::Source;
 use std::alloc::Global;
 
 macro_rules! load_into {
-    ($alloc:ident, $src:ident, $folder:ident, $known:ident, $loaded:ident: $($table:ident $rows:ident),*) => {
+    ($alloc:ident, $src:ident, $folder:ident, $known:ident, $loaded:ident: $($table:ident $layout:ident $rows:ident),*) => {
         match $known {
-            $(Known::$table => load_table($alloc, $src, $folder, &mut $loaded.$rows),)*
+            $(Known::$table => load_table($alloc, $src, $folder, &rows::$layout, &mut $loaded.$rows),)*
         }
     };
 }
@@ -35,7 +36,7 @@ fn load_known<S: Source>(
     folder: &str,
     known: Known,
     loaded: &mut Package,
-) -> Result<(), LoadError>
+) -> Checked
     ensures put { OnOk result (IsPut S.told (content_of (S.files src.old) folder.now) (layout_of known) loaded.old loaded.new) }
     ensures fault { S.told → IfErr result (Fails (Rose (S.faults src.old) (S.faults src.new)) (table_fault (layout_of known) (content_of (S.files src.old) folder.now (layout_of known).name))) }
     ensures counted { IsCounted (Rose (S.faults src.old) (S.faults src.new)) result }
@@ -52,7 +53,7 @@ fn load_listed<S: Source>(
     folder: &str,
     table: Listed,
     loaded: &mut Package,
-) -> Result<(), LoadError>
+) -> Checked
     requires { IsOther (listed_as table) }
     ensures put { OnOk result (IsPut S.told (content_of (S.files src.old) folder.now) (table_of (listed_as table)) loaded.old loaded.new) }
     ensures fault { S.told → IfErr result (Fails (Rose (S.faults src.old) (S.faults src.new)) (table_fault (table_of (listed_as table)) (content_of (S.files src.old) folder.now (table_of (listed_as table)).name))) }
@@ -67,12 +68,7 @@ fn load_listed<S: Source>(
 }
 
 /// Reads all tables of a folder into a package without rows, or refuses with the first fault of a table.
-fn load_tables<S: Source>(
-    alloc: Global,
-    src: &mut S,
-    folder: &str,
-    loaded: &mut Package,
-) -> Result<(), LoadError>
+fn load_tables<S: Source>(alloc: Global, src: &mut S, folder: &str, loaded: &mut Package) -> Checked
     requires { HoldsAll loaded.old (λ _. None) }
     ensures loaded { OnOk result (AreLoaded S.told (content_of (S.files src.old) folder.now) loaded.new) }
     ensures fault { S.told → IfErr result (Fails (Rose (S.faults src.old) (S.faults src.new)) (tables_fault (content_of (S.files src.old) folder.now) tables)) }
@@ -87,12 +83,7 @@ fn load_tables<S: Source>(
 }
 
 /// Refuses where a table has no file.
-fn require<S: Source>(
-    alloc: Global,
-    src: &mut S,
-    folder: &str,
-    table: &str,
-) -> Result<(), LoadError>
+fn require<S: Source>(alloc: Global, src: &mut S, folder: &str, table: &str) -> Checked
     ensures value { S.told → Answers (Rose (S.faults src.old) (S.faults src.new)) (missing_table (content_of (S.files src.old) folder.now) table.now) (λ _. Unit {0}) result }
     ensures counted { IsCounted (Rose (S.faults src.old) (S.faults src.new)) result }
     ensures stays { S.files src.new ≡ S.files src.old }
@@ -107,7 +98,7 @@ fn require<S: Source>(
 }
 
 /// Refuses where a table that each package has has no file.
-fn require_tables<S: Source>(alloc: Global, src: &mut S, folder: &str) -> Result<(), LoadError>
+fn require_tables<S: Source>(alloc: Global, src: &mut S, folder: &str) -> Checked
     ensures value { S.told → Answers (Rose (S.faults src.old) (S.faults src.new)) (missing_fault (content_of (S.files src.old) folder.now)) (λ _. Unit {0}) result }
     ensures counted { IsCounted (Rose (S.faults src.old) (S.faults src.new)) result }
     ensures stays { S.files src.new ≡ S.files src.old }
@@ -125,12 +116,7 @@ fn name_source(loaded: &mut Package)
 }
 
 /// Loads the package of a folder into one without rows, or refuses with the first fault.
-fn fill<S: Source>(
-    alloc: Global,
-    src: &mut S,
-    folder: &str,
-    loaded: &mut Package,
-) -> Result<(), LoadError>
+fn fill<S: Source>(alloc: Global, src: &mut S, folder: &str, loaded: &mut Package) -> Checked
     requires { HoldsAll loaded.old (λ _. None) }
     ensures value { S.told → Answers (Rose (S.faults src.old) (S.faults src.new)) (load_fault (S.files src.old) folder.now)
         (λ _. IsPackage loaded.new (content_of (S.files src.old) folder.now)) result }

@@ -37,7 +37,7 @@ pub struct Package {
 }
 
 macro_rules! without_rows {
-    ($alloc:ident: $($table:ident $rows:ident),*) => {
+    ($alloc:ident: $($table:ident $layout:ident $rows:ident),*) => {
         Package {
             short_names: false,
             $($rows: IndexMap::new($alloc)),*

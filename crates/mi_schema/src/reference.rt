@@ -8,7 +8,7 @@ ghost use Rattle.mi_schema.specs.References.{names, may_name, key_path_target, s
 ghost use Rattle.mi_schema.specs.RowsOf.{rows_in, behind, AreNamed};
 ghost use Rattle.mi_schema.specs.TableRows.{Rows};
 
-use crate::error::LoadError;
+use crate::error::{Checked, LoadError};
 use crate::known::{Known, Listed, Target, tables};
 use crate::package::Package;
 use crate::rule::lacks;
@@ -211,7 +211,7 @@ fn check_table<K: Key, R: Naming>(
     loaded: &Package,
     table: &str,
     rows: &IndexMap<K, R>,
-) -> Result<(), LoadError>
+) -> Checked
     requires named { AreNamed loaded.now }
     requires few { length rows.now.entries ≤ 65535 }
     ensures { Answers ⊥ (first_dangling table.now (R.dangles (rows_in loaded.now)) 1 (behind rows.now.entries)) (λ _. Unit {0}) result }
@@ -239,7 +239,7 @@ macro_rules! check_known {
 
 /// Refuses with the first value of a known table that names no row.
 #[tactic(auto, unfolding(crate::specs::RowsOf::rows_in))]
-fn check_known(alloc: Global, loaded: &Package, known: Known) -> Result<(), LoadError>
+fn check_known(alloc: Global, loaded: &Package, known: Known) -> Checked
     requires named { AreNamed loaded.now }
     requires few { TablesSmall loaded.now }
     ensures { Answers ⊥ (rows_dangling (rows_in loaded.now) known) (λ _. Unit {0}) result }
@@ -254,7 +254,7 @@ fn check_known(alloc: Global, loaded: &Package, known: Known) -> Result<(), Load
 }
 
 /// Refuses with the first value that names no row, by table, row and column.
-pub fn check_references(alloc: Global, loaded: &Package) -> Result<(), LoadError>
+pub fn check_references(alloc: Global, loaded: &Package) -> Checked
     requires named { AreNamed loaded.now }
     requires few { TablesSmall loaded.now }
     ensures { Answers ⊥ (references_fault (rows_in loaded.now)) (λ _. Unit {0}) result }

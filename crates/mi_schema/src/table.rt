@@ -19,7 +19,7 @@ ghost use Rattle.mi_schema.specs.Checks.{table_path, content_of};
 ghost use Rattle.mi_source.specs.Paths.{bytes_or_none};
 
 use crate::column::{Column, Kind, Layout};
-use crate::error::LoadError;
+use crate::error::{Checked, LoadError};
 use crate::row::read_rows;
 use crate::table_row::{Key, TableRow};
 use indexmap::IndexMap;
@@ -30,14 +30,10 @@ use mi_text::Bytes;
 use std::alloc::Global;
 
 /// The greatest length of a table, in bytes.
-pub const TABLE_LIMIT: usize = 16_777_216;
+const TABLE_LIMIT: usize = 16_777_216;
 
 /// The bytes of a file, or None where there are more than a table may have. It is read in pieces.
-pub fn read_file<S: Source>(
-    alloc: Global,
-    src: &mut S,
-    path: &str,
-) -> Result<Option<Bytes>, SrcFault>
+fn read_file<S: Source>(alloc: Global, src: &mut S, path: &str) -> Result<Option<Bytes>, SrcFault>
     ensures value { S.told → IfOk result (λ found. IsWhole found (bytes_or_none (get (S.files src.old) path.now))) }
     ensures stays { S.files src.new ≡ S.files src.old }
     ensures counts { S.faults src.old ≤ S.faults src.new }
@@ -130,7 +126,7 @@ fn read_spelled<K: Key, R: TableRow<K>>(
     layout: &Layout,
     table: &Table,
     rows: &mut IndexMap<K, R>,
-) -> Result<(), LoadError>
+) -> Checked
     requires is { table_as layout.now ≡ layout_of R.known }
     requires spelled { IsSpelled table.now }
     requires apart { KeysTell K.eq K.key (layout_of R.known).columns }
@@ -150,7 +146,7 @@ fn read_bytes<K: Key, R: TableRow<K>>(
     layout: &Layout,
     bytes: &[u8],
     rows: &mut IndexMap<K, R>,
-) -> Result<(), LoadError>
+) -> Checked
     requires is { table_as layout.now ≡ layout_of R.known }
     requires apart { KeysTell K.eq K.key (layout_of R.known).columns }
     ensures { Answers ⊥ (table_fault (table_as layout.now) (Some bytes.now)) (λ _. rows.new.entries ≡ keyed K.key R.value (table_rows (table_as layout.now) (Some bytes.now))) result }
@@ -163,7 +159,7 @@ fn read_bytes<K: Key, R: TableRow<K>>(
 }
 
 /// Refuses a table that holds a row.
-fn refuse_spelled(alloc: Global, name: &str, table: &Table) -> Result<(), LoadError>
+fn refuse_spelled(alloc: Global, name: &str, table: &Table) -> Checked
     requires spelled { IsSpelled table.now }
     ensures { Answers ⊥ (value_fault (refused name.now) (meaning table.now)) (λ _. Unit {0}) result }
 {
@@ -175,7 +171,7 @@ fn refuse_spelled(alloc: Global, name: &str, table: &Table) -> Result<(), LoadEr
 }
 
 /// Refuses these bytes where they hold a row, or spell no table.
-fn refuse_bytes(alloc: Global, name: &str, bytes: &[u8]) -> Result<(), LoadError>
+fn refuse_bytes(alloc: Global, name: &str, bytes: &[u8]) -> Checked
     ensures { Answers ⊥ (table_fault (refused name.now) (Some bytes.now)) (λ _. Unit {0}) result }
 {
     match read_table(alloc, bytes) {
@@ -235,16 +231,17 @@ pub fn load_table<K: Key, R: TableRow<K>, S: Source>(
     alloc: Global,
     src: &mut S,
     folder: &str,
+    layout: &Layout,
     rows: &mut IndexMap<K, R>,
-) -> Result<(), LoadError>
-    requires { KeysTell K.eq K.key (layout_of R.known).columns }
+) -> Checked
+    requires is { table_as layout.now ≡ layout_of R.known }
+    requires apart { KeysTell K.eq K.key (layout_of R.known).columns }
     ensures read { OnOk result (AreRead K.key R.value S.told (content_of (S.files src.old) folder.now (layout_of R.known).name) (layout_of R.known) rows.new.entries) }
     ensures fault { S.told → IfErr result (Fails (Rose (S.faults src.old) (S.faults src.new)) (table_fault (layout_of R.known) (content_of (S.files src.old) folder.now (layout_of R.known).name))) }
     ensures counted { IsCounted (Rose (S.faults src.old) (S.faults src.new)) result }
     ensures stays { S.files src.new ≡ S.files src.old }
     ensures counts { S.faults src.old ≤ S.faults src.new }
 {
-    let layout = R::layout();
     match bytes_of(alloc, src, folder, layout.name)? {
         Some(bytes) => read_bytes(alloc, layout, bytes.as_slice(), rows),
         None => {
@@ -255,12 +252,7 @@ pub fn load_table<K: Key, R: TableRow<K>, S: Source>(
 }
 
 /// Refuses a table in a folder that holds a row.
-pub fn refuse_table<S: Source>(
-    alloc: Global,
-    src: &mut S,
-    folder: &str,
-    name: &str,
-) -> Result<(), LoadError>
+pub fn refuse_table<S: Source>(alloc: Global, src: &mut S, folder: &str, name: &str) -> Checked
     ensures read { OnOk result (IsRight S.told (content_of (S.files src.old) folder.now name.now) (refused name.now)) }
     ensures fault { S.told → IfErr result (Fails (Rose (S.faults src.old) (S.faults src.new)) (table_fault (refused name.now) (content_of (S.files src.old) folder.now name.now))) }
     ensures counted { IsCounted (Rose (S.faults src.old) (S.faults src.new)) result }

@@ -35,7 +35,7 @@ macro_rules! rule {
 // A table by its name and its columns: how a column stands, its name, what it holds, and its rule, if any.
 macro_rules! layout {
     ($table:literal: $($may:ident $name:ident $kind:ident $($rule:ident)? $(($($limit:tt)*))?),*) => {
-        &Layout {
+        Layout {
             name: $table,
             columns: &[$(Column {
                 name: stringify!($name),
@@ -68,14 +68,13 @@ pub struct PropertyRow {
     pub value: Text,
 }
 
+pub const PROPERTY: Layout = layout!("Property": key Property Text PropertyName,
+    needs Value Text PropertyValue);
+
 impl TableRow<Text> for PropertyRow {
     ghost known = { of.Property };
 
     ghost value = { property_row };
-
-    fn layout() -> &'static Layout {
-        layout!("Property": key Property Text PropertyName, needs Value Text PropertyValue)
-    }
 
     fn read(alloc: Global, row: Row) -> PropertyRow {
         read!(alloc, row => PropertyRow of 2: text property, text value)
@@ -92,15 +91,13 @@ pub struct DirectoryRow {
     pub default_dir: Text,
 }
 
+pub const DIRECTORY: Layout = layout!("Directory": key Directory Text,
+    allows Directory_Parent Text OneRoot, needs DefaultDir Text DefaultDir);
+
 impl TableRow<Text> for DirectoryRow {
     ghost known = { of.Directory };
 
     ghost value = { directory_row };
-
-    fn layout() -> &'static Layout {
-        layout!("Directory": key Directory Text, allows Directory_Parent Text OneRoot,
-            needs DefaultDir Text DefaultDir)
-    }
 
     fn read(alloc: Global, row: Row) -> DirectoryRow {
         read!(alloc, row => DirectoryRow of 3: text directory, some_text directory_parent,
@@ -122,16 +119,14 @@ pub struct ComponentRow {
     pub key_path: Option<Text>,
 }
 
+pub const COMPONENT: Layout = layout!("Component": key Component Text,
+    allows ComponentId Code NewCode, needs Directory_ Text,
+    needs Attributes Integer Without(1 | 32 | 64), allows Condition Condition, allows KeyPath Text);
+
 impl TableRow<Text> for ComponentRow {
     ghost known = { of.Component };
 
     ghost value = { component_row };
-
-    fn layout() -> &'static Layout {
-        layout!("Component": key Component Text, allows ComponentId Code NewCode,
-            needs Directory_ Text, needs Attributes Integer Without(1 | 32 | 64),
-            allows Condition Condition, allows KeyPath Text)
-    }
 
     fn read(alloc: Global, row: Row) -> ComponentRow {
         read!(alloc, row => ComponentRow of 6: text component, some_code component_id,
@@ -153,16 +148,14 @@ pub struct FeatureRow {
     pub attributes: i32,
 }
 
+pub const FEATURE: Layout = layout!("Feature": key Feature Text, allows Feature_Parent Text,
+    allows Title Text, allows Description Text, allows Display Integer, needs Level Integer,
+    allows Directory_ Text, needs Attributes Integer);
+
 impl TableRow<Text> for FeatureRow {
     ghost known = { of.Feature };
 
     ghost value = { feature_row };
-
-    fn layout() -> &'static Layout {
-        layout!("Feature": key Feature Text, allows Feature_Parent Text, allows Title Text,
-            allows Description Text, allows Display Integer, needs Level Integer,
-            allows Directory_ Text, needs Attributes Integer)
-    }
 
     fn read(alloc: Global, row: Row) -> FeatureRow {
         read!(alloc, row => FeatureRow of 8: text feature, some_text feature_parent,
@@ -180,14 +173,13 @@ pub struct FeatureComponentsRow {
     pub component: Text,
 }
 
+pub const FEATURE_COMPONENTS: Layout = layout!("FeatureComponents": key Feature_ Text,
+    key Component_ Text);
+
 impl TableRow<(Text, Text)> for FeatureComponentsRow {
     ghost known = { of.FeatureComponents };
 
     ghost value = { feature_components_row };
-
-    fn layout() -> &'static Layout {
-        layout!("FeatureComponents": key Feature_ Text, key Component_ Text)
-    }
 
     fn read(alloc: Global, row: Row) -> FeatureComponentsRow {
         read!(alloc, row => FeatureComponentsRow of 2: text feature, text component)
@@ -203,14 +195,13 @@ pub struct ConditionRow {
     pub condition: Option<Cond>,
 }
 
+pub const CONDITION: Layout = layout!("Condition": key Feature_ Text, key Level Integer,
+    allows Condition Condition);
+
 impl TableRow<(Text, i32)> for ConditionRow {
     ghost known = { of.Condition };
 
     ghost value = { condition_row };
-
-    fn layout() -> &'static Layout {
-        layout!("Condition": key Feature_ Text, key Level Integer, allows Condition Condition)
-    }
 
     fn read(alloc: Global, row: Row) -> ConditionRow {
         read!(alloc, row => ConditionRow of 3: text feature, number level, some_condition condition)
@@ -235,16 +226,14 @@ pub struct FileRow {
     pub sequence: i32,
 }
 
+pub const FILE: Layout = layout!("File": key File Text, needs Component_ Text, needs FileName Name,
+    needs FileSize Integer Within(0, i32::MAX), allows Version Text VersionOrKey,
+    allows Language Text Languages, allows Attributes Integer, needs Sequence Integer);
+
 impl TableRow<Text> for FileRow {
     ghost known = { of.File };
 
     ghost value = { file_row };
-
-    fn layout() -> &'static Layout {
-        layout!("File": key File Text, needs Component_ Text, needs FileName Name,
-            needs FileSize Integer Within(0, i32::MAX), allows Version Text VersionOrKey,
-            allows Language Text Languages, allows Attributes Integer, needs Sequence Integer)
-    }
 
     fn read(alloc: Global, row: Row) -> FileRow {
         read!(alloc, row => FileRow of 8: text file, text component, text file_name,
@@ -265,15 +254,14 @@ pub struct MsiFileHashRow {
     pub hash_part4: i32,
 }
 
+pub const MSI_FILE_HASH: Layout = layout!("MsiFileHash": key File_ Text, needs Options Integer,
+    needs HashPart1 Integer, needs HashPart2 Integer, needs HashPart3 Integer,
+    needs HashPart4 Integer);
+
 impl TableRow<Text> for MsiFileHashRow {
     ghost known = { of.MsiFileHash };
 
     ghost value = { msi_file_hash_row };
-
-    fn layout() -> &'static Layout {
-        layout!("MsiFileHash": key File_ Text, needs Options Integer, needs HashPart1 Integer,
-            needs HashPart2 Integer, needs HashPart3 Integer, needs HashPart4 Integer)
-    }
 
     fn read(alloc: Global, row: Row) -> MsiFileHashRow {
         read!(alloc, row => MsiFileHashRow of 6: text file, number options, number hash_part1,
@@ -294,15 +282,13 @@ pub struct RemoveFileRow {
     pub install_mode: i32,
 }
 
+pub const REMOVE_FILE: Layout = layout!("RemoveFile": key FileKey Text, needs Component_ Text,
+    allows FileName Pattern, needs DirProperty Text, needs InstallMode Integer Within(1, 3));
+
 impl TableRow<Text> for RemoveFileRow {
     ghost known = { of.RemoveFile };
 
     ghost value = { remove_file_row };
-
-    fn layout() -> &'static Layout {
-        layout!("RemoveFile": key FileKey Text, needs Component_ Text, allows FileName Pattern,
-            needs DirProperty Text, needs InstallMode Integer Within(1, 3))
-    }
 
     fn read(alloc: Global, row: Row) -> RemoveFileRow {
         read!(alloc, row => RemoveFileRow of 5: text file_key, text component, some_text file_name,
@@ -319,14 +305,12 @@ pub struct CreateFolderRow {
     pub component: Text,
 }
 
+pub const CREATE_FOLDER: Layout = layout!("CreateFolder": key Directory_ Text, key Component_ Text);
+
 impl TableRow<(Text, Text)> for CreateFolderRow {
     ghost known = { of.CreateFolder };
 
     ghost value = { create_folder_row };
-
-    fn layout() -> &'static Layout {
-        layout!("CreateFolder": key Directory_ Text, key Component_ Text)
-    }
 
     fn read(alloc: Global, row: Row) -> CreateFolderRow {
         read!(alloc, row => CreateFolderRow of 2: text directory, text component)
@@ -346,15 +330,13 @@ pub struct DuplicateFileRow {
     pub dest_folder: Option<Text>,
 }
 
+pub const DUPLICATE_FILE: Layout = layout!("DuplicateFile": key FileKey Text, needs Component_ Text,
+    needs File_ Text, allows DestName Name, allows DestFolder Text);
+
 impl TableRow<Text> for DuplicateFileRow {
     ghost known = { of.DuplicateFile };
 
     ghost value = { duplicate_file_row };
-
-    fn layout() -> &'static Layout {
-        layout!("DuplicateFile": key FileKey Text, needs Component_ Text, needs File_ Text,
-            allows DestName Name, allows DestFolder Text)
-    }
 
     fn read(alloc: Global, row: Row) -> DuplicateFileRow {
         read!(alloc, row => DuplicateFileRow of 5: text file_key, text component, text file,
@@ -375,16 +357,14 @@ pub struct RegistryRow {
     pub component: Text,
 }
 
+pub const REGISTRY: Layout = layout!("Registry": key Registry Text,
+    needs Root Integer Within(-1, 3), needs Key Formatted, allows Name Formatted,
+    allows Value Formatted, needs Component_ Text);
+
 impl TableRow<Text> for RegistryRow {
     ghost known = { of.Registry };
 
     ghost value = { registry_row };
-
-    fn layout() -> &'static Layout {
-        layout!("Registry": key Registry Text, needs Root Integer Within(-1, 3),
-            needs Key Formatted, allows Name Formatted, allows Value Formatted,
-            needs Component_ Text)
-    }
 
     fn read(alloc: Global, row: Row) -> RegistryRow {
         read!(alloc, row => RegistryRow of 6: text registry, number root, text key, some_text name,
@@ -404,15 +384,14 @@ pub struct RemoveRegistryRow {
     pub component: Text,
 }
 
+pub const REMOVE_REGISTRY: Layout = layout!("RemoveRegistry": key RemoveRegistry Text,
+    needs Root Integer Within(-1, 3), needs Key Formatted, allows Name Formatted,
+    needs Component_ Text);
+
 impl TableRow<Text> for RemoveRegistryRow {
     ghost known = { of.RemoveRegistry };
 
     ghost value = { remove_registry_row };
-
-    fn layout() -> &'static Layout {
-        layout!("RemoveRegistry": key RemoveRegistry Text, needs Root Integer Within(-1, 3),
-            needs Key Formatted, allows Name Formatted, needs Component_ Text)
-    }
 
     fn read(alloc: Global, row: Row) -> RemoveRegistryRow {
         read!(alloc, row => RemoveRegistryRow of 5: text remove_registry, number root, text key,
@@ -431,15 +410,13 @@ pub struct EnvironmentRow {
     pub component: Text,
 }
 
+pub const ENVIRONMENT: Layout = layout!("Environment": key Environment Text, needs Name Text,
+    allows Value Formatted, needs Component_ Text);
+
 impl TableRow<Text> for EnvironmentRow {
     ghost known = { of.Environment };
 
     ghost value = { environment_row };
-
-    fn layout() -> &'static Layout {
-        layout!("Environment": key Environment Text, needs Name Text, allows Value Formatted,
-            needs Component_ Text)
-    }
 
     fn read(alloc: Global, row: Row) -> EnvironmentRow {
         read!(alloc, row => EnvironmentRow of 4: text environment, text name, some_text value,
@@ -470,18 +447,16 @@ pub struct ShortcutRow {
     pub wk_dir: Option<Text>,
 }
 
+pub const SHORTCUT: Layout = layout!("Shortcut": key Shortcut Text, needs Directory_ Text,
+    needs Name Name, needs Component_ Text, needs Target Formatted, allows Arguments Formatted,
+    allows Description Text, allows Hotkey Integer Within(0, 65_535), allows Icon_ Text,
+    allows IconIndex Integer Within(-32_767, 32_767), allows ShowCmd Integer Within(0, 65_535),
+    allows WkDir Text);
+
 impl TableRow<Text> for ShortcutRow {
     ghost known = { of.Shortcut };
 
     ghost value = { shortcut_row };
-
-    fn layout() -> &'static Layout {
-        layout!("Shortcut": key Shortcut Text, needs Directory_ Text, needs Name Name,
-            needs Component_ Text, needs Target Formatted, allows Arguments Formatted,
-            allows Description Text, allows Hotkey Integer Within(0, 65_535), allows Icon_ Text,
-            allows IconIndex Integer Within(-32_767, 32_767),
-            allows ShowCmd Integer Within(0, 65_535), allows WkDir Text)
-    }
 
     fn read(alloc: Global, row: Row) -> ShortcutRow {
         read!(alloc, row => ShortcutRow of 12: text shortcut, text directory, text name,
@@ -498,14 +473,13 @@ pub struct LaunchConditionRow {
     pub description: Text,
 }
 
+pub const LAUNCH_CONDITION: Layout = layout!("LaunchCondition": key Condition Condition,
+    needs Description Formatted);
+
 impl TableRow<Text> for LaunchConditionRow {
     ghost known = { of.LaunchCondition };
 
     ghost value = { launch_condition_row };
-
-    fn layout() -> &'static Layout {
-        layout!("LaunchCondition": key Condition Condition, needs Description Formatted)
-    }
 
     fn read(alloc: Global, row: Row) -> LaunchConditionRow {
         read!(alloc, row => LaunchConditionRow of 2: condition_of condition, text description)
@@ -523,15 +497,13 @@ pub struct CustomActionRow {
     pub target: Option<Text>,
 }
 
+pub const CUSTOM_ACTION: Layout = layout!("CustomAction": key Action Text, needs Type Integer,
+    allows Source Text, allows Target Formatted);
+
 impl TableRow<Text> for CustomActionRow {
     ghost known = { of.CustomAction };
 
     ghost value = { custom_action_row };
-
-    fn layout() -> &'static Layout {
-        layout!("CustomAction": key Action Text, needs Type Integer, allows Source Text,
-            allows Target Formatted)
-    }
 
     fn read(alloc: Global, row: Row) -> CustomActionRow {
         read!(alloc, row => CustomActionRow of 4: text action, number kind, some_text source,
@@ -547,15 +519,13 @@ pub struct InstallExecuteSequenceRow {
     pub sequence: Option<i32>,
 }
 
+pub const INSTALL_EXECUTE_SEQUENCE: Layout = layout!("InstallExecuteSequence": key Action Text,
+    allows Condition Condition, allows Sequence Integer);
+
 impl TableRow<Text> for InstallExecuteSequenceRow {
     ghost known = { of.InstallExecuteSequence };
 
     ghost value = { install_execute_sequence_row };
-
-    fn layout() -> &'static Layout {
-        layout!("InstallExecuteSequence": key Action Text, allows Condition Condition,
-            allows Sequence Integer)
-    }
 
     fn read(alloc: Global, row: Row) -> InstallExecuteSequenceRow {
         read!(alloc, row => InstallExecuteSequenceRow of 3: text action, some_condition condition,
@@ -575,16 +545,14 @@ pub struct UpgradeRow {
     pub action_property: Text,
 }
 
+pub const UPGRADE: Layout = layout!("Upgrade": key UpgradeCode Text, key_or_null VersionMin Text,
+    key_or_null VersionMax Text, key_or_null Language Text, key Attributes Integer,
+    allows Remove Text, needs ActionProperty Text);
+
 impl TableRow<UpgradeKey> for UpgradeRow {
     ghost known = { of.Upgrade };
 
     ghost value = { upgrade_row };
-
-    fn layout() -> &'static Layout {
-        layout!("Upgrade": key UpgradeCode Text, key_or_null VersionMin Text,
-            key_or_null VersionMax Text, key_or_null Language Text, key Attributes Integer,
-            allows Remove Text, needs ActionProperty Text)
-    }
 
     fn read(alloc: Global, row: Row) -> UpgradeRow {
         read!(alloc, row => UpgradeRow of 7: text upgrade_code, some_text version_min,
@@ -601,14 +569,13 @@ pub struct SummaryInformationRow {
     pub value: Option<Text>,
 }
 
+pub const SUMMARY_INFORMATION: Layout = layout!("_SummaryInformation": key PropertyId Integer,
+    allows Value Text WordCount);
+
 impl TableRow<i32> for SummaryInformationRow {
     ghost known = { of.SummaryInformation };
 
     ghost value = { summary_information_row };
-
-    fn layout() -> &'static Layout {
-        layout!("_SummaryInformation": key PropertyId Integer, allows Value Text WordCount)
-    }
 
     fn read(alloc: Global, row: Row) -> SummaryInformationRow {
         read!(alloc, row => SummaryInformationRow of 2: number property_id, some_text value)

@@ -11,65 +11,125 @@ use Rattle.mi_schema.proofs.KeyLaws.{text_told, number_told, texts_told, text_nu
 use Rattle.mi_schema.proofs.LoadLemmas.{on_ok}
 use Rattle.mi_schema.proofs.load.load_known.Goals as goal
 
-pub load_table-requires : goal.load_table-requires
-load_table-requires g c = text_told table.component.columns refl
+pub load_table-requires-clause-is : goal.load_table-requires-clause-is
+load_table-requires-clause-is g c = refl
 
-pub load_table-requires-in-Condition : goal.load_table-requires-in-Condition
-load_table-requires-in-Condition g c = text_number_told table.condition.columns refl
+pub load_table-requires-in-Condition-clause-is : goal.load_table-requires-in-Condition-clause-is
+load_table-requires-in-Condition-clause-is g c = refl
 
-pub load_table-requires-in-CreateFolder : goal.load_table-requires-in-CreateFolder
-load_table-requires-in-CreateFolder g c = texts_told table.create_folder.columns refl
+pub load_table-requires-in-CreateFolder-clause-is : goal.load_table-requires-in-CreateFolder-clause-is
+load_table-requires-in-CreateFolder-clause-is g c = refl
 
-pub load_table-requires-in-CustomAction : goal.load_table-requires-in-CustomAction
-load_table-requires-in-CustomAction g c = text_told table.custom_action.columns refl
+pub load_table-requires-in-CustomAction-clause-is : goal.load_table-requires-in-CustomAction-clause-is
+load_table-requires-in-CustomAction-clause-is g c = refl
 
-pub load_table-requires-in-Directory : goal.load_table-requires-in-Directory
-load_table-requires-in-Directory g c = text_told table.directory.columns refl
+pub load_table-requires-in-Directory-clause-is : goal.load_table-requires-in-Directory-clause-is
+load_table-requires-in-Directory-clause-is g c = refl
 
-pub load_table-requires-in-DuplicateFile : goal.load_table-requires-in-DuplicateFile
-load_table-requires-in-DuplicateFile g c = text_told table.duplicate_file.columns refl
+pub load_table-requires-in-DuplicateFile-clause-is : goal.load_table-requires-in-DuplicateFile-clause-is
+load_table-requires-in-DuplicateFile-clause-is g c = refl
 
-pub load_table-requires-in-Environment : goal.load_table-requires-in-Environment
-load_table-requires-in-Environment g c = text_told table.environment.columns refl
+pub load_table-requires-in-Environment-clause-is : goal.load_table-requires-in-Environment-clause-is
+load_table-requires-in-Environment-clause-is g c = refl
 
-pub load_table-requires-in-Feature : goal.load_table-requires-in-Feature
-load_table-requires-in-Feature g c = text_told table.feature.columns refl
+pub load_table-requires-in-Feature-clause-is : goal.load_table-requires-in-Feature-clause-is
+load_table-requires-in-Feature-clause-is g c = refl
 
-pub load_table-requires-in-FeatureComponents : goal.load_table-requires-in-FeatureComponents
-load_table-requires-in-FeatureComponents g c = texts_told table.feature_components.columns refl
+pub load_table-requires-in-FeatureComponents-clause-is : goal.load_table-requires-in-FeatureComponents-clause-is
+load_table-requires-in-FeatureComponents-clause-is g c = refl
 
-pub load_table-requires-in-File : goal.load_table-requires-in-File
-load_table-requires-in-File g c = text_told table.file.columns refl
+pub load_table-requires-in-File-clause-is : goal.load_table-requires-in-File-clause-is
+load_table-requires-in-File-clause-is g c = refl
 
-pub load_table-requires-in-InstallExecuteSequence : goal.load_table-requires-in-InstallExecuteSequence
-load_table-requires-in-InstallExecuteSequence g c = text_told table.install_execute_sequence.columns refl
+pub load_table-requires-in-InstallExecuteSequence-clause-is : goal.load_table-requires-in-InstallExecuteSequence-clause-is
+load_table-requires-in-InstallExecuteSequence-clause-is g c = refl
 
-pub load_table-requires-in-LaunchCondition : goal.load_table-requires-in-LaunchCondition
-load_table-requires-in-LaunchCondition g c = text_told table.launch_condition.columns refl
+pub load_table-requires-in-LaunchCondition-clause-is : goal.load_table-requires-in-LaunchCondition-clause-is
+load_table-requires-in-LaunchCondition-clause-is g c = refl
 
-pub load_table-requires-in-MsiFileHash : goal.load_table-requires-in-MsiFileHash
-load_table-requires-in-MsiFileHash g c = text_told table.msi_file_hash.columns refl
+pub load_table-requires-in-MsiFileHash-clause-is : goal.load_table-requires-in-MsiFileHash-clause-is
+load_table-requires-in-MsiFileHash-clause-is g c = refl
 
-pub load_table-requires-in-Property : goal.load_table-requires-in-Property
-load_table-requires-in-Property g c = text_told table.property.columns refl
+pub load_table-requires-in-Property-clause-is : goal.load_table-requires-in-Property-clause-is
+load_table-requires-in-Property-clause-is g c = refl
 
-pub load_table-requires-in-Registry : goal.load_table-requires-in-Registry
-load_table-requires-in-Registry g c = text_told table.registry.columns refl
+pub load_table-requires-in-Registry-clause-is : goal.load_table-requires-in-Registry-clause-is
+load_table-requires-in-Registry-clause-is g c = refl
 
-pub load_table-requires-in-RemoveFile : goal.load_table-requires-in-RemoveFile
-load_table-requires-in-RemoveFile g c = text_told table.remove_file.columns refl
+pub load_table-requires-in-RemoveFile-clause-is : goal.load_table-requires-in-RemoveFile-clause-is
+load_table-requires-in-RemoveFile-clause-is g c = refl
 
-pub load_table-requires-in-RemoveRegistry : goal.load_table-requires-in-RemoveRegistry
-load_table-requires-in-RemoveRegistry g c = text_told table.remove_registry.columns refl
+pub load_table-requires-in-RemoveRegistry-clause-is : goal.load_table-requires-in-RemoveRegistry-clause-is
+load_table-requires-in-RemoveRegistry-clause-is g c = refl
 
-pub load_table-requires-in-Shortcut : goal.load_table-requires-in-Shortcut
-load_table-requires-in-Shortcut g c = text_told table.shortcut.columns refl
+pub load_table-requires-in-Shortcut-clause-is : goal.load_table-requires-in-Shortcut-clause-is
+load_table-requires-in-Shortcut-clause-is g c = refl
 
-pub load_table-requires-in-SummaryInformation : goal.load_table-requires-in-SummaryInformation
-load_table-requires-in-SummaryInformation g c = number_told table.summary_information.columns refl
+pub load_table-requires-in-SummaryInformation-clause-is : goal.load_table-requires-in-SummaryInformation-clause-is
+load_table-requires-in-SummaryInformation-clause-is g c = refl
 
-pub load_table-requires-in-Upgrade : goal.load_table-requires-in-Upgrade
-load_table-requires-in-Upgrade g c = upgrade_told table.upgrade.columns refl
+pub load_table-requires-in-Upgrade-clause-is : goal.load_table-requires-in-Upgrade-clause-is
+load_table-requires-in-Upgrade-clause-is g c = refl
+
+pub load_table-requires-clause-apart : goal.load_table-requires-clause-apart
+load_table-requires-clause-apart g c = text_told table.component.columns refl
+
+pub load_table-requires-in-Condition-clause-apart : goal.load_table-requires-in-Condition-clause-apart
+load_table-requires-in-Condition-clause-apart g c = text_number_told table.condition.columns refl
+
+pub load_table-requires-in-CreateFolder-clause-apart : goal.load_table-requires-in-CreateFolder-clause-apart
+load_table-requires-in-CreateFolder-clause-apart g c = texts_told table.create_folder.columns refl
+
+pub load_table-requires-in-CustomAction-clause-apart : goal.load_table-requires-in-CustomAction-clause-apart
+load_table-requires-in-CustomAction-clause-apart g c = text_told table.custom_action.columns refl
+
+pub load_table-requires-in-Directory-clause-apart : goal.load_table-requires-in-Directory-clause-apart
+load_table-requires-in-Directory-clause-apart g c = text_told table.directory.columns refl
+
+pub load_table-requires-in-DuplicateFile-clause-apart : goal.load_table-requires-in-DuplicateFile-clause-apart
+load_table-requires-in-DuplicateFile-clause-apart g c = text_told table.duplicate_file.columns refl
+
+pub load_table-requires-in-Environment-clause-apart : goal.load_table-requires-in-Environment-clause-apart
+load_table-requires-in-Environment-clause-apart g c = text_told table.environment.columns refl
+
+pub load_table-requires-in-Feature-clause-apart : goal.load_table-requires-in-Feature-clause-apart
+load_table-requires-in-Feature-clause-apart g c = text_told table.feature.columns refl
+
+pub load_table-requires-in-FeatureComponents-clause-apart : goal.load_table-requires-in-FeatureComponents-clause-apart
+load_table-requires-in-FeatureComponents-clause-apart g c = texts_told table.feature_components.columns refl
+
+pub load_table-requires-in-File-clause-apart : goal.load_table-requires-in-File-clause-apart
+load_table-requires-in-File-clause-apart g c = text_told table.file.columns refl
+
+pub load_table-requires-in-InstallExecuteSequence-clause-apart : goal.load_table-requires-in-InstallExecuteSequence-clause-apart
+load_table-requires-in-InstallExecuteSequence-clause-apart g c = text_told table.install_execute_sequence.columns refl
+
+pub load_table-requires-in-LaunchCondition-clause-apart : goal.load_table-requires-in-LaunchCondition-clause-apart
+load_table-requires-in-LaunchCondition-clause-apart g c = text_told table.launch_condition.columns refl
+
+pub load_table-requires-in-MsiFileHash-clause-apart : goal.load_table-requires-in-MsiFileHash-clause-apart
+load_table-requires-in-MsiFileHash-clause-apart g c = text_told table.msi_file_hash.columns refl
+
+pub load_table-requires-in-Property-clause-apart : goal.load_table-requires-in-Property-clause-apart
+load_table-requires-in-Property-clause-apart g c = text_told table.property.columns refl
+
+pub load_table-requires-in-Registry-clause-apart : goal.load_table-requires-in-Registry-clause-apart
+load_table-requires-in-Registry-clause-apart g c = text_told table.registry.columns refl
+
+pub load_table-requires-in-RemoveFile-clause-apart : goal.load_table-requires-in-RemoveFile-clause-apart
+load_table-requires-in-RemoveFile-clause-apart g c = text_told table.remove_file.columns refl
+
+pub load_table-requires-in-RemoveRegistry-clause-apart : goal.load_table-requires-in-RemoveRegistry-clause-apart
+load_table-requires-in-RemoveRegistry-clause-apart g c = text_told table.remove_registry.columns refl
+
+pub load_table-requires-in-Shortcut-clause-apart : goal.load_table-requires-in-Shortcut-clause-apart
+load_table-requires-in-Shortcut-clause-apart g c = text_told table.shortcut.columns refl
+
+pub load_table-requires-in-SummaryInformation-clause-apart : goal.load_table-requires-in-SummaryInformation-clause-apart
+load_table-requires-in-SummaryInformation-clause-apart g c = number_told table.summary_information.columns refl
+
+pub load_table-requires-in-Upgrade-clause-apart : goal.load_table-requires-in-Upgrade-clause-apart
+load_table-requires-in-Upgrade-clause-apart g c = upgrade_told table.upgrade.columns refl
 
 pub returns-in-Component-clause-put : goal.returns-in-Component-clause-put
 returns-in-Component-clause-put g c = rw c.in-Component.is (on_ok c.load_table.result c.load_table.ensures.read (λ read. record { found = read.found; same = read.same; right = read.right; holds = λ content h. elim [ known.Component ↦ read.are | other ↦ h other ] }))
