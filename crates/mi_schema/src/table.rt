@@ -64,9 +64,7 @@ fn is_of_class(kind: Kind, letter: u8) -> bool
 fn is_known(column: &Spelled, known: &Column) -> bool
     ensures { result ≡ (bytes_eq column.now.name.now known.now.name.now && is_of_class known.now.kind column.now.letter) }
 {
-    let named = column.name == known.name;
-    let classed = is_of_class(known.kind, column.letter);
-    named && classed
+    column.name == known.name && is_of_class(known.kind, column.letter)
 }
 
 /// Whether the columns begin with the known ones, in this order.
@@ -105,9 +103,7 @@ fn has_keys(known: &[Column], keys: &[u32]) -> bool
 fn has_columns(known: &[Column], table: &Table) -> bool
     ensures { result ≡ has_columns (map column_as known.now) (meaning table.now) }
 {
-    let keyed = has_keys(known, table.keys.as_slice());
-    let begun = begins_with(known, table.columns.as_slice());
-    keyed && begun
+    has_keys(known, table.keys.as_slice()) && begins_with(known, table.columns.as_slice())
 }
 
 /// A fault of the text of a table.
