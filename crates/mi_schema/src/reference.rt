@@ -4,9 +4,9 @@ ghost use Rattle.std.specs.Prelude.{◌≡◌, ◌≤◌, ℕ, Option, length};
 ghost use Rattle.mi_schema.specs.Answers.{Answers};
 ghost use Rattle.mi_schema.specs.Checks.{references_fault};
 ghost use Rattle.mi_schema.specs.Laws.{TablesSmall};
-ghost use Rattle.mi_schema.specs.References.{names, may_name, key_path_target, sets_directory, first_dangling, rows_dangling, component_dangling, condition_dangling, create_folder_dangling, custom_action_dangling, directory_dangling, duplicate_file_dangling, environment_dangling, feature_dangling, feature_components_dangling, file_dangling, msi_file_hash_dangling, registry_dangling, remove_file_dangling, remove_registry_dangling, shortcut_dangling};
+ghost use Rattle.mi_schema.specs.References.{names, may_name, must_name, key_path_target, sets_directory, first_dangling, rows_dangling};
+ghost use Rattle.mi_schema.specs.Rows.{◌or_else◌};
 ghost use Rattle.mi_schema.specs.RowsOf.{rows_in, behind, AreNamed};
-ghost use Rattle.mi_schema.specs.TableRows.{Rows};
 
 use crate::error::{Checked, LoadError};
 use crate::known::{Known, Listed, Target, tables};
@@ -17,17 +17,6 @@ use crate::typed_rows as rows;
 use indexmap::IndexMap;
 use mi_base::{Fault, Text};
 use std::alloc::Global;
-
-/// A row that names rows of other tables.
-pub trait Naming {
-    /// The first column, from 1, that names a row that isn't there.
-    ghost dangles: { Rows → Self → Option ℕ };
-
-    /// The first column, from 1, that names a row that isn't in the package.
-    fn dangling(&self, loaded: &Package) -> Option<u32>
-        requires { AreNamed loaded.now }
-        ensures { result ≡ dangles (rows_in loaded.now) self.now };
-}
 
 /// The column, unless the row that it names is there.
 fn names(loaded: &Package, target: Target, column: u32, key: &Text) -> Option<u32>
@@ -64,161 +53,39 @@ fn sets_directory(kind: i32) -> bool
     kind.cast_unsigned() & 63 == 35
 }
 
-impl Naming for rows::ComponentRow {
-    ghost dangles = { component_dangling };
-
-    fn dangling(&self, loaded: &Package) -> Option<u32> {
-        if !loaded.has(Target::Directory, &self.directory) {
-            return Some(3);
-        }
-        may_name(loaded, key_path_target(self), 6, &self.key_path)
-    }
+/// The first of two.
+fn either(first: Option<u32>, second: Option<u32>) -> Option<u32>
+    ensures { result ≡ (first or_else second) }
+{
+    first.or(second)
 }
 
-impl Naming for rows::ConditionRow {
-    ghost dangles = { condition_dangling };
-
-    fn dangling(&self, loaded: &Package) -> Option<u32> {
-        names(loaded, Target::Feature, 1, &self.feature)
-    }
-}
-
-impl Naming for rows::CreateFolderRow {
-    ghost dangles = { create_folder_dangling };
-
-    fn dangling(&self, loaded: &Package) -> Option<u32> {
-        if !loaded.has(Target::Directory, &self.directory) {
-            return Some(1);
-        }
-        names(loaded, Target::Component, 2, &self.component)
-    }
-}
-
-impl Naming for rows::CustomActionRow {
-    ghost dangles = { custom_action_dangling };
-
-    fn dangling(&self, loaded: &Package) -> Option<u32> {
-        if !sets_directory(self.kind) {
-            return None;
-        }
-        match &self.source {
-            Some(source) => names(loaded, Target::Directory, 3, source),
-            None => Some(3),
-        }
-    }
-}
-
-impl Naming for rows::DirectoryRow {
-    ghost dangles = { directory_dangling };
-
-    fn dangling(&self, loaded: &Package) -> Option<u32> {
-        may_name(loaded, Target::Directory, 2, &self.directory_parent)
-    }
-}
-
-impl Naming for rows::DuplicateFileRow {
-    ghost dangles = { duplicate_file_dangling };
-
-    fn dangling(&self, loaded: &Package) -> Option<u32> {
-        if !loaded.has(Target::Component, &self.component) {
-            return Some(2);
-        }
-        names(loaded, Target::File, 3, &self.file)
-    }
-}
-
-impl Naming for rows::EnvironmentRow {
-    ghost dangles = { environment_dangling };
-
-    fn dangling(&self, loaded: &Package) -> Option<u32> {
-        names(loaded, Target::Component, 4, &self.component)
-    }
-}
-
-impl Naming for rows::FeatureRow {
-    ghost dangles = { feature_dangling };
-
-    fn dangling(&self, loaded: &Package) -> Option<u32> {
-        may_name(loaded, Target::Feature, 2, &self.feature_parent)
-    }
-}
-
-impl Naming for rows::FeatureComponentsRow {
-    ghost dangles = { feature_components_dangling };
-
-    fn dangling(&self, loaded: &Package) -> Option<u32> {
-        if !loaded.has(Target::Feature, &self.feature) {
-            return Some(1);
-        }
-        names(loaded, Target::Component, 2, &self.component)
-    }
-}
-
-impl Naming for rows::FileRow {
-    ghost dangles = { file_dangling };
-
-    fn dangling(&self, loaded: &Package) -> Option<u32> {
-        names(loaded, Target::Component, 2, &self.component)
-    }
-}
-
-impl Naming for rows::MsiFileHashRow {
-    ghost dangles = { msi_file_hash_dangling };
-
-    fn dangling(&self, loaded: &Package) -> Option<u32> {
-        names(loaded, Target::File, 1, &self.file)
-    }
-}
-
-impl Naming for rows::RegistryRow {
-    ghost dangles = { registry_dangling };
-
-    fn dangling(&self, loaded: &Package) -> Option<u32> {
-        names(loaded, Target::Component, 6, &self.component)
-    }
-}
-
-impl Naming for rows::RemoveFileRow {
-    ghost dangles = { remove_file_dangling };
-
-    fn dangling(&self, loaded: &Package) -> Option<u32> {
-        names(loaded, Target::Component, 2, &self.component)
-    }
-}
-
-impl Naming for rows::RemoveRegistryRow {
-    ghost dangles = { remove_registry_dangling };
-
-    fn dangling(&self, loaded: &Package) -> Option<u32> {
-        names(loaded, Target::Component, 5, &self.component)
-    }
-}
-
-impl Naming for rows::ShortcutRow {
-    ghost dangles = { shortcut_dangling };
-
-    fn dangling(&self, loaded: &Package) -> Option<u32> {
-        if !loaded.has(Target::Directory, &self.directory) {
-            return Some(2);
-        }
-        names(loaded, Target::Component, 4, &self.component)
+/// The column, unless the row that it names is there; a null names none.
+fn must_name(loaded: &Package, target: Target, column: u32, key: &Option<Text>) -> Option<u32>
+    requires { AreNamed loaded.now }
+    ensures { result ≡ must_name (rows_in loaded.now) target column key.now }
+{
+    match key {
+        Some(key) => names(loaded, target, column, key),
+        None => Some(column),
     }
 }
 
 /// Refuses with the first value of a table that names no row.
-fn check_table<K: Key, R: Naming>(
+fn check_table<K: Key, R, F: Fn(&R) -> Option<u32>>(
     alloc: Global,
-    loaded: &Package,
     table: &str,
     rows: &IndexMap<K, R>,
+    dangling: F,
 ) -> Checked
-    requires named { AreNamed loaded.now }
+    requires callable { F.IsAlwaysCallable dangling }
     requires few { length rows.now.entries ≤ 65535 }
-    ensures { Answers ⊥ (first_dangling table.now (R.dangles (rows_in loaded.now)) 1 (behind rows.now.entries)) (λ _. Unit {0}) result }
+    ensures { (dangles : R → Option ℕ) → ((r : _) (o : _) → F.post dangling r o → o ≡ dangles r.now)
+        → Answers ⊥ (first_dangling table.now dangles 1 (behind rows.now.entries)) (λ _. Unit {0}) result }
 {
     let mut number = 1;
     for row in rows.values() {
-        if let Some(column) = row.dangling(loaded) {
+        if let Some(column) = dangling(row) {
             let name = Text::copy_of(alloc, table)?;
             return Err(LoadError::Table(Fault::Reference(name, number, column)));
         }
@@ -227,11 +94,12 @@ fn check_table<K: Key, R: Naming>(
     Ok(())
 }
 
-// The tables whose rows name rows, each with the field of its rows; the others.
+// The tables whose rows name no rows, and the others, each with the field of its rows and the first column that names one
+// that isn't there.
 macro_rules! check_known {
-    ($alloc:ident, $loaded:ident, $known:ident: $($table:ident $rows:ident),*; $($other:ident),*) => {
+    ($alloc:ident, $loaded:ident, $known:ident, $row:ident, [$($other:ident),*]: $($table:ident $rows:ident: $dangling:expr;)*) => {
         match $known {
-            $(Known::$table => check_table($alloc, $loaded, stringify!($table), &$loaded.$rows),)*
+            $(Known::$table => check_table($alloc, stringify!($table), &$loaded.$rows, |$row| $dangling),)*
             $(Known::$other)|* => Ok(()),
         }
     };
@@ -244,13 +112,32 @@ fn check_known(alloc: Global, loaded: &Package, known: Known) -> Checked
     requires few { TablesSmall loaded.now }
     ensures { Answers ⊥ (rows_dangling (rows_in loaded.now) known) (λ _. Unit {0}) result }
 {
-    check_known!(alloc, loaded, known: Component component, Condition condition,
-        CreateFolder create_folder, CustomAction custom_action, Directory directory,
-        DuplicateFile duplicate_file, Environment environment, Feature feature,
-        FeatureComponents feature_components, File file, MsiFileHash msi_file_hash,
-        Registry registry, RemoveFile remove_file, RemoveRegistry remove_registry,
-        Shortcut shortcut; InstallExecuteSequence, LaunchCondition, Property, SummaryInformation,
-        Upgrade)
+    check_known!(alloc, loaded, known, row,
+        [InstallExecuteSequence, LaunchCondition, Property, SummaryInformation, Upgrade]:
+        Component component: either(names(loaded, Target::Directory, 3, &row.directory),
+            may_name(loaded, key_path_target(row), 6, &row.key_path));
+        Condition condition: names(loaded, Target::Feature, 1, &row.feature);
+        CreateFolder create_folder: either(names(loaded, Target::Directory, 1, &row.directory),
+            names(loaded, Target::Component, 2, &row.component));
+        CustomAction custom_action: if sets_directory(row.kind) {
+            must_name(loaded, Target::Directory, 3, &row.source)
+        } else {
+            None
+        };
+        Directory directory: may_name(loaded, Target::Directory, 2, &row.directory_parent);
+        DuplicateFile duplicate_file: either(names(loaded, Target::Component, 2, &row.component),
+            names(loaded, Target::File, 3, &row.file));
+        Environment environment: names(loaded, Target::Component, 4, &row.component);
+        Feature feature: may_name(loaded, Target::Feature, 2, &row.feature_parent);
+        FeatureComponents feature_components: either(names(loaded, Target::Feature, 1, &row.feature),
+            names(loaded, Target::Component, 2, &row.component));
+        File file: names(loaded, Target::Component, 2, &row.component);
+        MsiFileHash msi_file_hash: names(loaded, Target::File, 1, &row.file);
+        Registry registry: names(loaded, Target::Component, 6, &row.component);
+        RemoveFile remove_file: names(loaded, Target::Component, 2, &row.component);
+        RemoveRegistry remove_registry: names(loaded, Target::Component, 5, &row.component);
+        Shortcut shortcut: either(names(loaded, Target::Directory, 2, &row.directory),
+            names(loaded, Target::Component, 4, &row.component));)
 }
 
 /// Refuses with the first value that names no row, by table, row and column.
