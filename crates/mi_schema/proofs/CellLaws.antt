@@ -18,13 +18,13 @@ use Rattle.mi_schema.specs.Checks.{Content, rows_at, first_fault, tables_fault, 
 use Rattle.mi_schema.specs.Listed.{Listed, Loaded, layout_of, table_of, listed, tables}
 use Rattle.mi_schema.specs.TableRows.{Rows}
 use Rattle.mi_schema.specs.Conditions.{condition_of}
-use Rattle.mi_schema.specs.Lawful.{AreRowsOf}
 use Rattle.mi_schema.specs.Rows.{◌or_else◌, table_fault, keys_of, rows_in, cell_fault, cells_fault, fault_at, row_fault, rows_fault}
-use Rattle.mi_schema.specs.Suits.{suits, all_suit, each_suits}
+use Rattle.mi_schema.specs.Suits.{suits, all_suit}
 use Rattle.mi_schema.specs.Tables.{Column, Table}
 use Rattle.mi_schema.specs.Values.{Row, value_of, row_of, kind_fault, unless, place_of_fault, tree_of, meets}
 use Rattle.mi_schema.proofs.FitLemmas.{AllFit, front, back}
 use Rattle.mi_schema.proofs.SuitLemmas.{EachFits, or_none, map_none, allowed, faultless, rows_suit}
+use Rattle.mi_schema.proofs.Words.{AreRowsOf, each_suits}
 
 -- the value of a row and a column, from 0
 abbrev pub value_at : List Row → ℕ → ℕ → Option Cell

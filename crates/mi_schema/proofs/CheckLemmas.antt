@@ -23,8 +23,8 @@ use Rattle.mi_schema.specs.declared.typed_rows.PropertyRow.{PropertyRow}
 use Rattle.mi_schema.specs.declared.typed_rows.SummaryInformationRow.{SummaryInformationRow}
 use Rattle.mi_schema.specs.Checks.{row_with, parents_of, ends_at, endless_row, first_fault, missing_property, references_fault}
 use Rattle.mi_schema.specs.declared.known.Known.{Known}
-use Rattle.mi_schema.specs.declared.tables.Listed.{Listed as InCode}
-use Rattle.mi_schema.specs.declared.tables.Listed.TheVariants as code
+use Rattle.mi_schema.specs.declared.known.Listed.{Listed as InCode}
+use Rattle.mi_schema.specs.declared.known.Listed.TheVariants as code
 use Rattle.mi_schema.specs.Listed.{listed, listed_as}
 use Rattle.mi_schema.specs.TableRows.{Rows}
 use Rattle.mi_schema.specs.References.{first_dangling, rows_dangling, table_dangling}

@@ -1,5 +1,5 @@
 -- A table that has the columns of its layout: its faults with the keys that are asked, and its rows.
-use Rattle.std.proofs.Common.{◌≡◌, ◌≢◌, ℕ, ◌+◌, ◌<◌, ◌||◌, Bool, true, false, cond, List, [], ◌∷◌, ◌++◌, length, map, refl, sym, ap, subst, ◌∙◌, inl, inr, Option, Some, None, Result, Ok, Err, IfOk, IfErr}
+use Rattle.std.proofs.Common.{◌≡◌, ◌≢◌, ℕ, ◌+◌, ◌<◌, ◌||◌, Bool, true, false, cond, List, [], ◌∷◌, ◌++◌, length, map, refl, sym, ap, subst, ◌∙◌, inl, inr, Option, Some, None, Result, Ok, Err, OnOk, IfErr}
 use Rattle.std.specs.Prelude.{option_map}
 use Rattle.std.specs.List.{list_any, AllPairs}
 use Rattle.std.specs.Str.{bytes_eq}
@@ -26,13 +26,14 @@ use Rattle.mi_schema.specs.Loaded.{AreRead}
 use Rattle.mi_schema.specs.Package.{keyed}
 use Rattle.mi_schema.specs.Read.{raw_row}
 use Rattle.mi_schema.specs.Rows.{◌or_else◌, begins_with, has_columns, is_refused, key_places, keys_of, rows_in, cell_fault, cells_fault, fault_at, row_fault, rows_fault, unsupported, value_fault, table_fault, table_rows}
-use Rattle.mi_schema.specs.Suits.{all_suit, keys_tell, KeysDiffer}
+use Rattle.mi_schema.specs.Suits.{all_suit}
 use Rattle.mi_schema.specs.Tables.{Column, Table}
 use Rattle.mi_schema.specs.Values.{Row, value_of, row_of, kind_fault, unless, meets}
 use Rattle.mi_schema.proofs.FitLemmas.{front, back, row_fits}
 use Rattle.mi_schema.proofs.RowLemmas.{passed_on}
 use Rattle.mi_schema.proofs.SuitLemmas.{each_fits, suits_row}
 use Rattle.mi_schema.proofs.DifferLemmas.{differ}
+use Rattle.mi_schema.proofs.Words.{keys_tell, KeysDiffer}
 
 -- ---- where no column asks for keys, the faults are the same whatever they are
 
@@ -130,8 +131,8 @@ spelled_differ t s tell spelled is =
 
 -- ---- what reading its bytes gives
 
-pub read_here : {K R X : Type 0} (key : Row → K) (value : Row → R) (entries : X → List (K × R)) (told : Type 0) (file : Option (List ℕ)) (t : Table) (found : Option (List ℕ)) (r : Result X LoadError) → (told → found ≡ file)
-    → Answers ⊥ (table_fault t found) (λ x. entries x ≡ keyed key value (table_rows t found)) r → IfOk r (λ x. AreRead key value told file t (entries x))
+pub read_here : {K R X : Type 0} (key : Row → K) (value : Row → R) (entries : List (K × R)) (told : Type 0) (file : Option (List ℕ)) (t : Table) (found : Option (List ℕ)) (r : Result X LoadError) → (told → found ≡ file)
+    → Answers ⊥ (table_fault t found) (λ (x : X). entries ≡ keyed key value (table_rows t found)) r → OnOk r (AreRead key value told file t entries)
 read_here key value entries told file t found (Ok x) same answers = record { found = found; same = same; right = answers.0; are = answers.1 }
 read_here key value entries told file t found (Err e) same answers = tt
 

@@ -16,9 +16,10 @@ use Rattle.mi_schema.specs.RowsOf.{rows_of_content}
 use Rattle.mi_schema.specs.TableRows.{Rows}
 use Rattle.mi_schema.specs.Package.{keyed, Holds, HoldsAll, IsPackage}
 use Rattle.mi_schema.specs.Checks.{first_fault, missing_table, missing_property, required_fault, references_fault, cycles_fault, compressed_fault, missing_fault, tables_fault, package_fault, load_fault}
-use Rattle.mi_schema.specs.Lawful.{IsOfTables, IsLawful}
+use Rattle.mi_schema.specs.Lawful.{IsLawful}
 use Rattle.mi_schema.proofs.FolderLemmas.{restricted, files_of, folder_holds, empty_sequence, empty_faultless, empty_rows}
 use Rattle.mi_schema.proofs.RowLaws.{rows_in-IsPackage}
+use Rattle.mi_schema.proofs.Words.{IsOfTables}
 
 -- ---- faults one behind the other
 

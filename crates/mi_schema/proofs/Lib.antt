@@ -25,3 +25,4 @@ pub mod SuitLemmas
 pub mod TableLemmas
 pub mod TopLemmas
 pub mod ValueLaws
+pub mod Words

@@ -16,7 +16,7 @@ use Rattle.mi_schema.specs.declared.known.Known.TheVariants as known
 use Rattle.mi_schema.specs.declared.package.Package.{Package}
 use Rattle.mi_schema.specs.Answers.{Fails, IsCounted}
 use Rattle.mi_schema.specs.Checks.{Content, content_of, tables_fault}
-use Rattle.mi_schema.specs.declared.tables.Listed.{Listed as InCode}
+use Rattle.mi_schema.specs.declared.known.Listed.{Listed as InCode}
 use Rattle.mi_schema.specs.declared.known.Known.{Known}
 use Rattle.mi_schema.specs.Listed.{Listed, listed, listed_as, layout_of, table_of, tables}
 use Rattle.mi_schema.specs.Tables as table

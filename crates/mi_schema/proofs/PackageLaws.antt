@@ -29,14 +29,11 @@ use Rattle.mi_schema.specs.declared.typed_rows.PropertyRow.{PropertyRow}
 use Rattle.mi_schema.specs.declared.package.Package.{Package}
 use Rattle.mi_schema.specs.Checks.{Content, rows_at, chain_fault, companion_of, parent_of_directory, first_fault, missing_property}
 use Rattle.mi_schema.specs.Listed.{Listed, Loaded, layout_of, table_of, listed}
-use Rattle.mi_schema.specs.Named.{AreNamed}
 use Rattle.mi_schema.specs.References.{keys_in, names, may_name, must_name, key_path_target, sets_directory, rows_dangling, table_dangling, component_dangling, condition_dangling, create_folder_dangling, custom_action_dangling, directory_dangling, duplicate_file_dangling, environment_dangling, feature_dangling, feature_components_dangling, file_dangling, msi_file_hash_dangling, registry_dangling, remove_file_dangling, remove_registry_dangling, shortcut_dangling}
-use Rattle.mi_schema.specs.RowsOf.{rows_in, behind}
+use Rattle.mi_schema.specs.RowsOf.{rows_in, behind, AreNamed}
 use Rattle.mi_schema.specs.Source.{has_attributes, is_source_compressed, has_short_names}
 use Rattle.mi_schema.specs.TableRows.{Rows}
-use Rattle.mi_schema.specs.Conditions.{IsCondition}
 use Rattle.mi_schema.specs.Laws.{IsKeyOf, IsWithin, HasOtherCode, HasProperty, KeysStand, KeysApart, ReferencesStand, ParentsEnd, PropertiesStand, ValuesStand, SourceStands, TablesSmall, key_paths}
-use Rattle.mi_schema.specs.Lawful.{IsOfTables}
 use Rattle.mi_schema.specs.Package.{HoldsAll}
 use Rattle.mi_schema.specs.Rows.{keys_of as keys_of_rows}
 use Rattle.mi_schema.specs.Tables.{required_properties, component, condition, create_folder, custom_action, directory, duplicate_file, environment, feature, feature_components, file, install_execute_sequence, launch_condition, msi_file_hash, property, registry, remove_file, remove_registry, shortcut, summary_information, upgrade}
@@ -54,6 +51,7 @@ use Rattle.mi_schema.proofs.ReferenceLaws.{each_keyed, keys_keyed, suits_here, s
 use Rattle.mi_schema.proofs.RowLaws.{summary_is}
 use Rattle.mi_schema.proofs.ValueLaws.{pairs_keyed, any_before, one_root, other_code, text_before, number_before, root_before, kind_suits, text_there, passes, if_passes, if_name, if_pattern, within, if_within}
 use Rattle.mi_schema.proofs.SuitLemmas.{or_none}
+use Rattle.mi_schema.proofs.Words.{IsCondition, IsOfTables}
 
 -- ---- parts
 

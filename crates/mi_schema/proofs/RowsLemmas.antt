@@ -3,11 +3,12 @@ use Rattle.std.proofs.Common.{◌≡◌, ℕ, zero, suc, Bool, true, false, List
 use Rattle.indexmap.specs.IndexMap.{insert_entry}
 use Rattle.mi_idt.specs.Cells as raw
 use Rattle.mi_schema.specs.Package.{keyed}
-use Rattle.mi_schema.specs.Suits.{suits, all_suit, each_suits, key_cells, IsNewKey, KeysDiffer, KeysTell}
+use Rattle.mi_schema.specs.Suits.{suits, all_suit, key_cells, KeysTell}
 use Rattle.mi_schema.specs.Tables.{Column}
 use Rattle.mi_schema.specs.Values.{Row, row_of}
 use Rattle.mi_schema.proofs.FitLemmas.{front, back}
 use Rattle.mi_schema.proofs.SuitLemmas.{both}
+use Rattle.mi_schema.proofs.Words.{each_suits, IsNewKey, KeysDiffer}
 
 -- one row more suits
 pub suits_more : (cs : List Column) (rows : List Row) (row : Row) → each_suits cs rows ≡ true → all_suit cs row ≡ true → each_suits cs (rows ++ row ∷ []) ≡ true

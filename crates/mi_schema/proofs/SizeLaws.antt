@@ -19,7 +19,6 @@ use Rattle.mi_schema.specs.declared.known.Known.TheVariants as known
 use Rattle.mi_schema.specs.declared.package.Package.{Package}
 use Rattle.mi_schema.specs.Checks.{Content, rows_at}
 use Rattle.mi_schema.specs.Laws.{IsShort, AreShort, TextsShort, IsOfText, ConditionsStand, AreNames, ArePatterns, IsFolder, NamesStand, ValuesStand}
-use Rattle.mi_schema.specs.Lawful.{AreRowsOf, IsOfTables}
 use Rattle.mi_schema.specs.Package.{IsPackage}
 use Rattle.mi_schema.specs.Tables.{Column, Table, component, condition, create_folder, custom_action, directory, duplicate_file, environment, feature, feature_components, file, install_execute_sequence, launch_condition, msi_file_hash, property, registry, remove_file, remove_registry, shortcut, summary_information, upgrade}
 use Rattle.mi_schema.specs.Typed.{some_condition_in}
@@ -30,6 +29,7 @@ use Rattle.mi_schema.proofs.ConditionLaws.{reads_exactly}
 use Rattle.mi_schema.proofs.PackageLaws.{keys_stand, values_stand}
 use Rattle.mi_schema.proofs.ReferenceLaws.{each_keyed, stands_here}
 use Rattle.mi_schema.proofs.SuitLemmas.{faultless}
+use Rattle.mi_schema.proofs.Words.{AreRowsOf, IsOfTables}
 
 -- ---- parts of a text are no longer
 

@@ -9,10 +9,6 @@ use Rattle.mi_dirs.specs.Chains.{ends_in}
 use Rattle.mi_dirs.specs.Order.{parent_in}
 use Rattle.mi_dirs.specs.Places.{first_row}
 use Rattle.mi_dirs.specs.Faults.{numbers}
-use Rattle.mi_schema.specs.declared.typed_rows.DirectoryRow.{DirectoryRow}
-use Rattle.mi_schema.specs.declared.typed_rows.FeatureRow.{FeatureRow}
-use Rattle.mi_schema.specs.declared.typed_rows.FileRow.{FileRow}
-use Rattle.mi_schema.specs.declared.typed_rows.PropertyRow.{PropertyRow}
 pub use Rattle.mi_schema.specs.Content.{Content, table_path, content_of, rows_at}
 use Rattle.mi_schema.specs.Listed.{listed, tables}
 use Rattle.mi_schema.specs.References.{table_dangling}
@@ -21,6 +17,7 @@ use Rattle.mi_schema.specs.RowsOf.{rows_of_content}
 use Rattle.mi_schema.specs.Source.{is_source_compressed, file_fault}
 use Rattle.mi_schema.specs.TableRows.{Rows}
 use Rattle.mi_schema.specs.Tables.{Table, directory, feature, file, install_execute_sequence, property, required_properties}
+use Rattle.mi_schema.specs.TypedRows.{DirectoryRow, FeatureRow, FileRow, PropertyRow}
 use Rattle.mi_schema.specs.Values.{is_key_in, is_root_below}
 
 -- the first fault of the parts of a list

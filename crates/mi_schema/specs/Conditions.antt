@@ -3,13 +3,7 @@ use Rattle.std.specs.Prelude.{ℕ, List, Result, Ok, Err}
 use Rattle.mi_cond.specs.Tree.{Tree}
 use Rattle.mi_cond.specs.declared.error.CondFault.{CondFault}
 use Rattle.mi_cond.specs.declared.error.CondFault.TheVariants.{Syntax, TooDeep}
-use Rattle.mi_cond.specs.Place.{IsRead, IsPlace}
 use Rattle.mi_cond.specs.Answer as answer
-
--- the condition that a text reads as, or the place from which none goes on
-abbrev pub IsCondition : Result Tree ℕ → List ℕ → Type 0
-IsCondition (Ok tree) text = IsRead text tree
-IsCondition (Err place) text = IsPlace text place
 
 -- the place of a fault
 abbrev pub place_in : CondFault → ℕ

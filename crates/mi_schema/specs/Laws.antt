@@ -14,8 +14,6 @@ use Rattle.mi_cond.specs.Place.{IsRead, IsPlace}
 use Rattle.mi_cond.specs.Tree.{Tree}
 use Rattle.mi_schema.specs.declared.column.Kind.TheVariants as kind
 use Rattle.mi_schema.specs.declared.package.Package.{Package}
-use Rattle.mi_schema.specs.declared.typed_rows.ComponentRow.{ComponentRow}
-use Rattle.mi_schema.specs.declared.typed_rows.PropertyRow.{PropertyRow}
 use Rattle.mi_schema.specs.Rows.{spelled_value}
 use Rattle.mi_schema.specs.Tables.{Table}
 use Rattle.mi_schema.specs.Checks.{companion_of, parent_of_directory}
@@ -23,6 +21,7 @@ use Rattle.mi_schema.specs.References.{sets_directory}
 use Rattle.mi_schema.specs.RowsOf.{behind}
 use Rattle.mi_schema.specs.Source.{word_count as count_of, has_attributes}
 use Rattle.mi_schema.specs.Texts.{is_decimal, are_languages, is_language, is_product_code, is_value_of}
+use Rattle.mi_schema.specs.TypedRows.{ComponentRow, PropertyRow}
 use Rattle.mi_schema.specs.Values.{lacks, is_root_below}
 
 -- ---- words
@@ -30,6 +29,29 @@ use Rattle.mi_schema.specs.Values.{lacks, is_root_below}
 -- of each row, whatever its key
 abbrev pub EachRow : {K R : Type 0} → List (K × R) → (R → Type 0) → Type 0
 EachRow entries P = All (λ e. P e.1) entries
+
+-- so are the rows of each table
+pub record OfEachTable (P : (K R : Type 0) → List (K × R) → Type 0) (p : Package) : Type 0 where
+  pub component : P _ _ p.component.entries
+  pub condition : P _ _ p.condition.entries
+  pub create_folder : P _ _ p.create_folder.entries
+  pub custom_action : P _ _ p.custom_action.entries
+  pub directory : P _ _ p.directory.entries
+  pub duplicate_file : P _ _ p.duplicate_file.entries
+  pub environment : P _ _ p.environment.entries
+  pub feature : P _ _ p.feature.entries
+  pub feature_components : P _ _ p.feature_components.entries
+  pub file : P _ _ p.file.entries
+  pub install_execute_sequence : P _ _ p.install_execute_sequence.entries
+  pub launch_condition : P _ _ p.launch_condition.entries
+  pub msi_file_hash : P _ _ p.msi_file_hash.entries
+  pub property : P _ _ p.property.entries
+  pub registry : P _ _ p.registry.entries
+  pub remove_file : P _ _ p.remove_file.entries
+  pub remove_registry : P _ _ p.remove_registry.entries
+  pub shortcut : P _ _ p.shortcut.entries
+  pub summary_information : P _ _ p.summary_information.entries
+  pub upgrade : P _ _ p.upgrade.entries
 
 -- a key of one of these rows
 abbrev pub IsKeyOf : {K R : Type 0} → List (K × R) → K → Type 0
@@ -68,27 +90,8 @@ pub record KeysStand (p : Package) : Type 0 where
   pub upgrade : All (λ e. e.0 ≡ (e.1.upgrade_code, e.1.version_min, e.1.version_max, e.1.language, e.1.attributes)) p.upgrade.entries
 
 -- no two rows of a table have one key
-pub record KeysApart (p : Package) : Type 0 where
-  pub component : HaveOwnKeys p.component.entries
-  pub condition : HaveOwnKeys p.condition.entries
-  pub create_folder : HaveOwnKeys p.create_folder.entries
-  pub custom_action : HaveOwnKeys p.custom_action.entries
-  pub directory : HaveOwnKeys p.directory.entries
-  pub duplicate_file : HaveOwnKeys p.duplicate_file.entries
-  pub environment : HaveOwnKeys p.environment.entries
-  pub feature : HaveOwnKeys p.feature.entries
-  pub feature_components : HaveOwnKeys p.feature_components.entries
-  pub file : HaveOwnKeys p.file.entries
-  pub install_execute_sequence : HaveOwnKeys p.install_execute_sequence.entries
-  pub launch_condition : HaveOwnKeys p.launch_condition.entries
-  pub msi_file_hash : HaveOwnKeys p.msi_file_hash.entries
-  pub property : HaveOwnKeys p.property.entries
-  pub registry : HaveOwnKeys p.registry.entries
-  pub remove_file : HaveOwnKeys p.remove_file.entries
-  pub remove_registry : HaveOwnKeys p.remove_registry.entries
-  pub shortcut : HaveOwnKeys p.shortcut.entries
-  pub summary_information : HaveOwnKeys p.summary_information.entries
-  pub upgrade : HaveOwnKeys p.upgrade.entries
+abbrev pub KeysApart : Package → Type 0
+KeysApart p = OfEachTable (λ K R entries. HaveOwnKeys entries) p
 
 -- ---- sizes
 
@@ -96,27 +99,8 @@ pub record KeysApart (p : Package) : Type 0 where
 abbrev pub AreFew : {E : Type 0} → List E → Type 0
 AreFew entries = length entries ≤ 65535
 
-pub record TablesSmall (p : Package) : Type 0 where
-  pub component : AreFew p.component.entries
-  pub condition : AreFew p.condition.entries
-  pub create_folder : AreFew p.create_folder.entries
-  pub custom_action : AreFew p.custom_action.entries
-  pub directory : AreFew p.directory.entries
-  pub duplicate_file : AreFew p.duplicate_file.entries
-  pub environment : AreFew p.environment.entries
-  pub feature : AreFew p.feature.entries
-  pub feature_components : AreFew p.feature_components.entries
-  pub file : AreFew p.file.entries
-  pub install_execute_sequence : AreFew p.install_execute_sequence.entries
-  pub launch_condition : AreFew p.launch_condition.entries
-  pub msi_file_hash : AreFew p.msi_file_hash.entries
-  pub property : AreFew p.property.entries
-  pub registry : AreFew p.registry.entries
-  pub remove_file : AreFew p.remove_file.entries
-  pub remove_registry : AreFew p.remove_registry.entries
-  pub shortcut : AreFew p.shortcut.entries
-  pub summary_information : AreFew p.summary_information.entries
-  pub upgrade : AreFew p.upgrade.entries
+abbrev pub TablesSmall : Package → Type 0
+TablesSmall p = OfEachTable (λ K R entries. AreFew entries) p
 
 -- a text has at most the bytes of a table, 16,777,216
 abbrev pub IsShort : List ℕ → Type 0

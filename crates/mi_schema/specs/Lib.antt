@@ -3,13 +3,11 @@ pub mod Checks
 pub mod Conditions
 pub mod Content
 pub mod Described
-pub mod Files
 pub mod Keys
 pub mod Lawful
 pub mod Laws
 pub mod Listed
 pub mod Loaded
-pub mod Named
 pub mod Package
 pub mod Read
 pub mod Reads

@@ -2,8 +2,8 @@
 use Rattle.std.specs.Prelude.{ℕ, List, [], ◌∷◌, codes, map}
 use Rattle.mi_schema.specs.declared.known.Known.{Known}
 use Rattle.mi_schema.specs.declared.known.Known.TheVariants as of
-use Rattle.mi_schema.specs.declared.tables.Listed.{Listed as InCode}
-use Rattle.mi_schema.specs.declared.tables.Listed.TheVariants as code
+use Rattle.mi_schema.specs.declared.known.Listed.{Listed as InCode}
+use Rattle.mi_schema.specs.declared.known.Listed.TheVariants as code
 use Rattle.mi_schema.specs.Tables as table
 use Rattle.mi_schema.specs.Tables.{Table}
 
@@ -41,51 +41,17 @@ table_of (Refused name) = table.refused name
 
 unfoldable pub listed : List Listed
 listed =
-    Refused (codes "AppId")
-    ∷ Refused (codes "BindImage")
-    ∷ Refused (codes "Class")
-    ∷ Refused (codes "Complus")
-    ∷ Loaded of.Component
-    ∷ Loaded of.Condition
-    ∷ Loaded of.CreateFolder
-    ∷ Loaded of.CustomAction
-    ∷ Loaded of.Directory
-    ∷ Loaded of.DuplicateFile
-    ∷ Loaded of.Environment
-    ∷ Refused (codes "Extension")
-    ∷ Loaded of.Feature
-    ∷ Loaded of.FeatureComponents
-    ∷ Loaded of.File
-    ∷ Refused (codes "Font")
-    ∷ Refused (codes "IniFile")
-    ∷ Loaded of.InstallExecuteSequence
-    ∷ Refused (codes "IsolatedComponent")
-    ∷ Loaded of.LaunchCondition
-    ∷ Refused (codes "LockPermissions")
-    ∷ Refused (codes "MIME")
-    ∷ Refused (codes "MoveFile")
-    ∷ Refused (codes "MsiAssembly")
-    ∷ Loaded of.MsiFileHash
-    ∷ Refused (codes "ODBCAttribute")
-    ∷ Refused (codes "ODBCDataSource")
-    ∷ Refused (codes "ODBCDriver")
-    ∷ Refused (codes "ODBCSourceAttribute")
-    ∷ Refused (codes "ODBCTranslator")
-    ∷ Refused (codes "ProgId")
-    ∷ Loaded of.Property
-    ∷ Refused (codes "PublishComponent")
-    ∷ Loaded of.Registry
-    ∷ Loaded of.RemoveFile
-    ∷ Refused (codes "RemoveIniFile")
-    ∷ Loaded of.RemoveRegistry
-    ∷ Refused (codes "SelfReg")
-    ∷ Refused (codes "ServiceControl")
-    ∷ Refused (codes "ServiceInstall")
-    ∷ Loaded of.Shortcut
-    ∷ Refused (codes "TypeLib")
-    ∷ Loaded of.Upgrade
-    ∷ Refused (codes "Verb")
-    ∷ Loaded of.SummaryInformation
+    Refused (codes "AppId") ∷ Refused (codes "BindImage") ∷ Refused (codes "Class") ∷ Refused (codes "Complus")
+    ∷ Loaded of.Component ∷ Loaded of.Condition ∷ Loaded of.CreateFolder ∷ Loaded of.CustomAction ∷ Loaded of.Directory
+    ∷ Loaded of.DuplicateFile ∷ Loaded of.Environment ∷ Refused (codes "Extension") ∷ Loaded of.Feature
+    ∷ Loaded of.FeatureComponents ∷ Loaded of.File ∷ Refused (codes "Font") ∷ Refused (codes "IniFile")
+    ∷ Loaded of.InstallExecuteSequence ∷ Refused (codes "IsolatedComponent") ∷ Loaded of.LaunchCondition
+    ∷ Refused (codes "LockPermissions") ∷ Refused (codes "MIME") ∷ Refused (codes "MoveFile") ∷ Refused (codes "MsiAssembly")
+    ∷ Loaded of.MsiFileHash ∷ Refused (codes "ODBCAttribute") ∷ Refused (codes "ODBCDataSource") ∷ Refused (codes "ODBCDriver")
+    ∷ Refused (codes "ODBCSourceAttribute") ∷ Refused (codes "ODBCTranslator") ∷ Refused (codes "ProgId") ∷ Loaded of.Property
+    ∷ Refused (codes "PublishComponent") ∷ Loaded of.Registry ∷ Loaded of.RemoveFile ∷ Refused (codes "RemoveIniFile")
+    ∷ Loaded of.RemoveRegistry ∷ Refused (codes "SelfReg") ∷ Refused (codes "ServiceControl") ∷ Refused (codes "ServiceInstall")
+    ∷ Loaded of.Shortcut ∷ Refused (codes "TypeLib") ∷ Loaded of.Upgrade ∷ Refused (codes "Verb") ∷ Loaded of.SummaryInformation
     ∷ []
 
 abbrev pub tables : List Table

@@ -7,24 +7,10 @@ use Rattle.mi_schema.specs.declared.known.Known.{Known}
 use Rattle.mi_schema.specs.declared.known.Known.TheVariants as known
 use Rattle.mi_schema.specs.declared.known.Target.{Target}
 use Rattle.mi_schema.specs.declared.known.Target.TheVariants as of
-use Rattle.mi_schema.specs.declared.typed_rows.ComponentRow.{ComponentRow}
-use Rattle.mi_schema.specs.declared.typed_rows.ConditionRow.{ConditionRow}
-use Rattle.mi_schema.specs.declared.typed_rows.CreateFolderRow.{CreateFolderRow}
-use Rattle.mi_schema.specs.declared.typed_rows.CustomActionRow.{CustomActionRow}
-use Rattle.mi_schema.specs.declared.typed_rows.DirectoryRow.{DirectoryRow}
-use Rattle.mi_schema.specs.declared.typed_rows.DuplicateFileRow.{DuplicateFileRow}
-use Rattle.mi_schema.specs.declared.typed_rows.EnvironmentRow.{EnvironmentRow}
-use Rattle.mi_schema.specs.declared.typed_rows.FeatureRow.{FeatureRow}
-use Rattle.mi_schema.specs.declared.typed_rows.FeatureComponentsRow.{FeatureComponentsRow}
-use Rattle.mi_schema.specs.declared.typed_rows.FileRow.{FileRow}
-use Rattle.mi_schema.specs.declared.typed_rows.MsiFileHashRow.{MsiFileHashRow}
-use Rattle.mi_schema.specs.declared.typed_rows.RegistryRow.{RegistryRow}
-use Rattle.mi_schema.specs.declared.typed_rows.RemoveFileRow.{RemoveFileRow}
-use Rattle.mi_schema.specs.declared.typed_rows.RemoveRegistryRow.{RemoveRegistryRow}
-use Rattle.mi_schema.specs.declared.typed_rows.ShortcutRow.{ShortcutRow}
 use Rattle.mi_schema.specs.Listed.{Listed, Loaded, Refused, layout_of}
 use Rattle.mi_schema.specs.Rows.{◌or_else◌}
 use Rattle.mi_schema.specs.TableRows.{Rows}
+use Rattle.mi_schema.specs.TypedRows.{ComponentRow, ConditionRow, CreateFolderRow, CustomActionRow, DirectoryRow, DuplicateFileRow, EnvironmentRow, FeatureRow, FeatureComponentsRow, FileRow, MsiFileHashRow, RegistryRow, RemoveFileRow, RemoveRegistryRow, ShortcutRow}
 use Rattle.mi_schema.specs.Values.{bits_of, lacks, is_key_in}
 
 -- the keys of a table that other tables name

@@ -4,8 +4,7 @@ use Rattle.std.specs.Ordering.{int_eq}
 use Rattle.mi_base.specs.declared.answers.Fault.{Fault}
 use Rattle.mi_base.specs.declared.answers.Fault.TheVariants.{Compressed}
 use Rattle.mi_idt.specs.Fields.{number_on}
-use Rattle.mi_schema.specs.declared.typed_rows.FileRow.{FileRow}
-use Rattle.mi_schema.specs.declared.typed_rows.SummaryInformationRow.{SummaryInformationRow}
+use Rattle.mi_schema.specs.TypedRows.{FileRow, SummaryInformationRow}
 use Rattle.mi_schema.specs.Values.{lacks}
 
 abbrev pub is_word_count : SummaryInformationRow → Bool

@@ -1,6 +1,5 @@
 -- Rows whose values are of the types of their columns, and whose keys differ. (Database Tables; Column Data Types.)
-use Rattle.std.specs.Prelude.{◌≡◌, ◌&&◌, ◌||◌, not, Bool, true, false, if◌then◌else◌, List, [], ◌∷◌, Option, Some, None}
-use Rattle.std.specs.List.{list_all}
+use Rattle.std.specs.Prelude.{◌≡◌, ◌&&◌, Bool, true, false, if◌then◌else◌, List, [], ◌∷◌, Option, Some, None}
 use Rattle.mi_schema.specs.declared.cell.Cell.{Cell}
 use Rattle.mi_schema.specs.declared.cell.Cell.TheVariants as cell
 use Rattle.mi_schema.specs.declared.column.Kind.{Kind}
@@ -30,9 +29,6 @@ all_suit [] [] = true
 all_suit (c ∷ cs) (x ∷ xs) = suits c x && all_suit cs xs
 all_suit cs xs = false
 
-abbrev pub each_suits : List Column → List Row → Bool
-each_suits cs rows = list_all (all_suit cs) rows
-
 -- ---- keys
 
 -- a value in a key: a condition stands as its text
@@ -45,26 +41,6 @@ abbrev pub key_cells : List Column → Row → Row
 key_cells (c ∷ cs) (x ∷ xs) = if c.key then key_cell x ∷ key_cells cs xs else key_cells cs xs
 key_cells cs xs = []
 
--- none of these rows has the key of this one
-abbrev pub IsNewKey : List Column → Row → List Row → Type 0
-IsNewKey cs row [] = Unit {0}
-IsNewKey cs row (r ∷ rows) = (key_cells cs row ≡ key_cells cs r → ⊥) × IsNewKey cs row rows
-
--- no two rows have one key
-abbrev pub KeysDiffer : List Column → List Row → Type 0
-KeysDiffer cs [] = Unit {0}
-KeysDiffer cs (row ∷ rows) = IsNewKey cs row rows × KeysDiffer cs rows
-
 -- keys that compare equal have the same values in the key columns
 abbrev pub KeysTell : {K : Type 0} → (K → K → Bool) → (Row → K) → List Column → Type 0
 KeysTell eq key cs = (a b : Row) → all_suit cs a ≡ true → all_suit cs b ≡ true → eq (key a) (key b) ≡ true → key_cells cs a ≡ key_cells cs b
-
--- codes of other letters may be equal, so that the value doesn't tell the text
-abbrev pub tells : Kind → Bool
-tells kind.Code = false
-tells other = true
-
--- the values of the key columns tell the fields
-abbrev pub keys_tell : List Column → Bool
-keys_tell [] = true
-keys_tell (c ∷ cs) = (not c.key || tells c.kind) && keys_tell cs

@@ -3,26 +3,7 @@ use Rattle.std.specs.Prelude.{ℕ, suc, Bool, List, [], ◌∷◌, ◌++◌, map
 use Rattle.std.specs.FinMap.{values, from_entries}
 use Rattle.mi_text.specs.Maps.{Name, Map, same_name}
 use Rattle.mi_text.specs.Guid.{guid_of}
-use Rattle.mi_schema.specs.declared.typed_rows.PropertyRow.{PropertyRow}
-use Rattle.mi_schema.specs.declared.typed_rows.DirectoryRow.{DirectoryRow}
-use Rattle.mi_schema.specs.declared.typed_rows.ComponentRow.{ComponentRow}
-use Rattle.mi_schema.specs.declared.typed_rows.FeatureRow.{FeatureRow}
-use Rattle.mi_schema.specs.declared.typed_rows.FeatureComponentsRow.{FeatureComponentsRow}
-use Rattle.mi_schema.specs.declared.typed_rows.ConditionRow.{ConditionRow}
-use Rattle.mi_schema.specs.declared.typed_rows.FileRow.{FileRow}
-use Rattle.mi_schema.specs.declared.typed_rows.MsiFileHashRow.{MsiFileHashRow}
-use Rattle.mi_schema.specs.declared.typed_rows.RemoveFileRow.{RemoveFileRow}
-use Rattle.mi_schema.specs.declared.typed_rows.CreateFolderRow.{CreateFolderRow}
-use Rattle.mi_schema.specs.declared.typed_rows.DuplicateFileRow.{DuplicateFileRow}
-use Rattle.mi_schema.specs.declared.typed_rows.RegistryRow.{RegistryRow}
-use Rattle.mi_schema.specs.declared.typed_rows.RemoveRegistryRow.{RemoveRegistryRow}
-use Rattle.mi_schema.specs.declared.typed_rows.EnvironmentRow.{EnvironmentRow}
-use Rattle.mi_schema.specs.declared.typed_rows.ShortcutRow.{ShortcutRow}
-use Rattle.mi_schema.specs.declared.typed_rows.LaunchConditionRow.{LaunchConditionRow}
-use Rattle.mi_schema.specs.declared.typed_rows.CustomActionRow.{CustomActionRow}
-use Rattle.mi_schema.specs.declared.typed_rows.InstallExecuteSequenceRow.{InstallExecuteSequenceRow}
-use Rattle.mi_schema.specs.declared.typed_rows.UpgradeRow.{UpgradeRow}
-use Rattle.mi_schema.specs.declared.typed_rows.SummaryInformationRow.{SummaryInformationRow}
+use Rattle.mi_schema.specs.TypedRows.{ComponentRow, ConditionRow, CreateFolderRow, CustomActionRow, DirectoryRow, DuplicateFileRow, EnvironmentRow, FeatureRow, FeatureComponentsRow, FileRow, InstallExecuteSequenceRow, LaunchConditionRow, MsiFileHashRow, PropertyRow, RegistryRow, RemoveFileRow, RemoveRegistryRow, ShortcutRow, SummaryInformationRow, UpgradeRow}
 
 -- the rows of each known table, in file order, and whether the source has short names
 pub record Rows : Type 0 where

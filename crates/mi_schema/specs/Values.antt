@@ -48,6 +48,12 @@ number_in other = pos 0
 abbrev pub text_at : Row → ℕ → List ℕ
 text_at row column = unwrap_or (text_in (cell_at row column)) []
 
+abbrev pub some_text_at : Row → ℕ → Option (List ℕ)
+some_text_at row column = text_in (cell_at row column)
+
+abbrev pub number_at : Row → ℕ → ℤ
+number_at row column = number_in (cell_at row column)
+
 -- the 32 bits of a number in two's complement
 abbrev pub bits_of : ℤ → ℕ
 bits_of z = cast_unsigned w32 z

@@ -70,31 +70,19 @@ pub fn number_in(cell: &Option<Cell>) -> i32
 pub fn text_at(row: &[Option<Cell>], column: usize) -> &str
     ensures { result.now ≡ text_at row.now column }
 {
-    match row.get(column) {
-        Some(cell) => match text_in(cell) {
-            Some(text) => text,
-            None => "",
-        },
-        None => "",
-    }
+    some_text_at(row, column).unwrap_or("")
 }
 
 /// The text of a column of a row, from 0, where it has one.
 pub fn some_text_at(row: &[Option<Cell>], column: usize) -> Option<&str>
     ensures { option_copied result ≡ text_in (cell_at row.now column) }
 {
-    match row.get(column) {
-        Some(cell) => text_in(cell),
-        None => None,
-    }
+    row.get(column).and_then(|cell| text_in(cell))
 }
 
 /// The number of a column of a row, from 0; 0 where there is none.
 pub fn number_at(row: &[Option<Cell>], column: usize) -> i32
     ensures { result ≡ number_in (cell_at row.now column) }
 {
-    match row.get(column) {
-        Some(cell) => number_in(cell),
-        None => 0,
-    }
+    row.get(column).map_or(0, |cell| number_in(cell))
 }

@@ -3,15 +3,12 @@
 ghost use Rattle.std.specs.Prelude.{◌≡◌, ◌≤◌, ℕ, List, Option, map, length, codes, IfOk, option_map, option_and_then};
 ghost use Rattle.std.specs.Map.{keys_of};
 ghost use Rattle.mi_text.specs.Maps.{Name};
-ghost use Rattle.mi_base.specs.declared.answers.Fault.TheVariants as faults;
 ghost use Rattle.mi_schema.specs.Answers.{Answers};
 ghost use Rattle.mi_schema.specs.Checks.{companion_of, parent_of_directory, row_with, parents_of, chain_fault, cycles_fault};
 ghost use Rattle.mi_schema.specs.Laws.{TablesSmall};
-ghost use Rattle.mi_schema.specs.Named.{AreNamed};
-ghost use Rattle.mi_schema.specs.Reads.{Refuses};
-ghost use Rattle.mi_schema.specs.RowsOf.{rows_in, behind};
+ghost use Rattle.mi_schema.specs.RowsOf.{rows_in, behind, AreNamed};
 
-use crate::error::LoadError;
+use crate::error::{Checked, LoadError};
 use crate::package::Package;
 use crate::text::is_version;
 use crate::typed_rows::{DirectoryRow, FeatureRow, FileRow};
@@ -39,12 +36,9 @@ impl HasParent for DirectoryRow {
     ghost parent = { parent_of_directory };
 
     fn parent(&self) -> Option<&Text> {
-        let parent = self.directory_parent.as_ref()?;
-        if parent.as_str() == self.directory.as_str() {
-            None
-        } else {
-            Some(parent)
-        }
+        self.directory_parent
+            .as_ref()
+            .filter(|parent| parent.as_str() != self.directory.as_str())
     }
 }
 
@@ -64,12 +58,9 @@ impl HasParent for FileRow {
     ghost parent = { λ r. companion_of r.version };
 
     fn parent(&self) -> Option<&Text> {
-        let version = self.version.as_ref()?;
-        if is_version(version.as_str()) {
-            None
-        } else {
-            Some(version)
-        }
+        self.version
+            .as_ref()
+            .filter(|version| !is_version(version.as_str()))
     }
 }
 
@@ -97,22 +88,8 @@ fn parents_of<R: HasParent>(
     Ok(parents)
 }
 
-/// The fault of a row whose chain of parents doesn't end.
-fn endless(alloc: Global, table: &str, row: u32) -> LoadError
-    ensures { Refuses result (faults.Cycle table.now row) }
-{
-    match Text::copy_of(alloc, table) {
-        Ok(table) => LoadError::Table(Fault::Cycle(table, row)),
-        Err(_) => LoadError::NoMemory,
-    }
-}
-
 /// Refuses with the first row whose chain of parents doesn't end.
-fn check_chains<R: HasParent>(
-    alloc: Global,
-    table: &str,
-    rows: &IndexMap<Text, R>,
-) -> Result<(), LoadError>
+fn check_chains<R: HasParent>(alloc: Global, table: &str, rows: &IndexMap<Text, R>) -> Checked
     requires named { keys_of rows.now.entries ≡ map R.own (behind rows.now.entries) }
     requires few { length rows.now.entries ≤ 65535 }
     ensures { Answers ⊥ (chain_fault table.now R.own R.parent (behind rows.now.entries)) (λ _. Unit {0}) result }
@@ -120,7 +97,10 @@ fn check_chains<R: HasParent>(
     let parents = parents_of(alloc, rows)?;
     match order_of(alloc, parents.as_slice()) {
         Ok(_) => Ok(()),
-        Err(DirError::Fault(DirFault::Cycle(row))) => Err(endless(alloc, table, row)),
+        Err(DirError::Fault(DirFault::Cycle(row))) => {
+            let name = Text::copy_of(alloc, table)?;
+            Err(LoadError::Table(Fault::Cycle(name, row)))
+        }
         Err(DirError::Fault(DirFault::BadPath(_))) => unreachable!(),
         Err(DirError::NoMemory) => Err(LoadError::NoMemory),
     }
@@ -128,7 +108,7 @@ fn check_chains<R: HasParent>(
 
 /// Refuses with the first row of Directory, Feature or File whose chain of parents doesn't end.
 #[tactic(auto, unfolding(crate::specs::RowsOf::rows_in))]
-pub fn check_cycles(alloc: Global, loaded: &Package) -> Result<(), LoadError>
+pub fn check_cycles(alloc: Global, loaded: &Package) -> Checked
     requires named { AreNamed loaded.now }
     requires few { TablesSmall loaded.now }
     ensures { Answers ⊥ (cycles_fault (rows_in loaded.now)) (λ _. Unit {0}) result }

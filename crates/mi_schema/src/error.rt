@@ -1,7 +1,8 @@
 //! Why a package isn't loaded.
 
 ghost use Rattle.std.specs.Prelude.{◌≡◌};
-ghost use Rattle.mi_schema.specs.declared.error.LoadError.TheVariants.{NoMemory as no_memory};
+ghost use Rattle.mi_schema.specs.declared.error.LoadError.TheVariants.{NoMemory as no_memory, Source as source_failed};
+ghost use Rattle.mi_schema.specs.Answers.{error_of};
 
 use mi_base::{Fault, NoMemory};
 use mi_source::{Failed, SrcFault};
@@ -17,6 +18,9 @@ pub enum LoadError {
     /// The first fault of the package.
     Table(Fault),
 }
+
+/// What a check answers: nothing, or why the package isn't loaded.
+pub type Checked = Result<(), LoadError>;
 
 impl From<NoMemory> for LoadError {
     ghost from_gives = { λ _ e. e ≡ no_memory };
@@ -43,9 +47,6 @@ impl<T: Drop> From<AllocFailed<T>> for LoadError {
 }
 
 impl From<SrcFault> for LoadError {
-    ghost use Rattle.std.specs.Prelude.{◌≡◌};
-    ghost use Rattle.mi_schema.specs.Answers.{error_of};
-
     ghost from_gives = { λ fault e. e ≡ error_of fault };
 
     fn from(fault: SrcFault) -> LoadError {
@@ -57,9 +58,6 @@ impl From<SrcFault> for LoadError {
 }
 
 impl From<Failed> for LoadError {
-    ghost use Rattle.std.specs.Prelude.{◌≡◌};
-    ghost use Rattle.mi_schema.specs.declared.error.LoadError.TheVariants.{Source as source_failed};
-
     ghost from_gives = { λ _ e. e ≡ source_failed };
 
     fn from(_e: Failed) -> LoadError {

@@ -31,12 +31,6 @@ pub fn parents_end(loaded: &Package)
     ensures { ParentsEnd loaded.now }
 {}
 
-/// The properties that each product has are there, with values of their kinds.
-pub fn properties_stand(loaded: &Package)
-    requires lawful { IsLawful loaded.now }
-    ensures { PropertiesStand loaded.now }
-{}
-
 /// Each value meets the rules of its column.
 pub fn values_stand(loaded: &Package)
     requires lawful { IsLawful loaded.now }
@@ -49,34 +43,21 @@ pub fn keys_apart(loaded: &Package)
     ensures { KeysApart loaded.now }
 {}
 
-/// No file is compressed, and the word count says which names the source has.
-pub fn source_stands(loaded: &Package)
-    requires lawful { IsLawful loaded.now }
-    ensures { SourceStands loaded.now }
-{}
-
 /// No table has more than 65,535 rows.
 pub fn tables_small(loaded: &Package)
     requires lawful { IsLawful loaded.now }
     ensures { TablesSmall loaded.now }
 {}
 
-/// Every text of a row has at most 16,777,216 bytes.
-pub fn texts_short(loaded: &Package)
+/// What else holds of every lawful package: its properties, the form of its source files, its texts, its conditions and its
+/// names.
+pub fn rows_stand(loaded: &Package)
     requires lawful { IsLawful loaded.now }
-    ensures { TextsShort loaded.now }
-{}
-
-/// Each condition is what some text reads as by the grammar, and of LaunchCondition that text is the key.
-pub fn conditions_stand(loaded: &Package)
-    requires lawful { IsLawful loaded.now }
-    ensures { ConditionsStand loaded.now }
-{}
-
-/// The short, long, target and source parts of names are names.
-pub fn names_stand(loaded: &Package)
-    requires lawful { IsLawful loaded.now }
-    ensures { NamesStand loaded.now }
+    ensures properties { PropertiesStand loaded.now }
+    ensures source { SourceStands loaded.now }
+    ensures texts { TextsShort loaded.now }
+    ensures conditions { ConditionsStand loaded.now }
+    ensures names { NamesStand loaded.now }
 {}
 
 /// A text is read as the condition that it is by the grammar, or refused at the place where by the grammar it stops being

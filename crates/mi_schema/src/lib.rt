@@ -6,15 +6,11 @@ mod chain;
 mod check;
 mod column;
 mod error;
-mod file;
-mod form;
 mod key;
 mod known;
 mod laws;
-mod layouts;
 mod load;
 mod package;
-mod property;
 mod read;
 mod reference;
 mod row;
@@ -22,17 +18,14 @@ mod rule;
 mod seen;
 mod table;
 mod table_row;
-mod table_rows;
-mod tables;
 mod text;
 mod typed;
 mod typed_rows;
 
 pub use error::LoadError;
 pub use laws::{
-    conditions_read, conditions_refused, conditions_stand, keys_apart, keys_stand, names_stand,
-    parents_end, properties_stand, references_stand, source_stands, tables_small, texts_short,
-    values_stand,
+    conditions_read, conditions_refused, keys_apart, keys_stand, parents_end, references_stand,
+    rows_stand, tables_small, values_stand,
 };
 pub use package::Package;
 pub use typed_rows::{

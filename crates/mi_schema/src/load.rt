@@ -5,45 +5,28 @@ ghost use Rattle.mi_source.specs.Counts.{Rose};
 ghost use Rattle.mi_schema.specs.Answers.{Answers, Fails, IsCounted};
 ghost use Rattle.mi_schema.specs.Lawful.{IsLawful};
 ghost use Rattle.mi_schema.specs.Listed.{layout_of, table_of, tables, listed_as};
-ghost use Rattle.mi_schema.specs.Loaded.{AreRead, IsPut, IsOther, AreLoaded};
+ghost use Rattle.mi_schema.specs.Loaded.{IsPut, IsOther, AreLoaded};
 ghost use Rattle.mi_schema.specs.Package.{IsPackage, HoldsAll};
 ghost use Rattle.mi_schema.specs.RowsOf.{folder_rows, rows_in};
-ghost use Rattle.mi_base.specs.declared.answers.Fault.TheVariants as faults;
-ghost use Rattle.mi_schema.specs.Reads.{Refuses};
 ghost use Rattle.mi_schema.specs.Rows.{table_fault};
-ghost use Rattle.mi_schema.specs.Suits.{KeysTell};
 ghost use Rattle.mi_schema.specs.Checks.{Content, content_of, tables_fault, missing_table, missing_fault, load_fault};
 
-use crate::check::check_rows;
-use crate::error::LoadError;
-use crate::form::has_short_names;
-use crate::known::Known;
+use crate::check::{check_rows, has_short_names};
+use crate::error::{Checked, LoadError};
+use crate::known::{Known, Listed, each_table, tables};
 use crate::package::Package;
 use crate::table::{is_there, load_table, path_of, refuse_table};
-use crate::table_row::{Key, TableRow};
-use crate::tables::{Listed, tables};
-use indexmap::IndexMap;
+use crate::typed_rows as rows;
 use mi_base::{Fault, Text};
 use mi_source::Source;
 use std::alloc::Global;
 
-/// Reads the rows of a table in a folder into a map, under their keys.
-fn load_rows<K: Key, R: TableRow<K>, S: Source>(
-    alloc: Global,
-    src: &mut S,
-    folder: &str,
-    map: &mut IndexMap<K, R>,
-) -> Result<(), LoadError>
-    requires { KeysTell K.eq K.key (layout_of R.known).columns }
-    ensures read { OnOk result (AreRead K.key R.value S.told (content_of (S.files src.old) folder.now (layout_of R.known).name) (layout_of R.known) map.new.entries) }
-    ensures fault { S.told → IfErr result (Fails (Rose (S.faults src.old) (S.faults src.new)) (table_fault (layout_of R.known) (content_of (S.files src.old) folder.now (layout_of R.known).name))) }
-    ensures counted { IsCounted (Rose (S.faults src.old) (S.faults src.new)) result }
-    ensures stays { S.files src.new ≡ S.files src.old }
-    ensures counts { S.faults src.old ≤ S.faults src.new }
-{
-    let rows = load_table(alloc, src, folder, R::layout())?;
-    *map = rows;
-    Ok(())
+macro_rules! load_into {
+    ($alloc:ident, $src:ident, $folder:ident, $known:ident, $loaded:ident: $($table:ident $layout:ident $rows:ident),*) => {
+        match $known {
+            $(Known::$table => load_table($alloc, $src, $folder, &rows::$layout, &mut $loaded.$rows),)*
+        }
+    };
 }
 
 /// Reads the rows of a known table in a folder into a package.
@@ -53,40 +36,14 @@ fn load_known<S: Source>(
     folder: &str,
     known: Known,
     loaded: &mut Package,
-) -> Result<(), LoadError>
+) -> Checked
     ensures put { OnOk result (IsPut S.told (content_of (S.files src.old) folder.now) (layout_of known) loaded.old loaded.new) }
     ensures fault { S.told → IfErr result (Fails (Rose (S.faults src.old) (S.faults src.new)) (table_fault (layout_of known) (content_of (S.files src.old) folder.now (layout_of known).name))) }
     ensures counted { IsCounted (Rose (S.faults src.old) (S.faults src.new)) result }
     ensures stays { S.files src.new ≡ S.files src.old }
     ensures counts { S.faults src.old ≤ S.faults src.new }
 {
-    match known {
-        Known::Component => load_rows(alloc, src, folder, &mut loaded.component),
-        Known::Condition => load_rows(alloc, src, folder, &mut loaded.condition),
-        Known::CreateFolder => load_rows(alloc, src, folder, &mut loaded.create_folder),
-        Known::CustomAction => load_rows(alloc, src, folder, &mut loaded.custom_action),
-        Known::Directory => load_rows(alloc, src, folder, &mut loaded.directory),
-        Known::DuplicateFile => load_rows(alloc, src, folder, &mut loaded.duplicate_file),
-        Known::Environment => load_rows(alloc, src, folder, &mut loaded.environment),
-        Known::Feature => load_rows(alloc, src, folder, &mut loaded.feature),
-        Known::FeatureComponents => load_rows(alloc, src, folder, &mut loaded.feature_components),
-        Known::File => load_rows(alloc, src, folder, &mut loaded.file),
-        Known::InstallExecuteSequence => load_rows(
-            alloc,
-            src,
-            folder,
-            &mut loaded.install_execute_sequence,
-        ),
-        Known::LaunchCondition => load_rows(alloc, src, folder, &mut loaded.launch_condition),
-        Known::MsiFileHash => load_rows(alloc, src, folder, &mut loaded.msi_file_hash),
-        Known::Property => load_rows(alloc, src, folder, &mut loaded.property),
-        Known::Registry => load_rows(alloc, src, folder, &mut loaded.registry),
-        Known::RemoveFile => load_rows(alloc, src, folder, &mut loaded.remove_file),
-        Known::RemoveRegistry => load_rows(alloc, src, folder, &mut loaded.remove_registry),
-        Known::Shortcut => load_rows(alloc, src, folder, &mut loaded.shortcut),
-        Known::SummaryInformation => load_rows(alloc, src, folder, &mut loaded.summary_information),
-        Known::Upgrade => load_rows(alloc, src, folder, &mut loaded.upgrade),
-    }
+    each_table!(load_into: alloc, src, folder, known, loaded)
 }
 
 /// Reads a table of the list in a folder into a package.
@@ -96,7 +53,7 @@ fn load_listed<S: Source>(
     folder: &str,
     table: Listed,
     loaded: &mut Package,
-) -> Result<(), LoadError>
+) -> Checked
     requires { IsOther (listed_as table) }
     ensures put { OnOk result (IsPut S.told (content_of (S.files src.old) folder.now) (table_of (listed_as table)) loaded.old loaded.new) }
     ensures fault { S.told → IfErr result (Fails (Rose (S.faults src.old) (S.faults src.new)) (table_fault (table_of (listed_as table)) (content_of (S.files src.old) folder.now (table_of (listed_as table)).name))) }
@@ -111,12 +68,7 @@ fn load_listed<S: Source>(
 }
 
 /// Reads all tables of a folder into a package without rows, or refuses with the first fault of a table.
-fn load_tables<S: Source>(
-    alloc: Global,
-    src: &mut S,
-    folder: &str,
-    loaded: &mut Package,
-) -> Result<(), LoadError>
+fn load_tables<S: Source>(alloc: Global, src: &mut S, folder: &str, loaded: &mut Package) -> Checked
     requires { HoldsAll loaded.old (λ _. None) }
     ensures loaded { OnOk result (AreLoaded S.told (content_of (S.files src.old) folder.now) loaded.new) }
     ensures fault { S.told → IfErr result (Fails (Rose (S.faults src.old) (S.faults src.new)) (tables_fault (content_of (S.files src.old) folder.now) tables)) }
@@ -130,22 +82,8 @@ fn load_tables<S: Source>(
     Ok(())
 }
 
-fn missing_table(alloc: Global, table: &str) -> LoadError
-    ensures { Refuses result (faults.MissingTable table.now) }
-{
-    match Text::copy_of(alloc, table) {
-        Ok(table) => LoadError::Table(Fault::MissingTable(table)),
-        Err(_) => LoadError::NoMemory,
-    }
-}
-
 /// Refuses where a table has no file.
-fn require<S: Source>(
-    alloc: Global,
-    src: &mut S,
-    folder: &str,
-    table: &str,
-) -> Result<(), LoadError>
+fn require<S: Source>(alloc: Global, src: &mut S, folder: &str, table: &str) -> Checked
     ensures value { S.told → Answers (Rose (S.faults src.old) (S.faults src.new)) (missing_table (content_of (S.files src.old) folder.now) table.now) (λ _. Unit {0}) result }
     ensures counted { IsCounted (Rose (S.faults src.old) (S.faults src.new)) result }
     ensures stays { S.files src.new ≡ S.files src.old }
@@ -155,11 +93,12 @@ fn require<S: Source>(
     if is_there(src, path.as_str())? {
         return Ok(());
     }
-    Err(missing_table(alloc, table))
+    let name = Text::copy_of(alloc, table)?;
+    Err(LoadError::Table(Fault::MissingTable(name)))
 }
 
 /// Refuses where a table that each package has has no file.
-fn require_tables<S: Source>(alloc: Global, src: &mut S, folder: &str) -> Result<(), LoadError>
+fn require_tables<S: Source>(alloc: Global, src: &mut S, folder: &str) -> Checked
     ensures value { S.told → Answers (Rose (S.faults src.old) (S.faults src.new)) (missing_fault (content_of (S.files src.old) folder.now)) (λ _. Unit {0}) result }
     ensures counted { IsCounted (Rose (S.faults src.old) (S.faults src.new)) result }
     ensures stays { S.files src.new ≡ S.files src.old }
@@ -177,12 +116,7 @@ fn name_source(loaded: &mut Package)
 }
 
 /// Loads the package of a folder into one without rows, or refuses with the first fault.
-fn fill<S: Source>(
-    alloc: Global,
-    src: &mut S,
-    folder: &str,
-    loaded: &mut Package,
-) -> Result<(), LoadError>
+fn fill<S: Source>(alloc: Global, src: &mut S, folder: &str, loaded: &mut Package) -> Checked
     requires { HoldsAll loaded.old (λ _. None) }
     ensures value { S.told → Answers (Rose (S.faults src.old) (S.faults src.new)) (load_fault (S.files src.old) folder.now)
         (λ _. IsPackage loaded.new (content_of (S.files src.old) folder.now)) result }

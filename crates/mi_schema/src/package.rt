@@ -1,12 +1,7 @@
 //! A package: the rows of the known tables.
 
-use crate::known::Target;
-use crate::typed_rows::{
-    ComponentRow, ConditionRow, CreateFolderRow, CustomActionRow, DirectoryRow, DuplicateFileRow,
-    EnvironmentRow, FeatureComponentsRow, FeatureRow, FileRow, InstallExecuteSequenceRow,
-    LaunchConditionRow, MsiFileHashRow, PropertyRow, RegistryRow, RemoveFileRow, RemoveRegistryRow,
-    ShortcutRow, SummaryInformationRow, UpgradeRow,
-};
+use crate::known::{Target, each_table};
+use crate::typed_rows as rows;
 use indexmap::IndexMap;
 use mi_base::Text;
 use std::alloc::Global;
@@ -19,63 +14,49 @@ pub type UpgradeKey = (Text, Option<Text>, Option<Text>, Option<Text>, i32);
 pub struct Package {
     /// Whether source names are the short ones: bit 0 of the Word Count (Word Count Summary property).
     pub short_names: bool,
-    pub property: IndexMap<Text, PropertyRow>,
-    pub directory: IndexMap<Text, DirectoryRow>,
-    pub component: IndexMap<Text, ComponentRow>,
-    pub feature: IndexMap<Text, FeatureRow>,
-    pub feature_components: IndexMap<(Text, Text), FeatureComponentsRow>,
-    pub condition: IndexMap<(Text, i32), ConditionRow>,
-    pub file: IndexMap<Text, FileRow>,
-    pub msi_file_hash: IndexMap<Text, MsiFileHashRow>,
-    pub remove_file: IndexMap<Text, RemoveFileRow>,
-    pub create_folder: IndexMap<(Text, Text), CreateFolderRow>,
-    pub duplicate_file: IndexMap<Text, DuplicateFileRow>,
-    pub registry: IndexMap<Text, RegistryRow>,
-    pub remove_registry: IndexMap<Text, RemoveRegistryRow>,
-    pub environment: IndexMap<Text, EnvironmentRow>,
-    pub shortcut: IndexMap<Text, ShortcutRow>,
-    pub launch_condition: IndexMap<Text, LaunchConditionRow>,
-    pub custom_action: IndexMap<Text, CustomActionRow>,
-    pub install_execute_sequence: IndexMap<Text, InstallExecuteSequenceRow>,
-    pub upgrade: IndexMap<UpgradeKey, UpgradeRow>,
-    pub summary_information: IndexMap<i32, SummaryInformationRow>,
+    pub property: IndexMap<Text, rows::PropertyRow>,
+    pub directory: IndexMap<Text, rows::DirectoryRow>,
+    pub component: IndexMap<Text, rows::ComponentRow>,
+    pub feature: IndexMap<Text, rows::FeatureRow>,
+    pub feature_components: IndexMap<(Text, Text), rows::FeatureComponentsRow>,
+    pub condition: IndexMap<(Text, i32), rows::ConditionRow>,
+    pub file: IndexMap<Text, rows::FileRow>,
+    pub msi_file_hash: IndexMap<Text, rows::MsiFileHashRow>,
+    pub remove_file: IndexMap<Text, rows::RemoveFileRow>,
+    pub create_folder: IndexMap<(Text, Text), rows::CreateFolderRow>,
+    pub duplicate_file: IndexMap<Text, rows::DuplicateFileRow>,
+    pub registry: IndexMap<Text, rows::RegistryRow>,
+    pub remove_registry: IndexMap<Text, rows::RemoveRegistryRow>,
+    pub environment: IndexMap<Text, rows::EnvironmentRow>,
+    pub shortcut: IndexMap<Text, rows::ShortcutRow>,
+    pub launch_condition: IndexMap<Text, rows::LaunchConditionRow>,
+    pub custom_action: IndexMap<Text, rows::CustomActionRow>,
+    pub install_execute_sequence: IndexMap<Text, rows::InstallExecuteSequenceRow>,
+    pub upgrade: IndexMap<UpgradeKey, rows::UpgradeRow>,
+    pub summary_information: IndexMap<i32, rows::SummaryInformationRow>,
+}
+
+macro_rules! without_rows {
+    ($alloc:ident: $($table:ident $layout:ident $rows:ident),*) => {
+        Package {
+            short_names: false,
+            $($rows: IndexMap::new($alloc)),*
+        }
+    };
 }
 
 impl Package {
     ghost use Rattle.std.specs.Prelude.{◌≡◌, None};
-    ghost use Rattle.mi_schema.specs.Named.{AreNamed};
     ghost use Rattle.mi_schema.specs.Package.{HoldsAll};
     ghost use Rattle.mi_schema.specs.References.{keys_in};
-    ghost use Rattle.mi_schema.specs.RowsOf.{rows_in};
+    ghost use Rattle.mi_schema.specs.RowsOf.{rows_in, AreNamed};
     ghost use Rattle.mi_schema.specs.Values.{is_key_in};
 
     /// A package without rows.
     pub(crate) fn empty(alloc: Global) -> Package
         ensures { HoldsAll result (λ _. None) }
     {
-        Package {
-            short_names: false,
-            property: IndexMap::new(alloc),
-            directory: IndexMap::new(alloc),
-            component: IndexMap::new(alloc),
-            feature: IndexMap::new(alloc),
-            feature_components: IndexMap::new(alloc),
-            condition: IndexMap::new(alloc),
-            file: IndexMap::new(alloc),
-            msi_file_hash: IndexMap::new(alloc),
-            remove_file: IndexMap::new(alloc),
-            create_folder: IndexMap::new(alloc),
-            duplicate_file: IndexMap::new(alloc),
-            registry: IndexMap::new(alloc),
-            remove_registry: IndexMap::new(alloc),
-            environment: IndexMap::new(alloc),
-            shortcut: IndexMap::new(alloc),
-            launch_condition: IndexMap::new(alloc),
-            custom_action: IndexMap::new(alloc),
-            install_execute_sequence: IndexMap::new(alloc),
-            upgrade: IndexMap::new(alloc),
-            summary_information: IndexMap::new(alloc),
-        }
+        each_table!(without_rows: alloc)
     }
 
     /// Whether a table has a row of this key.

@@ -20,8 +20,7 @@ use std::alloc::Global;
 fn kept(alloc: Global, text: &str) -> Result<Cell, CellError>
     ensures { ReadsAs None (text_cell text.now) result }
 {
-    let text = Text::copy_of(alloc, text)?;
-    Ok(Cell::Text(text))
+    Ok(Cell::Text(Text::copy_of(alloc, text)?))
 }
 
 fn checked(alloc: Global, good: bool, text: &str) -> Result<Cell, CellError>
@@ -69,10 +68,7 @@ fn read_text(alloc: Global, kind: Kind, text: &str) -> Result<Cell, CellError>
         Kind::Name => checked(alloc, is_file_name(text), text),
         Kind::Pattern => checked(alloc, is_file_pattern(text), text),
         Kind::Code => read_code(text),
-        Kind::Condition => {
-            let text = Text::copy_of(alloc, text)?;
-            read_condition(alloc, text)
-        }
+        Kind::Condition => read_condition(alloc, Text::copy_of(alloc, text)?),
         Kind::Text | Kind::Formatted | Kind::Integer => kept(alloc, text),
     }
 }
@@ -106,16 +102,8 @@ pub fn read_field(
     ensures { (x : raw.Cell) → Shows (option_copied shown.entry) x → FitsKind column.now.kind x → ReadsAs (kind_fault column.now.kind column.now.nullable x) (value_of column.now.kind x) result }
 {
     match shown {
-        Some(text) => {
-            let cell = read_shown(alloc, column.kind, text)?;
-            Ok(Some(cell))
-        }
-        None => {
-            if column.nullable {
-                Ok(None)
-            } else {
-                Err(CellError::Bad(Bad::Value))
-            }
-        }
+        Some(text) => Ok(Some(read_shown(alloc, column.kind, text)?)),
+        None if column.nullable => Ok(None),
+        None => Err(CellError::Bad(Bad::Value)),
     }
 }

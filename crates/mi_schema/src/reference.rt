@@ -1,52 +1,29 @@
 //! Rows that name rows of other tables.
 
 ghost use Rattle.std.specs.Prelude.{◌≡◌, ◌≤◌, ℕ, Option, length};
-ghost use Rattle.mi_base.specs.declared.answers.Fault.TheVariants as faults;
 ghost use Rattle.mi_schema.specs.Answers.{Answers};
 ghost use Rattle.mi_schema.specs.Checks.{references_fault};
 ghost use Rattle.mi_schema.specs.Laws.{TablesSmall};
-ghost use Rattle.mi_schema.specs.Named.{AreNamed};
-ghost use Rattle.mi_schema.specs.Reads.{Refuses};
-ghost use Rattle.mi_schema.specs.References.{names, may_name, key_path_target, sets_directory, first_dangling, rows_dangling, component_dangling, condition_dangling, create_folder_dangling, custom_action_dangling, directory_dangling, duplicate_file_dangling, environment_dangling, feature_dangling, feature_components_dangling, file_dangling, msi_file_hash_dangling, registry_dangling, remove_file_dangling, remove_registry_dangling, shortcut_dangling};
-ghost use Rattle.mi_schema.specs.RowsOf.{rows_in, behind};
-ghost use Rattle.mi_schema.specs.TableRows.{Rows};
+ghost use Rattle.mi_schema.specs.References.{names, may_name, must_name, key_path_target, sets_directory, first_dangling, rows_dangling};
+ghost use Rattle.mi_schema.specs.Rows.{◌or_else◌};
+ghost use Rattle.mi_schema.specs.RowsOf.{rows_in, behind, AreNamed};
 
-use crate::error::LoadError;
-use crate::known::{Known, Target};
+use crate::error::{Checked, LoadError};
+use crate::known::{Known, Listed, Target, tables};
 use crate::package::Package;
 use crate::rule::lacks;
 use crate::table_row::Key;
-use crate::tables::{Listed, tables};
-use crate::typed_rows::{
-    ComponentRow, ConditionRow, CreateFolderRow, CustomActionRow, DirectoryRow, DuplicateFileRow,
-    EnvironmentRow, FeatureComponentsRow, FeatureRow, FileRow, MsiFileHashRow, RegistryRow,
-    RemoveFileRow, RemoveRegistryRow, ShortcutRow,
-};
+use crate::typed_rows as rows;
 use indexmap::IndexMap;
 use mi_base::{Fault, Text};
 use std::alloc::Global;
-
-/// A row that names rows of other tables.
-pub trait Naming {
-    /// The first column, from 1, that names a row that isn't there.
-    ghost dangles: { Rows → Self → Option ℕ };
-
-    /// The first column, from 1, that names a row that isn't in the package.
-    fn dangling(&self, loaded: &Package) -> Option<u32>
-        requires { AreNamed loaded.now }
-        ensures { result ≡ dangles (rows_in loaded.now) self.now };
-}
 
 /// The column, unless the row that it names is there.
 fn names(loaded: &Package, target: Target, column: u32, key: &Text) -> Option<u32>
     requires { AreNamed loaded.now }
     ensures { result ≡ names (rows_in loaded.now) target column key.now }
 {
-    if loaded.has(target, key) {
-        None
-    } else {
-        Some(column)
-    }
+    (!loaded.has(target, key)).then_some(column)
 }
 
 /// The column, unless it is null or the row that it names is there.
@@ -54,14 +31,12 @@ fn may_name(loaded: &Package, target: Target, column: u32, key: &Option<Text>) -
     requires { AreNamed loaded.now }
     ensures { result ≡ may_name (rows_in loaded.now) target column key.now }
 {
-    match key {
-        Some(key) => names(loaded, target, column, key),
-        None => None,
-    }
+    key.as_ref()
+        .and_then(|key| names(loaded, target, column, key))
 }
 
 /// The table that the key path of a component names a row of (Component table, KeyPath).
-fn key_path_target(row: &ComponentRow) -> Target
+fn key_path_target(row: &rows::ComponentRow) -> Target
     ensures { result ≡ key_path_target row.now }
 {
     if lacks(4, row.attributes) {
@@ -78,221 +53,95 @@ fn sets_directory(kind: i32) -> bool
     kind.cast_unsigned() & 63 == 35
 }
 
-impl Naming for ComponentRow {
-    ghost dangles = { component_dangling };
-
-    fn dangling(&self, loaded: &Package) -> Option<u32> {
-        if !loaded.has(Target::Directory, &self.directory) {
-            return Some(3);
-        }
-        may_name(loaded, key_path_target(self), 6, &self.key_path)
-    }
-}
-
-impl Naming for ConditionRow {
-    ghost dangles = { condition_dangling };
-
-    fn dangling(&self, loaded: &Package) -> Option<u32> {
-        names(loaded, Target::Feature, 1, &self.feature)
-    }
-}
-
-impl Naming for CreateFolderRow {
-    ghost dangles = { create_folder_dangling };
-
-    fn dangling(&self, loaded: &Package) -> Option<u32> {
-        if !loaded.has(Target::Directory, &self.directory) {
-            return Some(1);
-        }
-        names(loaded, Target::Component, 2, &self.component)
-    }
-}
-
-impl Naming for CustomActionRow {
-    ghost dangles = { custom_action_dangling };
-
-    fn dangling(&self, loaded: &Package) -> Option<u32> {
-        if !sets_directory(self.kind) {
-            return None;
-        }
-        match &self.source {
-            Some(source) => names(loaded, Target::Directory, 3, source),
-            None => Some(3),
-        }
-    }
-}
-
-impl Naming for DirectoryRow {
-    ghost dangles = { directory_dangling };
-
-    fn dangling(&self, loaded: &Package) -> Option<u32> {
-        may_name(loaded, Target::Directory, 2, &self.directory_parent)
-    }
-}
-
-impl Naming for DuplicateFileRow {
-    ghost dangles = { duplicate_file_dangling };
-
-    fn dangling(&self, loaded: &Package) -> Option<u32> {
-        if !loaded.has(Target::Component, &self.component) {
-            return Some(2);
-        }
-        names(loaded, Target::File, 3, &self.file)
-    }
-}
-
-impl Naming for EnvironmentRow {
-    ghost dangles = { environment_dangling };
-
-    fn dangling(&self, loaded: &Package) -> Option<u32> {
-        names(loaded, Target::Component, 4, &self.component)
-    }
-}
-
-impl Naming for FeatureRow {
-    ghost dangles = { feature_dangling };
-
-    fn dangling(&self, loaded: &Package) -> Option<u32> {
-        may_name(loaded, Target::Feature, 2, &self.feature_parent)
-    }
-}
-
-impl Naming for FeatureComponentsRow {
-    ghost dangles = { feature_components_dangling };
-
-    fn dangling(&self, loaded: &Package) -> Option<u32> {
-        if !loaded.has(Target::Feature, &self.feature) {
-            return Some(1);
-        }
-        names(loaded, Target::Component, 2, &self.component)
-    }
-}
-
-impl Naming for FileRow {
-    ghost dangles = { file_dangling };
-
-    fn dangling(&self, loaded: &Package) -> Option<u32> {
-        names(loaded, Target::Component, 2, &self.component)
-    }
-}
-
-impl Naming for MsiFileHashRow {
-    ghost dangles = { msi_file_hash_dangling };
-
-    fn dangling(&self, loaded: &Package) -> Option<u32> {
-        names(loaded, Target::File, 1, &self.file)
-    }
-}
-
-impl Naming for RegistryRow {
-    ghost dangles = { registry_dangling };
-
-    fn dangling(&self, loaded: &Package) -> Option<u32> {
-        names(loaded, Target::Component, 6, &self.component)
-    }
-}
-
-impl Naming for RemoveFileRow {
-    ghost dangles = { remove_file_dangling };
-
-    fn dangling(&self, loaded: &Package) -> Option<u32> {
-        names(loaded, Target::Component, 2, &self.component)
-    }
-}
-
-impl Naming for RemoveRegistryRow {
-    ghost dangles = { remove_registry_dangling };
-
-    fn dangling(&self, loaded: &Package) -> Option<u32> {
-        names(loaded, Target::Component, 5, &self.component)
-    }
-}
-
-impl Naming for ShortcutRow {
-    ghost dangles = { shortcut_dangling };
-
-    fn dangling(&self, loaded: &Package) -> Option<u32> {
-        if !loaded.has(Target::Directory, &self.directory) {
-            return Some(2);
-        }
-        names(loaded, Target::Component, 4, &self.component)
-    }
-}
-
-/// The fault of a value that names no row.
-fn dangling_at(alloc: Global, table: &str, row: u32, column: u32) -> LoadError
-    ensures { Refuses result (faults.Reference table.now row column) }
+/// The first of two.
+fn either(first: Option<u32>, second: Option<u32>) -> Option<u32>
+    ensures { result ≡ (first or_else second) }
 {
-    match Text::copy_of(alloc, table) {
-        Ok(table) => LoadError::Table(Fault::Reference(table, row, column)),
-        Err(_) => LoadError::NoMemory,
+    first.or(second)
+}
+
+/// The column, unless the row that it names is there; a null names none.
+fn must_name(loaded: &Package, target: Target, column: u32, key: &Option<Text>) -> Option<u32>
+    requires { AreNamed loaded.now }
+    ensures { result ≡ must_name (rows_in loaded.now) target column key.now }
+{
+    match key {
+        Some(key) => names(loaded, target, column, key),
+        None => Some(column),
     }
 }
 
 /// Refuses with the first value of a table that names no row.
-fn check_table<K: Key, R: Naming>(
+fn check_table<K: Key, R, F: Fn(&R) -> Option<u32>>(
     alloc: Global,
-    loaded: &Package,
     table: &str,
     rows: &IndexMap<K, R>,
-) -> Result<(), LoadError>
-    requires named { AreNamed loaded.now }
+    dangling: F,
+) -> Checked
+    requires callable { F.IsAlwaysCallable dangling }
     requires few { length rows.now.entries ≤ 65535 }
-    ensures { Answers ⊥ (first_dangling table.now (R.dangles (rows_in loaded.now)) 1 (behind rows.now.entries)) (λ _. Unit {0}) result }
+    ensures { (dangles : R → Option ℕ) → ((r : _) (o : _) → F.post dangling r o → o ≡ dangles r.now)
+        → Answers ⊥ (first_dangling table.now dangles 1 (behind rows.now.entries)) (λ _. Unit {0}) result }
 {
     let mut number = 1;
     for row in rows.values() {
-        if let Some(column) = row.dangling(loaded) {
-            return Err(dangling_at(alloc, table, number, column));
+        if let Some(column) = dangling(row) {
+            let name = Text::copy_of(alloc, table)?;
+            return Err(LoadError::Table(Fault::Reference(name, number, column)));
         }
         number += 1;
     }
     Ok(())
 }
 
+// The tables whose rows name no rows, and the others, each with the field of its rows and the first column that names one
+// that isn't there.
+macro_rules! check_known {
+    ($alloc:ident, $loaded:ident, $known:ident, $row:ident, [$($other:ident),*]: $($table:ident $rows:ident: $dangling:expr;)*) => {
+        match $known {
+            $(Known::$table => check_table($alloc, stringify!($table), &$loaded.$rows, |$row| $dangling),)*
+            $(Known::$other)|* => Ok(()),
+        }
+    };
+}
+
 /// Refuses with the first value of a known table that names no row.
 #[tactic(auto, unfolding(crate::specs::RowsOf::rows_in))]
-fn check_known(alloc: Global, loaded: &Package, known: Known) -> Result<(), LoadError>
+fn check_known(alloc: Global, loaded: &Package, known: Known) -> Checked
     requires named { AreNamed loaded.now }
     requires few { TablesSmall loaded.now }
     ensures { Answers ⊥ (rows_dangling (rows_in loaded.now) known) (λ _. Unit {0}) result }
 {
-    match known {
-        Known::Component => check_table(alloc, loaded, "Component", &loaded.component),
-        Known::Condition => check_table(alloc, loaded, "Condition", &loaded.condition),
-        Known::CreateFolder => check_table(alloc, loaded, "CreateFolder", &loaded.create_folder),
-        Known::CustomAction => check_table(alloc, loaded, "CustomAction", &loaded.custom_action),
-        Known::Directory => check_table(alloc, loaded, "Directory", &loaded.directory),
-        Known::DuplicateFile => check_table(alloc, loaded, "DuplicateFile", &loaded.duplicate_file),
-        Known::Environment => check_table(alloc, loaded, "Environment", &loaded.environment),
-        Known::Feature => check_table(alloc, loaded, "Feature", &loaded.feature),
-        Known::FeatureComponents => check_table(
-            alloc,
-            loaded,
-            "FeatureComponents",
-            &loaded.feature_components,
-        ),
-        Known::File => check_table(alloc, loaded, "File", &loaded.file),
-        Known::MsiFileHash => check_table(alloc, loaded, "MsiFileHash", &loaded.msi_file_hash),
-        Known::Registry => check_table(alloc, loaded, "Registry", &loaded.registry),
-        Known::RemoveFile => check_table(alloc, loaded, "RemoveFile", &loaded.remove_file),
-        Known::RemoveRegistry => check_table(
-            alloc,
-            loaded,
-            "RemoveRegistry",
-            &loaded.remove_registry,
-        ),
-        Known::Shortcut => check_table(alloc, loaded, "Shortcut", &loaded.shortcut),
-        Known::InstallExecuteSequence
-        | Known::LaunchCondition
-        | Known::Property
-        | Known::SummaryInformation
-        | Known::Upgrade => Ok(()),
-    }
+    check_known!(alloc, loaded, known, row,
+        [InstallExecuteSequence, LaunchCondition, Property, SummaryInformation, Upgrade]:
+        Component component: either(names(loaded, Target::Directory, 3, &row.directory),
+            may_name(loaded, key_path_target(row), 6, &row.key_path));
+        Condition condition: names(loaded, Target::Feature, 1, &row.feature);
+        CreateFolder create_folder: either(names(loaded, Target::Directory, 1, &row.directory),
+            names(loaded, Target::Component, 2, &row.component));
+        CustomAction custom_action: if sets_directory(row.kind) {
+            must_name(loaded, Target::Directory, 3, &row.source)
+        } else {
+            None
+        };
+        Directory directory: may_name(loaded, Target::Directory, 2, &row.directory_parent);
+        DuplicateFile duplicate_file: either(names(loaded, Target::Component, 2, &row.component),
+            names(loaded, Target::File, 3, &row.file));
+        Environment environment: names(loaded, Target::Component, 4, &row.component);
+        Feature feature: may_name(loaded, Target::Feature, 2, &row.feature_parent);
+        FeatureComponents feature_components: either(names(loaded, Target::Feature, 1, &row.feature),
+            names(loaded, Target::Component, 2, &row.component));
+        File file: names(loaded, Target::Component, 2, &row.component);
+        MsiFileHash msi_file_hash: names(loaded, Target::File, 1, &row.file);
+        Registry registry: names(loaded, Target::Component, 6, &row.component);
+        RemoveFile remove_file: names(loaded, Target::Component, 2, &row.component);
+        RemoveRegistry remove_registry: names(loaded, Target::Component, 5, &row.component);
+        Shortcut shortcut: either(names(loaded, Target::Directory, 2, &row.directory),
+            names(loaded, Target::Component, 4, &row.component));)
 }
 
 /// Refuses with the first value that names no row, by table, row and column.
-pub fn check_references(alloc: Global, loaded: &Package) -> Result<(), LoadError>
+pub fn check_references(alloc: Global, loaded: &Package) -> Checked
     requires named { AreNamed loaded.now }
     requires few { TablesSmall loaded.now }
     ensures { Answers ⊥ (references_fault (rows_in loaded.now)) (λ _. Unit {0}) result }

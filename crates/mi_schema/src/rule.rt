@@ -23,10 +23,7 @@ use std::collections::BTreeMap;
 pub fn is_root_below(own: &str, parent: Option<&str>) -> bool
     ensures { result ≡ is_root_below own.now (option_copied parent.entry) }
 {
-    match parent {
-        Some(parent) => parent == own,
-        None => true,
-    }
+    parent.is_none_or(|parent| parent == own)
 }
 
 /// Whether a row of Directory is a root row: its parent is null or its own key (Directory table).
@@ -43,56 +40,11 @@ pub fn lacks(bits: u32, number: i32) -> bool
     number.cast_unsigned() & bits == 0
 }
 
-fn names_property(cell: &Option<Cell>) -> bool
-    ensures { result ≡ if_text is_property_name cell.now }
-{
-    match text_in(cell) {
-        Some(text) => is_property_name(text),
-        None => true,
-    }
-}
-
-fn suits_property(name: &str, cell: &Option<Cell>) -> bool
-    ensures { result ≡ if_text (is_value_of name.now) cell.now }
-{
-    match text_in(cell) {
-        Some(text) => is_value_of(name, text),
-        None => true,
-    }
-}
-
-fn names_folders(cell: &Option<Cell>) -> bool
-    ensures { result ≡ if_text is_default_dir cell.now }
-{
-    match text_in(cell) {
-        Some(text) => is_default_dir(text),
-        None => true,
-    }
-}
-
-fn holds_languages(cell: &Option<Cell>) -> bool
-    ensures { result ≡ if_text are_languages cell.now }
-{
-    match text_in(cell) {
-        Some(text) => are_languages(text),
-        None => true,
-    }
-}
-
 /// Whether a text is a key of the table.
 pub fn is_key(index: &BTreeMap<String, usize>, text: &str) -> bool
     ensures { (keys : List Name) → KnowsKeys index.now keys → result ≡ is_key_in keys text.now }
 {
     index.contains_key(text)
-}
-
-fn is_version_or_key(index: &BTreeMap<String, usize>, cell: &Option<Cell>) -> bool
-    ensures { (keys : List Name) → KnowsKeys index.now keys → result ≡ if_text (λ text. is_some (version_of text) || is_key_in keys text) cell.now }
-{
-    match text_in(cell) {
-        Some(text) => is_version(text) || is_key(index, text),
-        None => true,
-    }
 }
 
 fn is_within(low: i32, high: i32, cell: &Option<Cell>) -> bool
@@ -125,16 +77,18 @@ pub fn meets(
 ) -> bool
     ensures { (keys : List Name) (before : List Row) → KnowsKeys index.now keys → IsSeen seen.now before → result ≡ meets rule keys before front.now cell.now }
 {
+    let own = text_at(front, 0);
+    let text = text_in(cell);
     match rule {
-        Rule::PropertyName => names_property(cell),
-        Rule::PropertyValue => suits_property(text_at(front, 0), cell),
-        Rule::OneRoot => !(is_root_below(text_at(front, 0), text_in(cell)) && seen.root),
-        Rule::DefaultDir => is_root(front) || names_folders(cell),
+        Rule::PropertyName => text.is_none_or(|text| is_property_name(text)),
+        Rule::PropertyValue => text.is_none_or(|text| is_value_of(own, text)),
+        Rule::OneRoot => !(is_root_below(own, text) && seen.root),
+        Rule::DefaultDir => is_root(front) || text.is_none_or(|text| is_default_dir(text)),
         Rule::NewCode => seen.is_new(cell),
         Rule::Without(bits) => lacks(bits, number_in(cell)),
         Rule::Within(low, high) => is_within(low, high, cell),
-        Rule::VersionOrKey => is_version_or_key(index, cell),
-        Rule::Languages => holds_languages(cell),
+        Rule::VersionOrKey => text.is_none_or(|text| is_version(text) || is_key(index, text)),
+        Rule::Languages => text.is_none_or(|text| are_languages(text)),
         Rule::WordCount => counts_words(front, cell),
         Rule::Free => true,
     }

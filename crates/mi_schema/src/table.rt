@@ -1,33 +1,54 @@
 //! A table of the package, from its file.
 
-ghost use Rattle.std.specs.Prelude.{◌≡◌, ◌≤◌, ◌&&◌, Some, IfOk, IfErr, OnErr, OnOk, is_some, map};
+ghost use Rattle.mi_base.specs.declared.answers.Fault.TheVariants as faults;
+ghost use Rattle.std.specs.Prelude.{◌≡◌, ◌≤◌, ◌&&◌, Some, IfOk, IfErr, OnErr, OnOk, is_some, map, ◌<◌, IsErrOf};
 ghost use Rattle.std.specs.FinMap.{get};
 ghost use Rattle.std.specs.Str.{bytes_eq};
-ghost use Rattle.mi_base.specs.declared.answers.Fault.TheVariants as faults;
 ghost use Rattle.mi_source.specs.Counts.{Rose};
 ghost use Rattle.mi_idt.specs.Means.{IsSpelled, meaning, column_value};
 ghost use Rattle.mi_schema.specs.Answers.{Answers, Fails, IsCounted};
 ghost use Rattle.mi_schema.specs.Described.{column_as, table_as};
 ghost use Rattle.mi_schema.specs.Listed.{layout_of};
-ghost use Rattle.mi_schema.specs.Loaded.{AreRead, IsRight};
+ghost use Rattle.mi_schema.specs.Loaded.{AreRead, IsRight, IsWhole};
 ghost use Rattle.mi_schema.specs.Package.{keyed};
 ghost use Rattle.mi_schema.specs.Reads.{Refuses};
 ghost use Rattle.mi_schema.specs.Rows.{is_of_class, begins_with, key_places, has_columns, rows_in, value_fault, size_fault, table_fault, table_rows};
 ghost use Rattle.mi_schema.specs.Suits.{KeysTell};
 ghost use Rattle.mi_schema.specs.Tables.{refused};
 ghost use Rattle.mi_schema.specs.Checks.{table_path, content_of};
+ghost use Rattle.mi_source.specs.Paths.{bytes_or_none};
 
 use crate::column::{Column, Kind, Layout};
-use crate::error::LoadError;
-use crate::file::read_file;
+use crate::error::{Checked, LoadError};
 use crate::row::read_rows;
 use crate::table_row::{Key, TableRow};
 use indexmap::IndexMap;
 use mi_base::{Fault, IdtFault, NoMemory, Text};
 use mi_idt::{Column as Spelled, IdtError, Table, read_table};
-use mi_source::{Failed, Source};
+use mi_source::{Failed, PIECE, Source, SrcFault};
 use mi_text::Bytes;
 use std::alloc::Global;
+
+/// The greatest length of a table, in bytes.
+const TABLE_LIMIT: usize = 16_777_216;
+
+/// The bytes of a file, or None where there are more than a table may have. It is read in pieces.
+fn read_file<S: Source>(alloc: Global, src: &mut S, path: &str) -> Result<Option<Bytes>, SrcFault>
+    ensures value { S.told → IfOk result (λ found. IsWhole found (bytes_or_none (get (S.files src.old) path.now))) }
+    ensures stays { S.files src.new ≡ S.files src.old }
+    ensures counts { S.faults src.old ≤ S.faults src.new }
+    ensures failed { IsErrOf result SrcFault.Failed → Rose (S.faults src.old) (S.faults src.new) }
+{
+    let mut bytes = Bytes::new(alloc);
+    while bytes.len() <= TABLE_LIMIT {
+        let piece = src.read(alloc, path, bytes.len() as u64, PIECE)?;
+        bytes.extend(piece.as_slice())?;
+        if piece.len() < PIECE {
+            return Ok(Some(bytes));
+        }
+    }
+    Ok(None)
+}
 
 /// Whether the letter of a definition is of the class of a kind.
 fn is_of_class(kind: Kind, letter: u8) -> bool
@@ -43,9 +64,7 @@ fn is_of_class(kind: Kind, letter: u8) -> bool
 fn is_known(column: &Spelled, known: &Column) -> bool
     ensures { result ≡ (bytes_eq column.now.name.now known.now.name.now && is_of_class known.now.kind column.now.letter) }
 {
-    let named = column.name == known.name;
-    let classed = is_of_class(known.kind, column.letter);
-    named && classed
+    column.name == known.name && is_of_class(known.kind, column.letter)
 }
 
 /// Whether the columns begin with the known ones, in this order.
@@ -84,29 +103,7 @@ fn has_keys(known: &[Column], keys: &[u32]) -> bool
 fn has_columns(known: &[Column], table: &Table) -> bool
     ensures { result ≡ has_columns (map column_as known.now) (meaning table.now) }
 {
-    let keyed = has_keys(known, table.keys.as_slice());
-    let begun = begins_with(known, table.columns.as_slice());
-    keyed && begun
-}
-
-/// A fault that names its table.
-fn unsupported(alloc: Global, table: &str) -> LoadError
-    ensures { Refuses result (faults.Unsupported table.now) }
-{
-    match Text::copy_of(alloc, table) {
-        Ok(table) => LoadError::Table(Fault::Unsupported(table)),
-        Err(_) => LoadError::NoMemory,
-    }
-}
-
-/// A fault that names its table.
-fn other_columns(alloc: Global, table: &str) -> LoadError
-    ensures { Refuses result (faults.Columns table.now) }
-{
-    match Text::copy_of(alloc, table) {
-        Ok(table) => LoadError::Table(Fault::Columns(table)),
-        Err(_) => LoadError::NoMemory,
-    }
+    has_keys(known, table.keys.as_slice()) && begins_with(known, table.columns.as_slice())
 }
 
 /// A fault of the text of a table.
@@ -119,53 +116,58 @@ fn misspelled(alloc: Global, table: &str, why: IdtFault) -> LoadError
     }
 }
 
-/// The rows of a known table that its bytes spell, or its first fault.
+/// Reads the rows of a known table that its bytes spell into a map, or refuses with its first fault.
 fn read_spelled<K: Key, R: TableRow<K>>(
     alloc: Global,
     layout: &Layout,
     table: &Table,
-) -> Result<IndexMap<K, R>, LoadError>
+    rows: &mut IndexMap<K, R>,
+) -> Checked
     requires is { table_as layout.now ≡ layout_of R.known }
     requires spelled { IsSpelled table.now }
     requires apart { KeysTell K.eq K.key (layout_of R.known).columns }
-    ensures { Answers ⊥ (value_fault (table_as layout.now) (meaning table.now)) (λ rows. rows.entries ≡ keyed K.key R.value (rows_in (table_as layout.now) (meaning table.now))) result }
+    ensures { Answers ⊥ (value_fault (table_as layout.now) (meaning table.now)) (λ _. rows.new.entries ≡ keyed K.key R.value (rows_in (table_as layout.now) (meaning table.now))) result }
 {
     if !has_columns(layout.columns, table) {
-        return Err(other_columns(alloc, layout.name));
+        let name = Text::copy_of(alloc, layout.name)?;
+        return Err(LoadError::Table(Fault::Columns(name)));
     }
-    read_rows(alloc, layout, table)
+    *rows = read_rows(alloc, layout, table)?;
+    Ok(())
 }
 
-/// The rows of a known table in these bytes, or its first fault.
+/// Reads the rows of a known table in these bytes into a map, or refuses with its first fault.
 fn read_bytes<K: Key, R: TableRow<K>>(
     alloc: Global,
     layout: &Layout,
     bytes: &[u8],
-) -> Result<IndexMap<K, R>, LoadError>
+    rows: &mut IndexMap<K, R>,
+) -> Checked
     requires is { table_as layout.now ≡ layout_of R.known }
     requires apart { KeysTell K.eq K.key (layout_of R.known).columns }
-    ensures { Answers ⊥ (table_fault (table_as layout.now) (Some bytes.now)) (λ rows. rows.entries ≡ keyed K.key R.value (table_rows (table_as layout.now) (Some bytes.now))) result }
+    ensures { Answers ⊥ (table_fault (table_as layout.now) (Some bytes.now)) (λ _. rows.new.entries ≡ keyed K.key R.value (table_rows (table_as layout.now) (Some bytes.now))) result }
 {
     match read_table(alloc, bytes) {
-        Ok(table) => read_spelled(alloc, layout, &table),
+        Ok(table) => read_spelled(alloc, layout, &table, rows),
         Err(IdtError::NoMemory) => Err(LoadError::NoMemory),
         Err(IdtError::Fault(fault)) => Err(misspelled(alloc, layout.name, fault)),
     }
 }
 
 /// Refuses a table that holds a row.
-fn refuse_spelled(alloc: Global, name: &str, table: &Table) -> Result<(), LoadError>
+fn refuse_spelled(alloc: Global, name: &str, table: &Table) -> Checked
     requires spelled { IsSpelled table.now }
     ensures { Answers ⊥ (value_fault (refused name.now) (meaning table.now)) (λ _. Unit {0}) result }
 {
     if table.rows.is_empty() {
         return Ok(());
     }
-    Err(unsupported(alloc, name))
+    let name = Text::copy_of(alloc, name)?;
+    Err(LoadError::Table(Fault::Unsupported(name)))
 }
 
 /// Refuses these bytes where they hold a row, or spell no table.
-fn refuse_bytes(alloc: Global, name: &str, bytes: &[u8]) -> Result<(), LoadError>
+fn refuse_bytes(alloc: Global, name: &str, bytes: &[u8]) -> Checked
     ensures { Answers ⊥ (table_fault (refused name.now) (Some bytes.now)) (λ _. Unit {0}) result }
 {
     match read_table(alloc, bytes) {
@@ -220,34 +222,33 @@ fn bytes_of<S: Source>(
     }
 }
 
-/// The rows of a known table in a folder, or its first fault; none where its file isn't there.
+/// Reads the rows of a known table in a folder into a map, under their keys; none where its file isn't there.
 pub fn load_table<K: Key, R: TableRow<K>, S: Source>(
     alloc: Global,
     src: &mut S,
     folder: &str,
     layout: &Layout,
-) -> Result<IndexMap<K, R>, LoadError>
+    rows: &mut IndexMap<K, R>,
+) -> Checked
     requires is { table_as layout.now ≡ layout_of R.known }
     requires apart { KeysTell K.eq K.key (layout_of R.known).columns }
-    ensures read { IfOk result (λ rows. AreRead K.key R.value S.told (content_of (S.files src.old) folder.now layout.now.name.now) (table_as layout.now) rows.entries) }
-    ensures fault { S.told → IfErr result (Fails (Rose (S.faults src.old) (S.faults src.new)) (table_fault (table_as layout.now) (content_of (S.files src.old) folder.now layout.now.name.now))) }
+    ensures read { OnOk result (AreRead K.key R.value S.told (content_of (S.files src.old) folder.now (layout_of R.known).name) (layout_of R.known) rows.new.entries) }
+    ensures fault { S.told → IfErr result (Fails (Rose (S.faults src.old) (S.faults src.new)) (table_fault (layout_of R.known) (content_of (S.files src.old) folder.now (layout_of R.known).name))) }
     ensures counted { IsCounted (Rose (S.faults src.old) (S.faults src.new)) result }
     ensures stays { S.files src.new ≡ S.files src.old }
     ensures counts { S.faults src.old ≤ S.faults src.new }
 {
     match bytes_of(alloc, src, folder, layout.name)? {
-        Some(bytes) => read_bytes(alloc, layout, bytes.as_slice()),
-        None => Ok(IndexMap::new(alloc)),
+        Some(bytes) => read_bytes(alloc, layout, bytes.as_slice(), rows),
+        None => {
+            *rows = IndexMap::new(alloc);
+            Ok(())
+        }
     }
 }
 
 /// Refuses a table in a folder that holds a row.
-pub fn refuse_table<S: Source>(
-    alloc: Global,
-    src: &mut S,
-    folder: &str,
-    name: &str,
-) -> Result<(), LoadError>
+pub fn refuse_table<S: Source>(alloc: Global, src: &mut S, folder: &str, name: &str) -> Checked
     ensures read { OnOk result (IsRight S.told (content_of (S.files src.old) folder.now name.now) (refused name.now)) }
     ensures fault { S.told → IfErr result (Fails (Rose (S.faults src.old) (S.faults src.new)) (table_fault (refused name.now) (content_of (S.files src.old) folder.now name.now))) }
     ensures counted { IsCounted (Rose (S.faults src.old) (S.faults src.new)) result }

@@ -2,13 +2,11 @@
 
 ghost use Rattle.std.specs.Prelude.{◌≡◌, true, IfOk, length};
 ghost use Rattle.mi_schema.specs.declared.known.Known.{Known};
-ghost use Rattle.mi_schema.specs.Described.{table_as};
 ghost use Rattle.mi_schema.specs.Listed.{layout_of};
 ghost use Rattle.mi_schema.specs.Suits.{all_suit};
 ghost use Rattle.mi_schema.specs.Values.{Row as Values};
 
 use crate::cell::{Cell, Row};
-use crate::column::Layout;
 use mi_base::NoMemory;
 use std::alloc::Global;
 use std::hash::Hash;
@@ -30,10 +28,6 @@ pub trait TableRow<K: Key>: Drop {
 
     /// The row as a struct.
     ghost value: { Values → Self };
-
-    /// The table's name and columns.
-    fn layout() -> &'static Layout
-        ensures { table_as result.now ≡ layout_of known };
 
     /// The struct of a row, whose values are moved.
     fn read(alloc: Global, row: Row) -> Self

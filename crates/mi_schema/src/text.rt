@@ -8,18 +8,11 @@ ghost use Rattle.mi_schema.specs.Texts.{is_decimal, is_language, are_languages, 
 
 use mi_base::{Guid, Version};
 
-/// How many bytes equal `mark`.
-fn count(bytes: &[u8], mark: u8) -> usize
-    ensures { result ≡ count_by (λ b. b == mark) bytes.now }
-{
-    bytes.iter().filter(|byte| **byte == mark).count()
-}
-
 /// How many parts there are between the bytes that equal `mark`.
 fn count_parts(text: &str, mark: u8) -> usize
     ensures { result ≡ length (slice_split (λ b. b == mark) text.now) }
 {
-    count(text.as_bytes(), mark) + 1
+    text.as_bytes().iter().filter(|byte| **byte == mark).count() + 1
 }
 
 fn all_digits(bytes: &[u8]) -> bool
@@ -35,30 +28,21 @@ pub fn is_decimal(text: &str) -> bool
     !text.is_empty() && all_digits(text.as_bytes())
 }
 
-/// Whether digits, at least one, spell a number up to a limit.
-fn is_number_within(digits: &[u8], limit: u32) -> bool
-    ensures { result ≡ is_some (number_within limit digits.now) }
-{
-    if digits.is_empty() {
-        return false;
-    }
-    let mut number = 0u64;
-    for digit in digits {
-        if !digit.is_ascii_digit() {
-            return false;
-        }
-        number = number * 10 + u64::from(*digit - b'0');
-        if number > u64::from(limit) {
-            return false;
-        }
-    }
-    true
-}
-
+/// Whether a text is a number up to 65535.
 fn is_language(text: &str) -> bool
     ensures { result ≡ is_language text.now }
 {
-    is_number_within(text.as_bytes(), 65535)
+    let mut number = 0u32;
+    for digit in text.as_bytes() {
+        if !digit.is_ascii_digit() {
+            return false;
+        }
+        number = number * 10 + u32::from(*digit - b'0');
+        if number > 65535 {
+            return false;
+        }
+    }
+    !text.is_empty()
 }
 
 fn all_languages(text: &str) -> bool
@@ -78,10 +62,7 @@ pub fn are_languages(text: &str) -> bool
 fn is_product_code(text: &str) -> bool
     ensures { result ≡ is_product_code text.now }
 {
-    match Guid::read(text) {
-        Ok(code) => code.number != 0,
-        Err(_) => false,
-    }
+    Guid::read(text).is_ok_and(|code| code.number != 0)
 }
 
 /// Whether a text is a version.

@@ -22,16 +22,6 @@ pub fn cells<const N: usize>(row: Row) -> [Option<Cell>; N]
     }
 }
 
-/// The first value of a row; null where there is none.
-pub fn first_cell(row: Row) -> Option<Cell>
-    ensures { result ≡ cell_at row.items 0 }
-{
-    match row.into_iter().next() {
-        Some(cell) => cell,
-        None => None,
-    }
-}
-
 /// The text of a value, where it has one.
 pub fn some_text(cell: Option<Cell>) -> Option<Text>
     ensures { result ≡ text_in cell }
@@ -47,46 +37,34 @@ pub fn some_text(cell: Option<Cell>) -> Option<Text>
 pub fn text(alloc: Global, cell: Option<Cell>) -> Text
     ensures { result ≡ unwrap_or (text_in cell) [] }
 {
-    match some_text(cell) {
-        Some(text) => text,
-        None => Text::new(alloc),
-    }
+    some_text(cell).unwrap_or_else(|| Text::new(alloc))
 }
 
 /// The number of a value, where it is one.
 pub fn some_number(cell: Option<Cell>) -> Option<i32>
     ensures { result ≡ some_number_in cell }
 {
-    let number = match &cell {
-        Some(Cell::Integer(number)) => Some(*number),
+    match cell {
+        Some(Cell::Integer(number)) => Some(number),
         _ => None,
-    };
-    drop(cell);
-    number
+    }
 }
 
 /// The number of a value; 0 where it is none.
 pub fn number(cell: Option<Cell>) -> i32
     ensures { result ≡ number_in cell }
 {
-    let number = match &cell {
-        Some(Cell::Integer(number)) => *number,
-        _ => 0,
-    };
-    drop(cell);
-    number
+    some_number(cell).unwrap_or(0)
 }
 
 /// The code of a value, where it is one.
 pub fn some_code(cell: Option<Cell>) -> Option<Guid>
     ensures { result ≡ some_code_in cell }
 {
-    let code = match &cell {
-        Some(Cell::Code(code)) => Some(*code),
+    match cell {
+        Some(Cell::Code(code)) => Some(code),
         _ => None,
-    };
-    drop(cell);
-    code
+    }
 }
 
 /// The condition of a value, where it is one.

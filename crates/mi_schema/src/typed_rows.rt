@@ -1,14 +1,84 @@
-//! The rows of the known tables, each with the columns of its table (Database Tables). A column is named in snake case
-//! without an underscore at its ends, and Type is `kind`.
+//! The rows of the known tables: each table's columns, and its rows as structs of them (Database Tables). A column is
+//! named in snake case without an underscore at its ends, and Type is `kind`.
 
+ghost use Rattle.mi_schema.specs.declared.known.Known.TheVariants as of;
+ghost use Rattle.mi_schema.specs.TypedRows.{property_row, directory_row, component_row, feature_row, feature_components_row, condition_row, file_row, msi_file_hash_row, remove_file_row, create_folder_row, duplicate_file_row, registry_row, remove_registry_row, environment_row, shortcut_row, launch_condition_row, custom_action_row, install_execute_sequence_row, upgrade_row, summary_information_row};
+
+use crate::cell::Row;
+use crate::column::{Column, Kind, Layout, Rule};
+use crate::package::UpgradeKey;
+use crate::table_row::TableRow;
+use crate::typed::{
+    cells, condition_of, number, some_code, some_condition, some_number, some_text, text,
+};
 use mi_base::{Guid, Text};
 use mi_cond::Cond;
+use std::alloc::Global;
+
+macro_rules! is_key {
+    (key) => { true };
+    (key_or_null) => { true };
+    ($other:ident) => { false };
+}
+
+macro_rules! is_nullable {
+    (allows) => { true };
+    (key_or_null) => { true };
+    ($other:ident) => { false };
+}
+
+macro_rules! rule {
+    () => { Rule::Free };
+    ($($rule:tt)+) => { Rule::$($rule)+ };
+}
+
+// A table by its name and its columns: how a column stands, its name, what it holds, and its rule, if any.
+macro_rules! layout {
+    ($table:literal: $($may:ident $name:ident $kind:ident $($rule:ident)? $(($($limit:tt)*))?),*) => {
+        Layout {
+            name: $table,
+            columns: &[$(Column {
+                name: stringify!($name),
+                kind: Kind::$kind,
+                nullable: is_nullable!($may),
+                key: is_key!($may),
+                rule: rule!($($rule)? $(($($limit)*))?),
+            }),*],
+        }
+    };
+}
+
+macro_rules! field {
+    (text, $alloc:ident, $cell:ident) => { text($alloc, $cell) };
+    ($how:ident, $alloc:ident, $cell:ident) => { $how($cell) };
+}
+
+// The struct of a row: how many fields it has, and how each is read, in the order of the columns.
+macro_rules! read {
+    ($alloc:ident, $row:ident => $of:ident of $count:literal: $($how:ident $field:ident),*) => {{
+        let [$($field),*] = cells::<$count>($row);
+        $of { $($field: field!($how, $alloc, $field)),* }
+    }};
+}
 
 /// A row of Property (Property table).
 #[derive(Drop)]
 pub struct PropertyRow {
     pub property: Text,
     pub value: Text,
+}
+
+pub const PROPERTY: Layout = layout!("Property": key Property Text PropertyName,
+    needs Value Text PropertyValue);
+
+impl TableRow<Text> for PropertyRow {
+    ghost known = { of.Property };
+
+    ghost value = { property_row };
+
+    fn read(alloc: Global, row: Row) -> PropertyRow {
+        read!(alloc, row => PropertyRow of 2: text property, text value)
+    }
 }
 
 /// A row of Directory (Directory table).
@@ -19,6 +89,20 @@ pub struct DirectoryRow {
     pub directory_parent: Option<Text>,
     /// `target:source`, or one name for both; a root's isn't checked.
     pub default_dir: Text,
+}
+
+pub const DIRECTORY: Layout = layout!("Directory": key Directory Text,
+    allows Directory_Parent Text OneRoot, needs DefaultDir Text DefaultDir);
+
+impl TableRow<Text> for DirectoryRow {
+    ghost known = { of.Directory };
+
+    ghost value = { directory_row };
+
+    fn read(alloc: Global, row: Row) -> DirectoryRow {
+        read!(alloc, row => DirectoryRow of 3: text directory, some_text directory_parent,
+            text default_dir)
+    }
 }
 
 /// A row of Component (Component table).
@@ -35,6 +119,21 @@ pub struct ComponentRow {
     pub key_path: Option<Text>,
 }
 
+pub const COMPONENT: Layout = layout!("Component": key Component Text,
+    allows ComponentId Code NewCode, needs Directory_ Text,
+    needs Attributes Integer Without(1 | 32 | 64), allows Condition Condition, allows KeyPath Text);
+
+impl TableRow<Text> for ComponentRow {
+    ghost known = { of.Component };
+
+    ghost value = { component_row };
+
+    fn read(alloc: Global, row: Row) -> ComponentRow {
+        read!(alloc, row => ComponentRow of 6: text component, some_code component_id,
+            text directory, number attributes, some_condition condition, some_text key_path)
+    }
+}
+
 /// A row of Feature (Feature table).
 #[derive(Drop)]
 pub struct FeatureRow {
@@ -49,6 +148,22 @@ pub struct FeatureRow {
     pub attributes: i32,
 }
 
+pub const FEATURE: Layout = layout!("Feature": key Feature Text, allows Feature_Parent Text,
+    allows Title Text, allows Description Text, allows Display Integer, needs Level Integer,
+    allows Directory_ Text, needs Attributes Integer);
+
+impl TableRow<Text> for FeatureRow {
+    ghost known = { of.Feature };
+
+    ghost value = { feature_row };
+
+    fn read(alloc: Global, row: Row) -> FeatureRow {
+        read!(alloc, row => FeatureRow of 8: text feature, some_text feature_parent,
+            some_text title, some_text description, some_number display, number level,
+            some_text directory, number attributes)
+    }
+}
+
 /// A row of FeatureComponents (FeatureComponents table).
 #[derive(Drop)]
 pub struct FeatureComponentsRow {
@@ -58,6 +173,19 @@ pub struct FeatureComponentsRow {
     pub component: Text,
 }
 
+pub const FEATURE_COMPONENTS: Layout = layout!("FeatureComponents": key Feature_ Text,
+    key Component_ Text);
+
+impl TableRow<(Text, Text)> for FeatureComponentsRow {
+    ghost known = { of.FeatureComponents };
+
+    ghost value = { feature_components_row };
+
+    fn read(alloc: Global, row: Row) -> FeatureComponentsRow {
+        read!(alloc, row => FeatureComponentsRow of 2: text feature, text component)
+    }
+}
+
 /// A row of Condition (Condition table).
 #[derive(Drop)]
 pub struct ConditionRow {
@@ -65,6 +193,19 @@ pub struct ConditionRow {
     pub feature: Text,
     pub level: i32,
     pub condition: Option<Cond>,
+}
+
+pub const CONDITION: Layout = layout!("Condition": key Feature_ Text, key Level Integer,
+    allows Condition Condition);
+
+impl TableRow<(Text, i32)> for ConditionRow {
+    ghost known = { of.Condition };
+
+    ghost value = { condition_row };
+
+    fn read(alloc: Global, row: Row) -> ConditionRow {
+        read!(alloc, row => ConditionRow of 3: text feature, number level, some_condition condition)
+    }
 }
 
 /// A row of File (File table).
@@ -85,6 +226,22 @@ pub struct FileRow {
     pub sequence: i32,
 }
 
+pub const FILE: Layout = layout!("File": key File Text, needs Component_ Text, needs FileName Name,
+    needs FileSize Integer Within(0, i32::MAX), allows Version Text VersionOrKey,
+    allows Language Text Languages, allows Attributes Integer, needs Sequence Integer);
+
+impl TableRow<Text> for FileRow {
+    ghost known = { of.File };
+
+    ghost value = { file_row };
+
+    fn read(alloc: Global, row: Row) -> FileRow {
+        read!(alloc, row => FileRow of 8: text file, text component, text file_name,
+            number file_size, some_text version, some_text language, some_number attributes,
+            number sequence)
+    }
+}
+
 /// A row of MsiFileHash (MsiFileHash table).
 #[derive(Drop)]
 pub struct MsiFileHashRow {
@@ -95,6 +252,21 @@ pub struct MsiFileHashRow {
     pub hash_part2: i32,
     pub hash_part3: i32,
     pub hash_part4: i32,
+}
+
+pub const MSI_FILE_HASH: Layout = layout!("MsiFileHash": key File_ Text, needs Options Integer,
+    needs HashPart1 Integer, needs HashPart2 Integer, needs HashPart3 Integer,
+    needs HashPart4 Integer);
+
+impl TableRow<Text> for MsiFileHashRow {
+    ghost known = { of.MsiFileHash };
+
+    ghost value = { msi_file_hash_row };
+
+    fn read(alloc: Global, row: Row) -> MsiFileHashRow {
+        read!(alloc, row => MsiFileHashRow of 6: text file, number options, number hash_part1,
+            number hash_part2, number hash_part3, number hash_part4)
+    }
 }
 
 /// A row of RemoveFile (RemoveFile table).
@@ -110,6 +282,20 @@ pub struct RemoveFileRow {
     pub install_mode: i32,
 }
 
+pub const REMOVE_FILE: Layout = layout!("RemoveFile": key FileKey Text, needs Component_ Text,
+    allows FileName Pattern, needs DirProperty Text, needs InstallMode Integer Within(1, 3));
+
+impl TableRow<Text> for RemoveFileRow {
+    ghost known = { of.RemoveFile };
+
+    ghost value = { remove_file_row };
+
+    fn read(alloc: Global, row: Row) -> RemoveFileRow {
+        read!(alloc, row => RemoveFileRow of 5: text file_key, text component, some_text file_name,
+            text dir_property, number install_mode)
+    }
+}
+
 /// A row of CreateFolder (CreateFolder table).
 #[derive(Drop)]
 pub struct CreateFolderRow {
@@ -117,6 +303,18 @@ pub struct CreateFolderRow {
     pub directory: Text,
     /// A key of Component.
     pub component: Text,
+}
+
+pub const CREATE_FOLDER: Layout = layout!("CreateFolder": key Directory_ Text, key Component_ Text);
+
+impl TableRow<(Text, Text)> for CreateFolderRow {
+    ghost known = { of.CreateFolder };
+
+    ghost value = { create_folder_row };
+
+    fn read(alloc: Global, row: Row) -> CreateFolderRow {
+        read!(alloc, row => CreateFolderRow of 2: text directory, text component)
+    }
 }
 
 /// A row of DuplicateFile (DuplicateFile table).
@@ -132,6 +330,20 @@ pub struct DuplicateFileRow {
     pub dest_folder: Option<Text>,
 }
 
+pub const DUPLICATE_FILE: Layout = layout!("DuplicateFile": key FileKey Text, needs Component_ Text,
+    needs File_ Text, allows DestName Name, allows DestFolder Text);
+
+impl TableRow<Text> for DuplicateFileRow {
+    ghost known = { of.DuplicateFile };
+
+    ghost value = { duplicate_file_row };
+
+    fn read(alloc: Global, row: Row) -> DuplicateFileRow {
+        read!(alloc, row => DuplicateFileRow of 5: text file_key, text component, text file,
+            some_text dest_name, some_text dest_folder)
+    }
+}
+
 /// A row of Registry (Registry table).
 #[derive(Drop)]
 pub struct RegistryRow {
@@ -143,6 +355,21 @@ pub struct RegistryRow {
     pub value: Option<Text>,
     /// A key of Component.
     pub component: Text,
+}
+
+pub const REGISTRY: Layout = layout!("Registry": key Registry Text,
+    needs Root Integer Within(-1, 3), needs Key Formatted, allows Name Formatted,
+    allows Value Formatted, needs Component_ Text);
+
+impl TableRow<Text> for RegistryRow {
+    ghost known = { of.Registry };
+
+    ghost value = { registry_row };
+
+    fn read(alloc: Global, row: Row) -> RegistryRow {
+        read!(alloc, row => RegistryRow of 6: text registry, number root, text key, some_text name,
+            some_text value, text component)
+    }
 }
 
 /// A row of RemoveRegistry (RemoveRegistry table).
@@ -157,6 +384,21 @@ pub struct RemoveRegistryRow {
     pub component: Text,
 }
 
+pub const REMOVE_REGISTRY: Layout = layout!("RemoveRegistry": key RemoveRegistry Text,
+    needs Root Integer Within(-1, 3), needs Key Formatted, allows Name Formatted,
+    needs Component_ Text);
+
+impl TableRow<Text> for RemoveRegistryRow {
+    ghost known = { of.RemoveRegistry };
+
+    ghost value = { remove_registry_row };
+
+    fn read(alloc: Global, row: Row) -> RemoveRegistryRow {
+        read!(alloc, row => RemoveRegistryRow of 5: text remove_registry, number root, text key,
+            some_text name, text component)
+    }
+}
+
 /// A row of Environment (Environment table).
 #[derive(Drop)]
 pub struct EnvironmentRow {
@@ -166,6 +408,20 @@ pub struct EnvironmentRow {
     pub value: Option<Text>,
     /// A key of Component.
     pub component: Text,
+}
+
+pub const ENVIRONMENT: Layout = layout!("Environment": key Environment Text, needs Name Text,
+    allows Value Formatted, needs Component_ Text);
+
+impl TableRow<Text> for EnvironmentRow {
+    ghost known = { of.Environment };
+
+    ghost value = { environment_row };
+
+    fn read(alloc: Global, row: Row) -> EnvironmentRow {
+        read!(alloc, row => EnvironmentRow of 4: text environment, text name, some_text value,
+            text component)
+    }
 }
 
 /// A row of Shortcut (Shortcut table).
@@ -191,11 +447,43 @@ pub struct ShortcutRow {
     pub wk_dir: Option<Text>,
 }
 
+pub const SHORTCUT: Layout = layout!("Shortcut": key Shortcut Text, needs Directory_ Text,
+    needs Name Name, needs Component_ Text, needs Target Formatted, allows Arguments Formatted,
+    allows Description Text, allows Hotkey Integer Within(0, 65_535), allows Icon_ Text,
+    allows IconIndex Integer Within(-32_767, 32_767), allows ShowCmd Integer Within(0, 65_535),
+    allows WkDir Text);
+
+impl TableRow<Text> for ShortcutRow {
+    ghost known = { of.Shortcut };
+
+    ghost value = { shortcut_row };
+
+    fn read(alloc: Global, row: Row) -> ShortcutRow {
+        read!(alloc, row => ShortcutRow of 12: text shortcut, text directory, text name,
+            text component, text target, some_text arguments, some_text description,
+            some_number hotkey, some_text icon, some_number icon_index, some_number show_cmd,
+            some_text wk_dir)
+    }
+}
+
 /// A row of LaunchCondition (LaunchCondition table).
 #[derive(Drop)]
 pub struct LaunchConditionRow {
     pub condition: Cond,
     pub description: Text,
+}
+
+pub const LAUNCH_CONDITION: Layout = layout!("LaunchCondition": key Condition Condition,
+    needs Description Formatted);
+
+impl TableRow<Text> for LaunchConditionRow {
+    ghost known = { of.LaunchCondition };
+
+    ghost value = { launch_condition_row };
+
+    fn read(alloc: Global, row: Row) -> LaunchConditionRow {
+        read!(alloc, row => LaunchConditionRow of 2: condition_of condition, text description)
+    }
 }
 
 /// A row of CustomAction (CustomAction table).
@@ -209,12 +497,40 @@ pub struct CustomActionRow {
     pub target: Option<Text>,
 }
 
+pub const CUSTOM_ACTION: Layout = layout!("CustomAction": key Action Text, needs Type Integer,
+    allows Source Text, allows Target Formatted);
+
+impl TableRow<Text> for CustomActionRow {
+    ghost known = { of.CustomAction };
+
+    ghost value = { custom_action_row };
+
+    fn read(alloc: Global, row: Row) -> CustomActionRow {
+        read!(alloc, row => CustomActionRow of 4: text action, number kind, some_text source,
+            some_text target)
+    }
+}
+
 /// A row of InstallExecuteSequence (InstallExecuteSequence table).
 #[derive(Drop)]
 pub struct InstallExecuteSequenceRow {
     pub action: Text,
     pub condition: Option<Cond>,
     pub sequence: Option<i32>,
+}
+
+pub const INSTALL_EXECUTE_SEQUENCE: Layout = layout!("InstallExecuteSequence": key Action Text,
+    allows Condition Condition, allows Sequence Integer);
+
+impl TableRow<Text> for InstallExecuteSequenceRow {
+    ghost known = { of.InstallExecuteSequence };
+
+    ghost value = { install_execute_sequence_row };
+
+    fn read(alloc: Global, row: Row) -> InstallExecuteSequenceRow {
+        read!(alloc, row => InstallExecuteSequenceRow of 3: text action, some_condition condition,
+            some_number sequence)
+    }
 }
 
 /// A row of Upgrade (Upgrade table).
@@ -229,10 +545,39 @@ pub struct UpgradeRow {
     pub action_property: Text,
 }
 
+pub const UPGRADE: Layout = layout!("Upgrade": key UpgradeCode Text, key_or_null VersionMin Text,
+    key_or_null VersionMax Text, key_or_null Language Text, key Attributes Integer,
+    allows Remove Text, needs ActionProperty Text);
+
+impl TableRow<UpgradeKey> for UpgradeRow {
+    ghost known = { of.Upgrade };
+
+    ghost value = { upgrade_row };
+
+    fn read(alloc: Global, row: Row) -> UpgradeRow {
+        read!(alloc, row => UpgradeRow of 7: text upgrade_code, some_text version_min,
+            some_text version_max, some_text language, number attributes, some_text remove,
+            text action_property)
+    }
+}
+
 /// A row of _SummaryInformation (Summary Information Stream).
 #[derive(Drop)]
 pub struct SummaryInformationRow {
     /// 15 is the Word Count.
     pub property_id: i32,
     pub value: Option<Text>,
+}
+
+pub const SUMMARY_INFORMATION: Layout = layout!("_SummaryInformation": key PropertyId Integer,
+    allows Value Text WordCount);
+
+impl TableRow<i32> for SummaryInformationRow {
+    ghost known = { of.SummaryInformation };
+
+    ghost value = { summary_information_row };
+
+    fn read(alloc: Global, row: Row) -> SummaryInformationRow {
+        read!(alloc, row => SummaryInformationRow of 2: number property_id, some_text value)
+    }
 }

@@ -7,7 +7,6 @@ use Rattle.mi_schema.specs.Checks.{endless_row, row_with, parents_of}
 use Rattle.mi_schema.specs.RowsOf.{behind}
 use Rattle.mi_schema.proofs.CheckLemmas.{parents_long, are_rows, none_endless, first_endless}
 use Rattle.mi_schema.proofs.ReferenceLaws.{behind_long}
-use Rattle.mi_schema.proofs.RowLemmas.{refused_at}
 use Rattle.mi_schema.proofs.chain.check_chains.Goals as goal
 
 pub order_of-requires : goal.order_of-requires
@@ -35,7 +34,7 @@ returns-in-Err-Fault-Cycle g c =
     let long : length c.as_slice.result.now ≡ length c.args.rows.now.entries = parents_long g.R.HasParent.own g.R.HasParent.parent rows c.as_slice.result.now is ∙ behind_long c.args.rows.now.entries in
     let below : cycle.0 < length c.as_slice.result.now = cycle.2.is_row in
     let number : row_number cycle.0 ≡ cycle.0 + 1 = omega (arith, below, long, c.requires.few) in
-    refused_at ⊥ c.endless.result _ _ c.endless.ensures (
     ap (λ (ps : List (Option ℕ)). option_map (λ row. Cycle name (row + 1)) (endless_row ps)) (sym is)
     ∙ ap (option_map (λ row. Cycle name (row + 1))) (first_endless c.as_slice.result.now cycle.0 cycle.2)
-    ∙ ap (λ n. Some (Cycle name n)) (sym (at ∙ number)))
+    ∙ ap (λ n. Some (Cycle name n)) (sym (at ∙ number))
+    ∙ ap (λ n. Some (Cycle n c.in-Err-Fault-Cycle.row)) (sym c.in_ok-name-in-Err-Fault-Cycle.ensures)

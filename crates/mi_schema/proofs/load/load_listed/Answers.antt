@@ -1,5 +1,5 @@
 use Rattle.std.proofs.Common.{OnOk, sym, subst}
-use Rattle.mi_schema.specs.declared.tables.Listed.{Listed as InCode}
+use Rattle.mi_schema.specs.declared.known.Listed.{Listed as InCode}
 use Rattle.mi_schema.specs.Checks.{content_of}
 use Rattle.mi_schema.specs.Listed.{table_of, listed_as}
 use Rattle.mi_schema.specs.Loaded.{IsPut, IsOther}

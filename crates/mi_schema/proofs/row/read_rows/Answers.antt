@@ -7,13 +7,14 @@ use Rattle.mi_schema.specs.Keys.{keys_asked}
 use Rattle.mi_schema.specs.Listed.{layout_of}
 use Rattle.mi_schema.specs.Package.{keyed}
 use Rattle.mi_schema.specs.Seen.{IsSeen}
-use Rattle.mi_schema.specs.Suits.{each_suits, keys_tell, KeysDiffer, KeysTell}
+use Rattle.mi_schema.specs.Suits.{KeysTell}
 use Rattle.mi_schema.specs.Tables.{Table}
 use Rattle.mi_schema.specs.Values.{Row, row_of}
 use Rattle.mi_schema.proofs.FitLemmas.{rows_long}
 use Rattle.mi_schema.proofs.KnownLemmas.{asked, keys_tell_known, has_begun, suits_here, spelled_differ}
 use Rattle.mi_schema.proofs.RowLemmas.{before_more, rows_more, rows_fault_here, rows_all, passed_on}
 use Rattle.mi_schema.proofs.RowsLemmas.{suits_more, differ_front, entries_more}
+use Rattle.mi_schema.proofs.Words.{each_suits, keys_tell, KeysDiffer}
 use Rattle.mi_schema.proofs.row.read_rows.Goals as goal
 
 pub index_of-requires-clause-columns : goal.index_of-requires-clause-columns

@@ -4,9 +4,9 @@ use Rattle.mi_schema.specs.Described.{table_as}
 use Rattle.mi_schema.specs.Keys.{keys_asked}
 use Rattle.mi_schema.specs.Package.{keyed}
 use Rattle.mi_schema.specs.Seen.{IsSeen}
-use Rattle.mi_schema.specs.Suits.{each_suits}
 use Rattle.mi_schema.specs.Values.{row_of}
 use Rattle.mi_schema.proofs.RowLemmas.{SameRows}
+use Rattle.mi_schema.proofs.Words.{each_suits}
 use Rattle.mi_schema.proofs.row.read_rows.Given as goal
 
 abbrev pub invariant-loop-number : goal.invariant-loop-number

@@ -1,23 +1,29 @@
-use Rattle.std.proofs.Common.{◌≡◌, Option, false, ap, sym, subst, ◌∙◌}
+use Rattle.std.proofs.Common.{◌≡◌, Option, Some, false, ap, sym, subst, ◌∙◌}
+use Rattle.std.proofs.lemmas.Result.{err_from_is_err_and}
 use Rattle.mi_base.specs.declared.answers.Fault.{Fault}
+use Rattle.mi_base.specs.declared.answers.Fault.TheVariants.{Columns}
 use Rattle.mi_idt.specs.Means.{meaning}
-use Rattle.mi_schema.specs.Answers.{Answers}
+use Rattle.mi_schema.specs.Answers.{Fails}
 use Rattle.mi_schema.specs.Described.{table_as}
-use Rattle.mi_schema.specs.Package.{keyed}
-use Rattle.mi_schema.specs.Rows.{is_refused, rows_in}
+use Rattle.mi_schema.specs.Rows.{is_refused}
 use Rattle.mi_schema.proofs.KnownLemmas.{never_refused, value_known, value_other}
-use Rattle.mi_schema.proofs.RowLemmas.{refused_at}
 use Rattle.mi_schema.proofs.table.read_spelled.Goals as goal
 
 pub returns-then-not-has_columns : goal.returns-then-not-has_columns
 returns-then-not-has_columns g c =
     let t = table_as c.args.layout.now in
     let known : is_refused t ≡ false = ap is_refused c.requires.is ∙ never_refused g.R.TableRow.known in
-    refused_at ⊥ c.other_columns.result _ _ c.other_columns.ensures (value_other t (meaning c.args.table.now) known _ c.has_columns.ensures c.if-not-has_columns.true)
+    value_other t (meaning c.args.table.now) known _ c.has_columns.ensures c.if-not-has_columns.true ∙ ap (λ n. Some (Columns n)) (sym c.in_ok-name.ensures)
+
+pub returns-in_err-rows : goal.returns-in_err-rows
+returns-in_err-rows g c =
+    let p = err_from_is_err_and c.from_residual-in_err-rows.result c.from_residual-in_err-rows.ensures.1 in
+    let t = table_as c.args.layout.now in
+    let known : is_refused t ≡ false = ap is_refused c.requires.is ∙ never_refused g.R.TableRow.known in
+    rw (p.1, p.2) (subst (λ (o : Option Fault). Fails ⊥ o c.in_err-rows.field-0.0) (sym (value_known t (meaning c.args.table.now) known _ c.has_columns.ensures c.if-not-has_columns.false)) c.in_err-rows.ensures)
 
 pub returns : goal.returns
 returns g c =
     let t = table_as c.args.layout.now in
-    let v = meaning c.args.table.now in
     let known : is_refused t ≡ false = ap is_refused c.requires.is ∙ never_refused g.R.TableRow.known in
-    subst (λ (o : Option Fault). Answers ⊥ o (λ rows. rows.entries ≡ keyed g.K.Key.key g.R.TableRow.value (rows_in t v)) c.read_rows.result) (sym (value_known t v known _ c.has_columns.ensures c.if-not-has_columns.false)) c.read_rows.ensures
+    (value_known t (meaning c.args.table.now) known _ c.has_columns.ensures c.if-not-has_columns.false ∙ c.in_ok-rows.ensures.0, c.in_ok-rows.ensures.1)

@@ -1,8 +1,8 @@
-use Rattle.std.proofs.Common.{refl, arith}
+use Rattle.std.proofs.Common.{Some, refl, ap, sym, ◌∙◌, arith}
+use Rattle.mi_base.specs.declared.answers.Fault.TheVariants.{Unsupported}
 use Rattle.mi_idt.specs.Means.{meaning}
 use Rattle.mi_schema.specs.Tables.{refused}
 use Rattle.mi_schema.proofs.FitLemmas.{rows_long}
-use Rattle.mi_schema.proofs.RowLemmas.{refused_at}
 use Rattle.mi_schema.proofs.TableLemmas.{refused_none, refused_some, is_zero, is_more}
 use Rattle.mi_schema.proofs.table.refuse_spelled.Goals as goal
 
@@ -14,5 +14,5 @@ returns-then-is_empty c =
 pub returns : goal.returns
 returns c =
     let long = rows_long c.args.table.now in
-    refused_at ⊥ c.unsupported.result _ _ c.unsupported.ensures
-    (refused_some (refused c.args.name.now) (meaning c.args.table.now) refl (let some = is_more _ _ c.is_empty.ensures c.if-is_empty.false in omega (arith, long, some, c.args.table.now.rows.ok)))
+    refused_some (refused c.args.name.now) (meaning c.args.table.now) refl (let some = is_more _ _ c.is_empty.ensures c.if-is_empty.false in omega (arith, long, some, c.args.table.now.rows.ok))
+    ∙ ap (λ n. Some (Unsupported n)) (sym c.in_ok-name.ensures)
