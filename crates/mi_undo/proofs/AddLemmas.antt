@@ -1,21 +1,18 @@
 -- Bytes that are added to a name by several calls.
-use Rattle.std.proofs.Common.{◌≡◌, ℕ, ◌-◌, ◌≤◌, List, [], ◌++◌, length, take, drop, Option, Some, None, Result, Ok, Err, IsErr, IsErrOf, IsErrAnd, refl, ap, subst, ◌∙◌, arith, append_assoc, length-append}
-use Rattle.std.specs.Option.{option_map}
-use Rattle.std.proofs.lemmas.List.{take_all}
+use Rattle.std.proofs.Common.{◌≡◌, ℕ, ◌≤◌, List, ◌++◌, length, Option, Some, Result, Ok, Err, IsErr, IsErrOf, IsErrAnd, ap, subst, ◌∙◌, arith, append_assoc, length-append}
 use Rattle.std.proofs.lemmas.Result.{on_ok_weaker}
 use Rattle.std.specs.FinMap.{get, insert}
 use Rattle.mi_volume.specs.Maps.{Map, Exceeds, size, bytes_or_none}
-use Rattle.mi_volume.specs.State.{State, GoesOn, Images, ImagesOf, Stays}
+use Rattle.mi_volume.specs.State.{State, GoesOn, ImagesOf}
 use Rattle.mi_volume.specs.Calls.{Writes}
 use Rattle.mi_volume.specs.declared.volume.PutFault.{PutFault}
 use Rattle.mi_volume.specs.declared.volume.PutFault.TheVariants as put
 use Rattle.mi_volume.proofs.MapLemmas.{get-insert_same}
 use Rattle.mi_undo.specs.declared.fault.OpFault.{OpFault}
 use Rattle.mi_undo.specs.declared.fault.OpFault.TheVariants as op
-use Rattle.mi_undo.specs.Notes.{old_bytes}
 use Rattle.mi_undo.specs.Steps.{OnlyChanges, HoldsNoMore, Adds}
 use Rattle.mi_undo.proofs.FaultLemmas.{at_err}
-use Rattle.mi_undo.proofs.StepLemmas.{only_then, only_looks, insert_twice, exceeds_longer, no_more_then, no_more_looked, no_more_held, no_more_longer, no_more_written}
+use Rattle.mi_undo.proofs.StepLemmas.{only_then, insert_twice, exceeds_longer, no_more_then, no_more_held, no_more_longer, no_more_written}
 use Rattle.mi_undo.proofs.SpanLemmas.{Added}
 
 pub added_then : (s t u : State) (name before xs ys : List ℕ) → Added name before xs s t → Added name (before ++ xs) ys t u → Added name before (xs ++ ys) s u
@@ -38,15 +35,6 @@ adds_then s t u name before xs ys r first second = record {
   where
     same_map : insert t.held name ((before ++ xs) ++ ys) ≡ insert s.held name (before ++ (xs ++ ys))
     same_map = ap (λ (m : Map). insert m name ((before ++ xs) ++ ys)) first.held ∙ insert_twice s.held name (before ++ xs) ((before ++ xs) ++ ys) ∙ ap (λ (b : List ℕ). insert s.held name b) (append_assoc before xs ys)
-
--- what was read before
-pub adds_looked : {T : Type 0} (s t u : State) (name before xs : List ℕ) (r : Result T OpFault) → GoesOn s t (Images s) → Stays s t → Adds name before xs t u r → Adds name before xs s u r
-adds_looked s t u name before xs r goes stays adds = record {
-  only = only_then s t u name (only_looks s t name goes stays) adds.only;
-  ok = on_ok_weaker r (λ held. held ∙ ap (λ (m : Map). insert m name (before ++ xs)) stays.held) adds.ok;
-  most = no_more_looked s t u name (length (before ++ xs)) stays.held adds.most;
-  full = λ full. subst (λ (c : Option ℕ). Exceeds c (size (insert s.held name (before ++ xs)))) goes.capacity (subst (λ (m : Map). Exceeds t.capacity (size (insert m name (before ++ xs)))) stays.held (adds.full full));
-}
 
 pub adds_added : {T : Type 0} (s t : State) (name before xs : List ℕ) (x : T) → Added name before xs s t → Adds name before xs s t (Ok x)
 adds_added s t name before xs x added = record { only = added.only; ok = added.held; most = no_more_held s t name (before ++ xs) added.held; full = λ full. absurd (cc) }
@@ -93,14 +81,3 @@ adds_longer s t name before xs ys r adds fails le = record {
   most = no_more_longer s t name (length (before ++ xs)) (length (before ++ ys)) (omega (arith, le, length-append before xs, length-append before ys)) adds.most;
   full = λ full. exceeds_longer s.capacity s.held name (before ++ xs) (before ++ ys) (omega (arith, le, length-append before xs, length-append before ys)) (adds.full full);
 }
-
-pub whole_run : (o : Option (List ℕ)) (n : ℕ) → Some n ≡ option_map length o → take (n - 0) (drop 0 (bytes_or_none o)) ≡ old_bytes o
-whole_run None n is = absurd (cc)
-whole_run (Some b) n is = let long : length b ≤ n - 0 = (let e : n ≡ length b = cc in omega arith) in take_all (n - 0) b long
-
-pub nothing_held : (o : Option (List ℕ)) → None ≡ option_map (length {A = ℕ}) o → old_bytes o ≡ []
-nothing_held None is = refl
-nothing_held (Some b) is = absurd (cc)
-
-pub adds_ok : {T U : Type 0} (s t : State) (name before xs : List ℕ) (x : T) (y : U) → Adds name before xs s t (Ok y) → Adds name before xs s t (Ok x)
-adds_ok s t name before xs x y adds = record { only = adds.only; ok = adds.ok; most = adds.most; full = λ full. absurd (cc) }

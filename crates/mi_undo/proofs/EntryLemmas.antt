@@ -8,24 +8,28 @@ use Rattle.mi_volume.specs.State.{State, GoesOn, Images, Stays}
 use Rattle.mi_undo.specs.Names.{entry_name, is_inside}
 use Rattle.mi_undo.specs.Notes.{Note, head_bytes, old_bytes, spelled_note, spelled}
 use Rattle.mi_undo.specs.Area.{note_in, notes_in, AreBelow}
-use Rattle.mi_undo.specs.Steps.{Adds}
-use Rattle.mi_undo.specs.Entry.{note_for, placed_at, place_of, places_from}
+use Rattle.mi_undo.specs.Entry.{Gathers, note_for, placed_at, place_of, places_from}
 use Rattle.mi_undo.specs.declared.kept.Place.{Place}
 use Rattle.mi_undo.specs.declared.kept.Span.{Span}
 use Rattle.mi_undo.specs.declared.fault.OpFault.{OpFault}
-use Rattle.mi_undo.proofs.AddLemmas.{adds_looked}
+use Rattle.mi_undo.proofs.GatherLemmas.{gathers_looked}
 use Rattle.mi_undo.proofs.EncodeLemmas.{length-spelled}
 
+-- how many old bytes there are, as the code counts them
+pub old_length : (w : Option (List ℕ)) → unwrap_or (option_map length w) 0 ≡ length (old_bytes w)
+old_length None = refl
+old_length (Some b) = refl
+
 -- a head and old bytes spell the note
-pub note_written : {T : Type 0} (s t u : State) (entry before name head : List ℕ) (len : Option ℕ) (r : Result T OpFault) → GoesOn s t (Images s) → Stays s t → len ≡ option_map length (get s.held name) → head ≡ head_bytes name len → get s.held entry ≡ Some before
-    → (len ≡ option_map length (get t.held name) → get t.held entry ≡ Some before → Adds entry before (head ++ old_bytes (get t.held name)) t u r) → Adds entry before (spelled_note (note_for s.held name)) s u r
+pub note_gathered : {T : Type 0} (s t u : State) (entry before pending left name head : List ℕ) (len : Option ℕ) (r : Result T OpFault) → GoesOn s t (Images s) → Stays s t → len ≡ option_map length (get s.held name) → head ≡ head_bytes name len → get s.held entry ≡ Some before
+    → (unwrap_or len 0 ≡ length (old_bytes (get t.held name)) → get t.held entry ≡ Some before → Gathers entry before pending (head ++ old_bytes (get t.held name)) left t u r) → Gathers entry before pending (spelled_note (note_for s.held name)) left s u r
 unfolding spelled_note
-note_written s t u entry before name head len r goes stays is is_head held adds_then =
+note_gathered s t u entry before pending left name head len r goes stays is is_head held gathers_then =
     let same_old : get t.held name ≡ get s.held name = ap (λ (m : Map). get m name) stays.held in
-    let adds = adds_then (is ∙ ap (λ (m : Map). option_map length (get m name)) (sym stays.held)) (ap (λ (m : Map). get m entry) stays.held ∙ held) in
+    let gathers = gathers_then (ap (λ (l : Option ℕ). unwrap_or l 0) is ∙ old_length (get s.held name) ∙ ap (λ (o : Option (List ℕ)). length (old_bytes o)) (sym same_old)) (ap (λ (m : Map). get m entry) stays.held ∙ held) in
     let same_bytes : head ++ old_bytes (get t.held name) ≡ head_bytes name (option_map length (get s.held name)) ++ old_bytes (get s.held name) =
     ap (λ (h : List ℕ). h ++ old_bytes (get t.held name)) (is_head ∙ ap (head_bytes name) is) ∙ ap (λ (o : Option (List ℕ)). head_bytes name (option_map length (get s.held name)) ++ old_bytes o) same_old in
-    adds_looked s t u entry before (head_bytes name (option_map length (get s.held name)) ++ old_bytes (get s.held name)) r goes stays (subst (λ (l : List ℕ). Adds entry before l t u r) same_bytes adds)
+    gathers_looked s t u entry before pending (head_bytes name (option_map length (get s.held name)) ++ old_bytes (get s.held name)) left r goes stays (subst (λ (l : List ℕ). Gathers entry before pending l left t u r) same_bytes gathers)
 
 abbrev pub placed_after : ℕ → ℕ → List ℕ → ℕ → Option ℕ → Place
 placed_after number at name head len = record { name = name; entry = number; old = option_map (λ n. record { at = at + head; end = at + head + n }) len }
@@ -39,10 +43,6 @@ end_is at n head len is is_head =
     let h : head ≡ length (head_bytes n.name (option_map length n.was)) = is_head ∙ ap (λ (l : Option ℕ). length (head_bytes n.name l)) is in
     let u : unwrap_or len 0 ≡ length (old_bytes n.was) = ap (λ (l : Option ℕ). unwrap_or l 0) is ∙ old_length n.was in
     omega (arith, h, u, length-append (head_bytes n.name (option_map length n.was)) (old_bytes n.was))
-  where
-    old_length : (w : Option (List ℕ)) → unwrap_or (option_map length w) 0 ≡ length (old_bytes w)
-    old_length None = refl
-    old_length (Some b) = refl
 
 pub old_fits : (len : Option ℕ) (w : Option (List ℕ)) → len ≡ option_map length w → unwrap_or len 0 < 2 ^ 64 → length (old_bytes w) < 2 ^ 64
 old_fits len w is fits = at w (subst (λ (l : Option ℕ). unwrap_or l 0 < 2 ^ 64) is fits)

@@ -11,6 +11,7 @@ mod OnlyLemmas
 mod NoteSteps
 mod EncodeLemmas
 mod AddLemmas
+mod GatherLemmas
 mod EntryLemmas
 mod EntrySteps
 mod FreshLemmas

@@ -1,21 +1,22 @@
 -- Writing an entry.
-use Rattle.std.specs.Prelude.{◌≡◌, ℕ, ◌+◌, ◌<◌, ◌^◌, true, ◌&&◌, nat_le, not, List, [], ◌∷◌, ◌++◌, length, Option, Result, OnOk, IfOk}
+use Rattle.std.specs.Prelude.{◌≡◌, ℕ, ◌+◌, ◌<◌, ◌^◌, true, ◌&&◌, nat_le, not, List, [], ◌∷◌, ◌++◌, length, Option, Result, OnOk, IfOk, IsErrOf}
 use Rattle.std.specs.Prelude.{Vec}
 use Rattle.std.specs.declared.alloc.Global.{Global}
 use Rattle.std.specs.Option.{option_map}
 use Rattle.std.specs.Str.{is_utf8}
-use Rattle.std.specs.FinMap.{get}
-use Rattle.mi_volume.specs.Maps.{Map}
+use Rattle.std.specs.FinMap.{get, insert}
+use Rattle.mi_volume.specs.Maps.{Map, Exceeds, size}
 use Rattle.mi_volume.specs.State.{State, GoesOn}
 use Rattle.mi_undo.specs.Names.{is_inside, entry_name}
 use Rattle.mi_undo.specs.Notes.{Note, all_notes, head_bytes, old_bytes, spelled_note, spelled}
 use Rattle.mi_undo.specs.Stands.{StandsFor, outside}
 use Rattle.mi_undo.specs.Keeps.{Keeps, IsOpen, OnlyBelow}
 use Rattle.mi_undo.specs.Area.{notes_in}
-use Rattle.mi_undo.specs.Steps.{Adds, AddsBytes}
+use Rattle.mi_undo.specs.Steps.{OnlyChanges, HoldsNoMore, Adds, AddsBytes}
 use Rattle.mi_undo.specs.Room.{ReadsAtMost, LeavesAtMost}
 use Rattle.mi_undo.specs.declared.kept.Place.{Place}
 use Rattle.mi_undo.specs.declared.fault.OpFault.{OpFault}
+use Rattle.mi_undo.specs.declared.fault.OpFault.TheVariants.{Full}
 
 -- its lengths have room in their fields
 pub record Fits (n : Note) : Type 0 where
@@ -47,9 +48,17 @@ places_from number at (n ∷ ns) = place_of number at n ∷ places_from number (
 abbrev pub note_for : Map → List ℕ → Note
 note_for m name = record { name = name; was = get m name }
 
--- after a call that wrote the note of a name into an entry of these bytes
-pub record WritesNote (entry before : List ℕ) (number at : ℕ) (n : Note) (old new : State) (result : Result (Place × ℕ) OpFault) : Type 0 where
-  pub adds : Adds entry before (spelled_note n) old new result
+-- Behind what the name holds and what is pending these bytes are added: then it holds more of them, and what is left is pending.
+-- After an error it holds no more than all of them.
+pub record Gathers {T : Type 0} (name before pending bytes left : List ℕ) (old new : State) (result : Result T OpFault) : Type 0 where
+  pub only : OnlyChanges name old new
+  pub ok : OnOk result ((written : List ℕ) × ((new.held ≡ insert old.held name (before ++ written)) × (written ++ left ≡ pending ++ bytes)))
+  pub most : HoldsNoMore name (length (before ++ (pending ++ bytes))) old new
+  pub full : IsErrOf result Full → Exceeds old.capacity (size (insert old.held name (before ++ (pending ++ bytes))))
+
+-- after a call that added the note of a name to an entry of these bytes, behind which these were pending
+pub record WritesNote (entry before pending left : List ℕ) (number at : ℕ) (n : Note) (old new : State) (result : Result (Place × ℕ) OpFault) : Type 0 where
+  pub gathers : Gathers entry before pending (spelled_note n) left old new result
   pub place : IfOk result (λ r. r.0 ≡ place_of number at n)
   pub end_is : IfOk result (λ r. r.1 ≡ at + length (spelled_note n))
   pub fits : IfOk result (λ r. length (old_bytes n.was) < 2 ^ 64)

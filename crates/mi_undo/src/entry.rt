@@ -1,18 +1,17 @@
 //! Writing an entry.
 
-ghost use Rattle.std.specs.Prelude.{true, ◌≡◌, ◌≢◌, ◌+◌, ◌^◌, ◌<◌, ◌≤◌, ◌++◌, ◌∷◌, List, ℕ, Some, [], length, unwrap_or, IfOk, IsErrOf};
+ghost use Rattle.std.specs.Prelude.{true, ◌≡◌, ◌≢◌, ◌+◌, ◌^◌, ◌<◌, ◌≤◌, ◌++◌, ◌∷◌, List, ℕ, Some, [], length, unwrap_or, IfOk, OnOk, IsErrOf};
 ghost use Rattle.std.specs.Option.{option_map};
 ghost use Rattle.std.specs.FinMap.{get};
 ghost use Rattle.mi_volume.specs.State.{Passes, Rose};
 ghost use Rattle.mi_undo.specs.Notes.{text, head_bytes, old_bytes, notes_for};
 ghost use Rattle.mi_undo.specs.Names.{is_inside};
 ghost use Rattle.mi_undo.specs.Area.{AreOutside, place_names};
-ghost use Rattle.mi_undo.specs.Steps.{Adds};
-ghost use Rattle.mi_undo.specs.Entry.{note_for, placed_at, WritesNote, WritesEntry};
+ghost use Rattle.mi_undo.specs.Entry.{note_for, placed_at, Gathers, WritesNote, WritesEntry};
 
 use crate::fault::OpFault;
+use crate::gather::{gather, gather_old, make_room};
 use crate::kept::{Place, Span};
-use crate::steps::append_span;
 use mi_text::{Bytes, Name, NoMemory};
 use mi_volume::{PIECE, Volume};
 use std::alloc::Global;
@@ -85,57 +84,44 @@ fn place_at(
     ))
 }
 
-/// Adds the name's bytes, of which there are so many, at the end of the entry.
-fn append_old<V: Volume>(
+/// Adds these bytes and then the name's behind what is pending of the entry.
+fn gather_note<V: Volume>(
     alloc: Global,
     vol: &mut V,
     entry: &Name,
-    name: &Name,
-    len: Option<u64>,
-) -> Result<(), OpFault>
-    ensures adds { V.told → entry.now ≢ name.now → len ≡ option_map length (get (V.state vol.old).held name.now) → (before : List ℕ) → get (V.state vol.old).held entry.now ≡ Some before
-        → Adds entry.now before (old_bytes (get (V.state vol.old).held name.now)) (V.state vol.old) (V.state vol.new) result }
-    ensures passes { Passes (V.state vol.old) (V.state vol.new) }
-    ensures fault { IsErrOf result OpFault.Fault → Rose (V.state vol.old) (V.state vol.new) }
-    ensures told { IsErrOf result OpFault.Full → V.told }
-{
-    match len {
-        None => Ok(()),
-        Some(len) => append_span(alloc, vol, name, 0, len, entry),
-    }
-}
-
-/// Adds these bytes and then the name's at the end of the entry.
-fn append_note<V: Volume>(
-    alloc: Global,
-    vol: &mut V,
-    entry: &Name,
+    pending: &mut Bytes,
     head: &[u8],
     name: &Name,
-    len: Option<u64>,
+    len: u64,
 ) -> Result<(), OpFault>
-    requires { length head.now ≤ PIECE }
-    ensures adds { V.told → entry.now ≢ name.now → len ≡ option_map length (get (V.state vol.old).held name.now) → (before : List ℕ) → get (V.state vol.old).held entry.now ≡ Some before
-        → Adds entry.now before (head.now ++ old_bytes (get (V.state vol.old).held name.now)) (V.state vol.old) (V.state vol.new) result }
+    requires pending { length pending.old ≤ PIECE }
+    requires head { length head.now ≤ PIECE }
+    ensures gathers { V.told → entry.now ≢ name.now → len ≡ length (old_bytes (get (V.state vol.old).held name.now)) → (before : List ℕ) → get (V.state vol.old).held entry.now ≡ Some before
+        → Gathers entry.now before pending.old (head.now ++ old_bytes (get (V.state vol.old).held name.now)) pending.new (V.state vol.old) (V.state vol.new) result }
+    ensures short { OnOk result (length pending.new ≤ PIECE) }
     ensures passes { Passes (V.state vol.old) (V.state vol.new) }
     ensures fault { IsErrOf result OpFault.Fault → Rose (V.state vol.old) (V.state vol.new) }
     ensures told { IsErrOf result OpFault.Full → V.told }
 {
-    vol.append(alloc, entry, head)?;
-    append_old(alloc, vol, entry, name, len)
+    gather(alloc, vol, entry, pending, head)?;
+    gather_old(alloc, vol, entry, pending, name, len)
 }
 
-/// Adds the note of a name to the entry that ends at `at`. Answers its place and the new end.
+/// Adds the note of a name, which begins at `at`, behind what is pending of the entry. Answers its
+/// place and its end.
 fn write_note<V: Volume>(
     alloc: Global,
     vol: &mut V,
     entry: &Name,
+    pending: &mut Bytes,
     number: u32,
     at: u64,
     name: &Name,
 ) -> Result<(Place, u64), OpFault>
+    requires { length pending.old ≤ PIECE }
     ensures writes { V.told → entry.now ≢ name.now → (before : List ℕ) → get (V.state vol.old).held entry.now ≡ Some before
-        → WritesNote entry.now before number at (note_for (V.state vol.old).held name.now) (V.state vol.old) (V.state vol.new) result }
+        → WritesNote entry.now before pending.old pending.new number at (note_for (V.state vol.old).held name.now) (V.state vol.old) (V.state vol.new) result }
+    ensures short { OnOk result (length pending.new ≤ PIECE) }
     ensures name { IfOk result (λ r. r.0.name ≡ name.now) }
     ensures length { IfOk result (λ r. length name.now ≤ 1024) }
     ensures passes { Passes (V.state vol.old) (V.state vol.new) }
@@ -145,7 +131,15 @@ fn write_note<V: Volume>(
     let len = vol.size(name)?;
     let head = head_of(alloc, name, len)?;
     let placed = place_at(alloc, name, number, at, head.len(), len)?;
-    append_note(alloc, vol, entry, head.as_slice(), name, len)?;
+    gather_note(
+        alloc,
+        vol,
+        entry,
+        pending,
+        head.as_slice(),
+        name,
+        len.unwrap_or(0),
+    )?;
     Ok(placed)
 }
 
@@ -164,12 +158,14 @@ pub(crate) fn write_entry<V: Volume>(
     ensures told { IsErrOf result OpFault.Full → V.told }
 {
     vol.put(alloc, entry, &[])?;
+    let mut pending = Bytes::new(alloc);
     let mut places = Vec::new(alloc);
     let mut at = 0;
     for name in names {
-        let (place, end) = write_note(alloc, vol, entry, number, at, name)?;
+        let (place, end) = write_note(alloc, vol, entry, &mut pending, number, at, name)?;
         places.push(place)?;
         at = end;
     }
+    make_room(alloc, vol, entry, &mut pending, PIECE)?;
     Ok(places)
 }

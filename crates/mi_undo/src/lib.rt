@@ -9,6 +9,7 @@ mod close;
 mod decode;
 mod entry;
 mod fault;
+mod gather;
 mod kept;
 mod laws;
 mod names;
