@@ -1,6 +1,6 @@
 //! Writing a file: its head, and the bytes of the source's file or of another file.
 
-ghost use Rattle.std.specs.Prelude.{◌≡◌, ◌≢◌, ◌+◌, ◌-◌, ◌++◌, List, ℕ, Some, Contains, IfOk, OnOk, length, take, min, false};
+ghost use Rattle.std.specs.Prelude.{◌≡◌, ◌≢◌, ◌+◌, ◌-◌, ◌≤◌, ◌++◌, List, ℕ, Some, Contains, IfOk, OnOk, IsTrue, length, take, min, false};
 ghost use Rattle.std.specs.FinMap.{get, insert};
 ghost use Rattle.mi_base.specs.Spelling.{head_bytes};
 ghost use Rattle.mi_source.specs.Paths.{bytes_or_none};
@@ -14,7 +14,7 @@ ghost use Rattle.mi_runner.specs.Steps.{Writes, Reads, NeverDiffers};
 use crate::bytes::{append_held, write_bytes};
 use crate::fault::RunFault;
 use crate::head::head_record;
-use mi_base::{FileHead, Name};
+use mi_base::{Bytes, FileHead, Name};
 use mi_source::Source;
 use mi_undo::{OpFault, Open};
 use mi_volume::{PIECE, Volume};
@@ -71,6 +71,90 @@ fn append_file<S: Source, V: Volume>(
     Ok(at)
 }
 
+// Whether bytes follow the head of a record, and all of it is no more than a piece.
+fn is_one_piece(head: usize, length: u64) -> bool
+    ensures { IsTrue result → head + length ≤ PIECE }
+{
+    length > 0 && length <= PIECE.saturating_sub(head) as u64
+}
+
+// Gives a noted name these bytes with those of the source's file behind them, as one piece, and answers how many the
+// file had.
+fn put_file<S: Source, V: Volume>(
+    alloc: Global,
+    area: &mut Open<'_, V>,
+    src: &mut S,
+    name: &Name,
+    mut front: Bytes,
+    path: &str,
+    stated: usize,
+) -> Result<u64, RunFault>
+    requires working { IsWorking area.old }
+    requires noted { Contains (noted_names area.old) name.now }
+    requires piece { length front + stated ≤ PIECE }
+    ensures writes { Writes V.told V.state area.old area.new name.now (length name.now + (length front + stated)) run.Volume run.Full result }
+    ensures map { V.told → S.told → length (bytes_or_none (get (S.files src.old) path.now)) ≡ stated
+        → IfOk result (λ n. (V.state (volume area.new)).held ≡ insert (V.state (volume area.old)).held name.now (front ++ bytes_or_none (get (S.files src.old) path.now))) }
+    ensures found { S.told → length (bytes_or_none (get (S.files src.old) path.now)) ≡ stated → IfOk result (λ n. n ≡ stated) }
+    ensures reads { Reads S.files S.faults src.old src.new result }
+    ensures never { NeverDiffers result }
+{
+    let bytes = src.read(alloc, path, 0, stated)?;
+    front.extend(bytes.as_slice())?;
+    area.put(alloc, name, front.as_slice())?;
+    Ok(bytes.len() as u64)
+}
+
+// Gives a noted name these bytes, and then adds those of the source's file by pieces. Answers how many the file had.
+fn put_by_pieces<S: Source, V: Volume>(
+    alloc: Global,
+    area: &mut Open<'_, V>,
+    src: &mut S,
+    name: &Name,
+    front: &[u8],
+    path: &str,
+    stated: u64,
+) -> Result<u64, RunFault>
+    requires working { IsWorking area.old }
+    requires noted { Contains (noted_names area.old) name.now }
+    ensures writes { Writes V.told V.state area.old area.new name.now (length name.now + (length front.now + stated)) run.Volume run.Full result }
+    ensures map { V.told → S.told → length (bytes_or_none (get (S.files src.old) path.now)) ≡ stated
+        → IfOk result (λ n. (V.state (volume area.new)).held ≡ insert (V.state (volume area.old)).held name.now (front.now ++ bytes_or_none (get (S.files src.old) path.now))) }
+    ensures found { S.told → length (bytes_or_none (get (S.files src.old) path.now)) ≡ stated → IfOk result (λ n. n ≡ stated) }
+    ensures reads { Reads S.files S.faults src.old src.new result }
+    ensures never { NeverDiffers result }
+{
+    write_bytes(alloc, area, name, front)?;
+    let found = append_file(alloc, area, src, name, path, stated)?;
+    Ok(found)
+}
+
+// Gives a noted name these bytes with those of the source's file behind them: at once where that is a piece. Answers
+// how many the file had.
+fn put_record<S: Source, V: Volume>(
+    alloc: Global,
+    area: &mut Open<'_, V>,
+    src: &mut S,
+    name: &Name,
+    front: Bytes,
+    path: &str,
+    stated: u64,
+) -> Result<u64, RunFault>
+    requires working { IsWorking area.old }
+    requires noted { Contains (noted_names area.old) name.now }
+    ensures writes { Writes V.told V.state area.old area.new name.now (length name.now + (length front + stated)) run.Volume run.Full result }
+    ensures map { V.told → S.told → length (bytes_or_none (get (S.files src.old) path.now)) ≡ stated
+        → IfOk result (λ n. (V.state (volume area.new)).held ≡ insert (V.state (volume area.old)).held name.now (front ++ bytes_or_none (get (S.files src.old) path.now))) }
+    ensures found { S.told → length (bytes_or_none (get (S.files src.old) path.now)) ≡ stated → IfOk result (λ n. n ≡ stated) }
+    ensures reads { Reads S.files S.faults src.old src.new result }
+    ensures never { NeverDiffers result }
+{
+    if is_one_piece(front.len(), stated) {
+        return put_file(alloc, area, src, name, front, path, stated as usize);
+    }
+    put_by_pieces(alloc, area, src, name, front.as_slice(), path, stated)
+}
+
 /// Gives a noted name the record of a file with the bytes of the source's file, and answers how many bytes that has.
 /// Where they aren't as many as are stated, the record isn't whole.
 pub fn write_copy<S: Source, V: Volume>(
@@ -96,8 +180,8 @@ pub fn write_copy<S: Source, V: Volume>(
     if size != stated {
         return Ok(size);
     }
-    write_head(alloc, area, name, head)?;
-    let found = append_file(alloc, area, src, name, path, stated)?;
+    let record = head_record(alloc, head)?;
+    let found = put_record(alloc, area, src, name, record, path, stated)?;
     Ok(found)
 }
 
