@@ -4,12 +4,13 @@ ghost use Rattle.std.specs.Prelude.{◌≤◌, IfOk, vec_len};
 
 use crate::found::{Found, Lockable, file_length, is_folder, look};
 use crate::levels::{Levels, do_levels};
-use crate::listing::{Folders, Lengths, Listed, list};
+use crate::listing::{Folders, Listed, list};
 use crate::names::{LONGEST_NAME, LONGEST_PATH, PART_BYTES, push_digits};
 use crate::reading::read_at;
 use crate::trouble::Trouble;
 use crate::writing::{
     append_file, make_file, make_folder, mark_file, put_file, remove_path, renew_file, sync_path,
+    write_on,
 };
 use std::alloc::Global;
 use std::fs::{File, Files};
@@ -151,7 +152,7 @@ impl<R: Files + Alloc + Clone + Drop> Disk<R> {
     fn renew_names(&mut self, alloc: Global) -> Result<(), Trouble> {
         match self.list(alloc, Folders::Synced) {
             Ok(listed) => {
-                let renewed = self.renew_all(&listed.names);
+                let renewed = self.renew_all(listed.names.as_slice());
                 drop(listed);
                 renewed
             }
@@ -160,8 +161,8 @@ impl<R: Files + Alloc + Clone + Drop> Disk<R> {
     }
 
     // Writes the plain files of names anew.
-    fn renew_all(&mut self, names: &Lengths) -> Result<(), Trouble> {
-        for name in names.keys() {
+    fn renew_all(&mut self, names: &[(String, usize)]) -> Result<(), Trouble> {
+        for (name, _) in names {
             self.renew_name(name.as_bytes())?;
         }
         Ok(())
@@ -324,16 +325,22 @@ impl<R: Files + Alloc + Clone + Drop> Disk<R> {
         Ok(before)
     }
 
-    /// Gives a name's file exactly these bytes, in place.
-    pub fn put(&mut self, name: &[u8], bytes: &[u8]) -> Result<(), Trouble> {
+    /// Gives a name's file exactly these bytes, in place. Answers the file, open at its end.
+    pub fn put(&mut self, name: &[u8], bytes: &[u8]) -> Result<R::File, Trouble> {
         let before = self.begin(name)?;
         put_file(&self.rt, self.path.as_str(), before, bytes)
     }
 
-    /// Adds bytes at the end of a name's file, and makes it where it isn't there.
-    pub fn append(&mut self, name: &[u8], bytes: &[u8]) -> Result<(), Trouble> {
+    /// Adds bytes at the end of a name's file, and makes it where it isn't there. Answers the file, open at its end.
+    pub fn append(&mut self, name: &[u8], bytes: &[u8]) -> Result<R::File, Trouble> {
         let before = self.begin(name)?;
         append_file(&self.rt, self.path.as_str(), before, bytes)
+    }
+
+    /// Adds bytes at the end of a name's file that is open there.
+    pub fn write_on(&mut self, file: &mut R::File, bytes: &[u8]) -> Result<(), Trouble> {
+        self.looked.clear();
+        write_on(file, bytes)
     }
 
     /// Writes the first byte of a name's file.
@@ -366,14 +373,10 @@ impl<R: Files + Alloc + Clone + Drop> Disk<R> {
 
     /// Syncs the folders in which a long name stands, without those in which the last one stands too.
     pub fn sync_parts(&mut self, name: &[u8], last: Option<&[u8]>) -> Result<(), Trouble> {
-        self.do_parts(name, Parts::Synced(last))?;
+        if name.len() > PART_BYTES {
+            self.do_parts(name, Parts::Synced(last))?;
+        }
         Ok(())
-    }
-
-    /// Syncs a name's file, if it is there, and its folders as `sync_parts` does.
-    pub fn sync_name(&mut self, name: &[u8], last: Option<&[u8]>) -> Result<(), Trouble> {
-        self.sync_file(name)?;
-        self.sync_parts(name, last)
     }
 
     /// Syncs the folder itself.

@@ -7,15 +7,15 @@ ghost use Rattle.mi_edges.specs.Count.{Counts};
 
 use crate::disk::Disk;
 use crate::found::{Found, Lockable};
-use crate::listing::{Folders, Lengths, Listed};
+use crate::held::Held;
+use crate::listing::{Folders, Listed};
 use crate::trouble::Trouble;
-use mi_text::{Bytes, Name, NameError};
+use crate::writing::sync_open;
+use mi_text::{Bytes, Name};
 use mi_volume::{Failed, PutFault, VolFault, Volume};
 use std::alloc::Global;
-use std::cmp::Ordering;
 use std::collections::BTreeSet;
 use std::fs::Files;
-use std::ops::Bound;
 use thiserror::Error;
 
 /// Why a folder can't be a volume.
@@ -40,13 +40,14 @@ pub struct FolderVolume<R: Files> {
     // Whether the folder was opened, or why it can't be.
     opened: bool,
     refusal: Option<EdgeFault>,
-    // The names that are held, once they were listed, with the lengths that a look has found since the last change of each.
-    held: Option<Listed>,
-    // Room for the name above which the next is sought.
-    above: String,
+    // The names that are held, once they were listed.
+    held: Option<Held>,
     // The names that were written since the last good sync.
     written: BTreeSet<String>,
-    // The listed names that were taken away since then, with room for all that are held.
+    // The one that was written last, and its file, where that is still open, at its end.
+    latest: String,
+    file: Option<R::File>,
+    // The listed names that were taken away since the last good sync, with room for all that are held.
     removed: Vec<String>,
     // Whether something has changed since then.
     changed: bool,
@@ -59,51 +60,21 @@ pub struct FolderVolume<R: Files> {
     faults: u64,
 }
 
-// Whether a name stands above another one, or above none.
-fn is_above(after: Option<&Name>, name: &Name) -> bool
-    ensures { IsTrue result → IsAbove (option_copied after.entry) name.now }
-{
-    match after {
-        None => true,
-        Some(after) => matches!(after.as_bytes().cmp(name.as_bytes()), Ordering::Less),
-    }
-}
-
-// Above which name one is sought, which is copied to this room.
-fn lower_bound<'a>(
-    room: &'a mut String,
-    after: Option<&Name>,
-) -> Result<Bound<&'a String>, Trouble> {
-    let Some(after) = after else {
-        return Ok(Bound::Unbounded);
-    };
-    room.clear();
-    room.push_str(after.as_str())?;
-    Ok(Bound::Excluded(room))
-}
-
-// The least of these names above `after`, and what stands there. Where it is a plain file, its length is taken down.
+// The least held name above `after`, and what stands there. Where it is a plain file, its length is taken down.
 fn look_above<R: Files + Alloc + Clone + Drop>(
     disk: &mut Disk<R>,
     alloc: Global,
-    names: &mut Lengths,
-    room: &mut String,
+    held: &mut Held,
     after: Option<&Name>,
 ) -> Result<Option<(Name, Found)>, Trouble>
     ensures { IfOk result (λ found. IfSome found (λ f. IsAbove (option_copied after.entry) f.0)) }
 {
-    let from = lower_bound(room, after)?;
-    let Some((text, length)) = names.range_mut((from, Bound::Unbounded)).next() else {
+    let Some((name, place)) = held.next(alloc, after)? else {
         return Ok(None);
     };
-    let name = match Name::of(alloc, text.as_str()) {
-        Ok(name) if is_above(after, &name) => name,
-        Ok(_) | Err(NameError::Length) => return Ok(None),
-        Err(NameError::NoMemory) => return Err(Trouble::NoMemory),
-    };
     let found = disk.look_at(name.as_bytes())?;
-    if let Found::File(found) = found {
-        *length = Some(found);
+    if let Found::File(length) = found {
+        held.set_length(place, Some(length));
         disk.set_listed();
     }
     Ok(Some((name, found)))
@@ -117,26 +88,6 @@ fn insert_name(alloc: Global, names: &mut BTreeSet<String>, name: &Name) -> Resu
     let text = String::from_str(alloc, name.as_str())?;
     names.insert(text)?;
     Ok(())
-}
-
-// Adds a name whose length isn't known, or forgets its length.
-fn insert_held(alloc: Global, names: &mut Lengths, name: &Name) -> Result<(), Trouble> {
-    if let Some(length) = names.get_mut(name.as_str()) {
-        *length = None;
-        return Ok(());
-    }
-    let text = String::from_str(alloc, name.as_str())?;
-    names.insert(text, None)?;
-    Ok(())
-}
-
-// What the listing knows of a name's size, where it does.
-fn told_size(held: &Listed, name: &Name) -> Option<Option<u64>> {
-    match held.names.get(name.as_str()) {
-        Some(Some(length)) => Some(Some(*length)),
-        None if held.is_whole => Some(None),
-        Some(None) | None => None,
-    }
 }
 
 impl<R: Files + Alloc + Clone + Drop> FolderVolume<R>
@@ -165,8 +116,9 @@ where
                 opened: false,
                 refusal: None,
                 held: None,
-                above: String::new(alloc),
                 written: BTreeSet::new(alloc),
+                latest: String::new(alloc),
+                file: None,
                 removed: Vec::new(alloc),
                 changed: false,
                 noted: false,
@@ -283,8 +235,9 @@ where
         if self.held.is_some() {
             return Ok(());
         }
-        let held = self.disk.list(alloc, Folders::Listed)?;
-        let room = self.removed.reserve(held.names.len());
+        let Listed { names, is_whole } = self.disk.list(alloc, Folders::Listed)?;
+        let held = Held::of(alloc, names, is_whole)?;
+        let room = self.removed.reserve(held.len());
         self.held = Some(held);
         room?;
         Ok(())
@@ -301,13 +254,7 @@ where
     {
         match &mut self.held {
             None => Ok(None),
-            Some(held) => look_above(
-                &mut self.disk,
-                alloc,
-                &mut held.names,
-                &mut self.above,
-                after,
-            ),
+            Some(held) => look_above(&mut self.disk, alloc, held, after),
         }
     }
 
@@ -315,8 +262,7 @@ where
     fn take_off(&mut self, name: &Name) -> Option<String>
         ensures { self.new.faults ≡ self.old.faults }
     {
-        let (text, _) = self.held.as_mut()?.names.remove_entry(name.as_str())?;
-        Some(text)
+        self.held.as_mut()?.take_off(name)
     }
 
     // Takes down the length of a listed name, or that it isn't known.
@@ -324,19 +270,28 @@ where
         ensures { self.new.faults ≡ self.old.faults }
     {
         if let Some(held) = &mut self.held {
-            if let Some(known) = held.names.get_mut(name.as_str()) {
-                *known = length;
-            }
+            let _ = held.note_length(name, length);
         }
     }
 
-    // Takes a name off the list, at which this stands and no plain file.
-    fn take_strange_off(&mut self, name: &Name, found: Found)
+    // Takes a name off the list, at which this stands and no plain file. The next one is sought above `after`.
+    fn take_strange_off(
+        &mut self,
+        name: &Name,
+        found: Found,
+        after: Option<&Name>,
+    ) -> Result<(), Trouble>
         ensures { self.new.faults ≡ self.old.faults }
     {
         let _ = self.take_off(name);
-        if let Some(held) = &mut self.held {
-            held.is_whole = held.is_whole && found == Found::Nothing;
+        match &mut self.held {
+            None => Ok(()),
+            Some(held) => {
+                if found != Found::Nothing {
+                    held.set_not_whole();
+                }
+                held.go_on(after)
+            }
         }
     }
 
@@ -352,8 +307,9 @@ where
             if let Found::File(_) = found {
                 return Ok(Some(name));
             }
-            self.take_strange_off(&name, found);
+            let taken = self.take_strange_off(&name, found, after);
             drop(name);
+            taken?;
         }
         Ok(None)
     }
@@ -372,7 +328,7 @@ where
     fn told(&self, name: &Name) -> Option<Option<u64>> {
         match self.disk.listed_length(name.as_bytes()) {
             Some(length) => Some(Some(length)),
-            None => told_size(self.held.as_ref()?, name),
+            None => self.held.as_ref()?.size(name),
         }
     }
 
@@ -421,8 +377,8 @@ where
     {
         insert_name(alloc, &mut self.written, name)?;
         if let Some(held) = &mut self.held {
-            self.removed.reserve(held.names.len().saturating_add(1))?;
-            insert_held(alloc, &mut held.names, name)?;
+            self.removed.reserve(held.len().saturating_add(1))?;
+            held.insert(alloc, name)?;
         }
         Ok(())
     }
@@ -462,6 +418,7 @@ where
         match answer {
             Ok(()) => Ok(()),
             Err(_) => {
+                self.file = None;
                 self.forget_absent(name);
                 self.count();
                 Err(PutFault::Failed)
@@ -469,18 +426,52 @@ where
         }
     }
 
+    // Keeps the file of the name that was written last open, where memory allows.
+    fn keep_open(&mut self, name: &Name, file: R::File)
+        ensures { self.new.faults ≡ self.old.faults }
+    {
+        self.latest.clear();
+        if self.latest.push_str(name.as_str()).is_ok() {
+            self.file = Some(file);
+        }
+    }
+
+    // Whether a name was written last, and its file is still open.
+    fn is_open(&self, name: &str) -> bool {
+        self.file.is_some() && self.latest.as_str() == name
+    }
+
     fn put_file(&mut self, name: &Name, bytes: &[u8]) -> Result<(), Trouble>
         ensures { self.new.faults ≡ self.old.faults }
     {
         self.begin_change()?;
-        self.disk.put(name.as_bytes(), bytes)
+        self.file = None;
+        let file = self.disk.put(name.as_bytes(), bytes)?;
+        self.keep_open(name, file);
+        Ok(())
+    }
+
+    // Adds bytes at the end of the file that is open.
+    fn append_open(&mut self, bytes: &[u8]) -> Result<(), Trouble>
+        ensures { self.new.faults ≡ self.old.faults }
+    {
+        match &mut self.file {
+            Some(file) => self.disk.write_on(file, bytes),
+            None => Err(Trouble::Failed),
+        }
     }
 
     fn append_file(&mut self, name: &Name, bytes: &[u8]) -> Result<(), Trouble>
         ensures { self.new.faults ≡ self.old.faults }
     {
         self.begin_change()?;
-        self.disk.append(name.as_bytes(), bytes)
+        if self.is_open(name.as_str()) {
+            return self.append_open(bytes);
+        }
+        self.file = None;
+        let file = self.disk.append(name.as_bytes(), bytes)?;
+        self.keep_open(name, file);
+        Ok(())
     }
 
     // Marks a name's file. Where no sync would reach it, it is synced at once.
@@ -504,6 +495,7 @@ where
     {
         self.begin_change()?;
         self.note_length(name, None);
+        self.file = None;
         self.disk.remove(name.as_bytes())?;
         if self.note_removed(name) {
             return Ok(());
@@ -540,9 +532,15 @@ where
     fn sync_written(&mut self) -> Result<(), Trouble>
         ensures { self.new.faults ≡ self.old.faults }
     {
+        if let Some(file) = &self.file {
+            sync_open(file)?;
+        }
         let mut last = None;
         for name in self.written.iter() {
-            self.disk.sync_name(name.as_bytes(), last)?;
+            if self.file.is_none() || self.latest.as_str() != name.as_str() {
+                self.disk.sync_file(name.as_bytes())?;
+            }
+            self.disk.sync_parts(name.as_bytes(), last)?;
             last = Some(name.as_bytes());
         }
         Ok(())
@@ -577,6 +575,7 @@ where
         self.lost = synced.is_err();
         synced?;
         self.written.clear();
+        self.file = None;
         self.removed.clear();
         self.changed = false;
         Ok(())

@@ -7,6 +7,7 @@ mod disk;
 mod folder_source;
 mod folder_volume;
 mod found;
+mod held;
 mod levels;
 mod listing;
 mod names;

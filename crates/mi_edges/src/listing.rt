@@ -6,7 +6,6 @@ use crate::trouble::Trouble;
 use crate::walk::{Visit, path_in, visit_all};
 use crate::writing::sync_path;
 use std::alloc::Global;
-use std::collections::BTreeMap;
 use std::fs::Files;
 
 /// What is done with each folder that is listed.
@@ -18,14 +17,12 @@ pub enum Folders {
     Synced,
 }
 
-/// Names, each with the length of its file where a look has found it.
-pub type Lengths = BTreeMap<String, Option<u64>>;
-
 /// What a listing has found.
 #[derive(Drop)]
 pub struct Listed {
-    /// The names whose path is that of a file, whatever stands there, but for those below a level that is no plain folder.
-    pub names: Lengths,
+    /// The names whose path is that of a file, whatever stands there, but for those below a level that is no plain folder;
+    /// in no order, each with its place.
+    pub names: Vec<(String, usize)>,
     /// Whether there was no such level: then nothing stands at the path of any other name.
     pub is_whole: bool,
 }
@@ -75,7 +72,8 @@ impl Lists {
         if let Some(bytes) = spelled(self.alloc, self.front.as_slice(), digits)? {
             // A path whose bytes aren't UTF-8 is no name of the volume.
             if let Ok(name) = String::from_utf8(bytes) {
-                self.listed.names.insert(name, None)?;
+                let place = self.listed.names.len();
+                self.listed.names.push((name, place))?;
             }
         }
         Ok(())
@@ -154,7 +152,7 @@ pub fn list<F: Files>(
     let mut lists = Lists {
         alloc,
         listed: Listed {
-            names: BTreeMap::new(alloc),
+            names: Vec::new(alloc),
             is_whole: true,
         },
         parts: Vec::new(alloc),

@@ -3,6 +3,9 @@
 //! A name is the file whose path is its bytes in lower-case hexadecimal, in parts of 200 digits joined by `/`.
 //! Each part but the last has a `+` behind it, so that no file and folder share a path.
 
+ghost use Rattle.std.specs.Prelude.{◌≤◌, length};
+
+use crate::trouble::Trouble;
 use std::alloc::AllocError;
 
 /// The bytes of a name in one part of its path.
@@ -17,20 +20,40 @@ pub const LONGEST_PATH: usize = 2_068;
 // The digits by their values.
 const DIGITS: &[u8; 16] = b"0123456789abcdef";
 
-/// Adds the digits of bytes.
-pub fn push_digits(path: &mut String, bytes: &[u8]) -> Result<(), AllocError> {
-    for byte in bytes {
-        path.push(char::from(DIGITS[usize::from(*byte >> 4)]))?;
-        path.push(char::from(DIGITS[usize::from(*byte & 15)]))?;
+// The digits of a part.
+const PART_DIGITS: usize = 200;
+
+// Puts the digits of bytes side by side.
+fn put_digits(digits: &mut [u8; PART_DIGITS], part: &[u8])
+    requires { length part.now ≤ PART_BYTES }
+{
+    for at in 0..part.len() {
+        let byte = part[at];
+        digits[2 * at] = DIGITS[usize::from(byte >> 4)];
+        digits[2 * at + 1] = DIGITS[usize::from(byte & 15)];
     }
-    Ok(())
 }
 
-fn value_of(digit: u8) -> Option<u8> {
+/// Adds the digits of a part of a name.
+pub fn push_digits(path: &mut String, part: &[u8]) -> Result<(), Trouble>
+    requires { length part.now ≤ PART_BYTES }
+{
+    let mut digits = [0u8; PART_DIGITS];
+    put_digits(&mut digits, part);
+    match str::from_utf8(&digits[..2 * part.len()]) {
+        Ok(text) => Ok(path.push_str(text)?),
+        Err(_) => Err(Trouble::NoText),
+    }
+}
+
+// The value of a digit, and 16 of any other byte.
+fn value_of(digit: u8) -> u8
+    ensures { result ≤ 16 }
+{
     match digit {
-        b'0'..=b'9' => Some(digit - b'0'),
-        b'a'..=b'f' => Some(digit - b'a' + 10),
-        _ => None,
+        b'0'..=b'9' => digit - b'0',
+        b'a'..=b'f' => digit - b'a' + 10,
+        _ => 16,
     }
 }
 
@@ -39,9 +62,13 @@ fn byte_of(digits: &[u8]) -> Option<u8> {
     let [high, low] = digits else {
         return None;
     };
-    let high = value_of(*high)?;
-    let low = value_of(*low)?;
-    Some((high << 4) | low)
+    let high = value_of(*high);
+    let low = value_of(*low);
+    if high < 16 && low < 16 {
+        Some((high << 4) | low)
+    } else {
+        None
+    }
 }
 
 /// Adds the bytes that the digits of a part spell; false where they spell none.

@@ -6,13 +6,13 @@ use std::io::{ErrorKind, Read, Seek, SeekFrom, Write};
 use std::{fs, io};
 
 /// Gives a file exactly these bytes, in place: it is never longer than before or than they are. A file that isn't there
-/// yet is made, and nothing else may stand there.
+/// yet is made, and nothing else may stand there. Answers the file, open at its end.
 pub fn put_file<F: Files>(
     rt: &F,
     path: &str,
     before: Option<u64>,
     bytes: &[u8],
-) -> Result<(), Trouble> {
+) -> Result<F::File, Trouble> {
     let mut how = OpenOptions::new();
     how.write(true).create_new(before.is_none());
     let mut file = how.open(rt, path)?;
@@ -21,19 +21,26 @@ pub fn put_file<F: Files>(
     if before.is_some_and(|before| before > length) {
         file.set_len(length)?;
     }
-    Ok(())
+    Ok(file)
 }
 
-/// Adds bytes at the end of a file, which is made where it isn't there yet.
+/// Adds bytes at the end of a file, which is made where it isn't there yet. Answers the file, open at its end.
 pub fn append_file<F: Files>(
     rt: &F,
     path: &str,
     before: Option<u64>,
     bytes: &[u8],
-) -> Result<(), Trouble> {
+) -> Result<F::File, Trouble> {
     let mut how = OpenOptions::new();
     how.append(true).create_new(before.is_none());
-    how.open(rt, path)?.write_all(bytes)?;
+    let mut file = how.open(rt, path)?;
+    file.write_all(bytes)?;
+    Ok(file)
+}
+
+/// Adds bytes at the end of a file that is open there.
+pub fn write_on<F: Write>(file: &mut F, bytes: &[u8]) -> Result<(), Trouble> {
+    file.write_all(bytes)?;
     Ok(())
 }
 
@@ -47,7 +54,9 @@ pub fn mark_file<F: Files>(rt: &F, path: &str, byte: u8) -> Result<(), Trouble> 
 
 /// Makes an empty file where nothing stands.
 pub fn make_file<F: Files>(rt: &F, path: &str) -> Result<(), Trouble> {
-    append_file(rt, path, None, &[])
+    let file = append_file(rt, path, None, &[])?;
+    drop(file);
+    Ok(())
 }
 
 /// Makes a folder where nothing stands.
@@ -79,7 +88,8 @@ pub fn sync_path<F: Files>(rt: &F, path: &str) -> Result<(), Trouble> {
     }
 }
 
-fn sync_open<F: OpenFile>(file: &F) -> Result<(), Trouble> {
+/// Syncs an open file.
+pub fn sync_open<F: OpenFile>(file: &F) -> Result<(), Trouble> {
     file.sync_all()?;
     Ok(())
 }
