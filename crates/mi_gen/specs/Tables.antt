@@ -5,8 +5,8 @@ use Rattle.std.specs.FinMap.{insert}
 use Rattle.mi_text.specs.Maps.{Name}
 use Rattle.mi_source.specs.Paths.{Files}
 use Rattle.mi_idt.specs.Cells.{Cell}
-use Rattle.mi_schema.specs.Tables as table
-use Rattle.mi_schema.specs.Tables.{Table}
+use Rattle.mi_schema.specs.declared.known.Known.TheVariants as known
+use Rattle.mi_schema.specs.Tables.{Table, layout_of}
 use Rattle.mi_model.specs.Selftest.{file_of, properties, features, actions, directories, component, component_of, pair, file, registry}
 use Rattle.mi_gen.specs.declared.fixed.FixedTable.{FixedTable}
 use Rattle.mi_gen.specs.declared.fixed.FixedTable.TheVariants as fixed
@@ -16,18 +16,18 @@ use Rattle.mi_gen.specs.declared.numbered.NumberedTable.TheVariants as numbered
 -- ---- with the same rows in each package
 
 abbrev pub fixed_file : FixedTable → Name × List ℕ
-fixed_file fixed.Property = file_of table.property properties
-fixed_file fixed.Feature = file_of table.feature features
-fixed_file fixed.InstallExecuteSequence = file_of table.install_execute_sequence actions
-fixed_file fixed.Directory = file_of table.directory directories
+fixed_file fixed.Property = file_of (layout_of known.Property) properties
+fixed_file fixed.Feature = file_of (layout_of known.Feature) features
+fixed_file fixed.InstallExecuteSequence = file_of (layout_of known.InstallExecuteSequence) actions
+fixed_file fixed.Directory = file_of (layout_of known.Directory) directories
 
 -- ---- with rows for the files
 
 abbrev pub layout : NumberedTable → Table
-layout numbered.Component = table.component
-layout numbered.FeatureComponents = table.feature_components
-layout numbered.File = table.file
-layout numbered.Registry = table.registry
+layout numbered.Component = layout_of known.Component
+layout numbered.FeatureComponents = layout_of known.FeatureComponents
+layout numbered.File = layout_of known.File
+layout numbered.Registry = layout_of known.Registry
 
 abbrev pub numbered_file : NumberedTable → List (List Cell) → Name × List ℕ
 numbered_file t rows = file_of (layout t) rows

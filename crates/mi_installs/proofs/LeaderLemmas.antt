@@ -14,7 +14,7 @@ use Rattle.mi_schema.specs.Checks.{companion_of, parent_of_directory, chain_faul
 use Rattle.mi_schema.specs.Lawful.{IsLawful}
 use Rattle.mi_schema.specs.Rows.{◌or_else◌}
 use Rattle.mi_schema.specs.RowsOf.{rows_in, behind}
-use Rattle.mi_schema.specs.Tables.{directory, feature, file}
+use Rattle.mi_schema.proofs.KnownTables.{directory, feature, file}
 use Rattle.mi_schema.specs.declared.package.Package.{Package}
 use Rattle.mi_schema.specs.declared.typed_rows.DirectoryRow.{DirectoryRow}
 use Rattle.mi_schema.specs.declared.typed_rows.FeatureRow.{FeatureRow}

@@ -10,8 +10,8 @@ use Rattle.mi_idt.specs.Cells.{Cell, Nothing, Text, Number, ColumnValue}
 use Rattle.mi_idt.specs.Written.{written}
 use Rattle.mi_schema.specs.declared.column.Kind.TheVariants.{Integer}
 use Rattle.mi_schema.specs.declared.column.Kind.{Kind}
-use Rattle.mi_schema.specs.Tables as table
-use Rattle.mi_schema.specs.Tables.{Table, Column}
+use Rattle.mi_schema.specs.declared.known.Known.TheVariants as known
+use Rattle.mi_schema.specs.Tables.{Table, Column, layout_of}
 use Rattle.mi_schema.specs.Rows.{key_places}
 
 -- ---- tables
@@ -100,12 +100,12 @@ selftest_files n =
     let all = range_with_len 0 n in
     let firsts = filter (λ i. i % 10 == 0) all in
     from_entries (
-    file_of table.property properties
-    ∷ file_of table.feature features
-    ∷ file_of table.install_execute_sequence actions
-    ∷ file_of table.directory directories
-    ∷ file_of table.component (map component firsts)
-    ∷ file_of table.feature_components (map (λ i. pair (codes "Main") (component_of i)) firsts)
-    ∷ file_of table.file (map file all)
-    ∷ file_of table.registry (map registry all)
+    file_of (layout_of known.Property) properties
+    ∷ file_of (layout_of known.Feature) features
+    ∷ file_of (layout_of known.InstallExecuteSequence) actions
+    ∷ file_of (layout_of known.Directory) directories
+    ∷ file_of (layout_of known.Component) (map component firsts)
+    ∷ file_of (layout_of known.FeatureComponents) (map (λ i. pair (codes "Main") (component_of i)) firsts)
+    ∷ file_of (layout_of known.File) (map file all)
+    ∷ file_of (layout_of known.Registry) (map registry all)
     ∷ map content all)

@@ -8,10 +8,9 @@ use Rattle.mi_base.specs.declared.answers.Fault.TheVariants.{Compressed}
 use Rattle.mi_schema.specs.declared.typed_rows.FileRow.{FileRow}
 use Rattle.mi_schema.specs.Source.{is_compressed, file_fault}
 use Rattle.mi_schema.specs.Laws.{AreFew, HaveOwnKeys}
-use Rattle.mi_schema.specs.Package.{keyed}
-use Rattle.mi_schema.specs.Suits.{all_suit, key_cells}
+use Rattle.mi_schema.specs.RowsOf.{keyed}
+use Rattle.mi_schema.specs.Values.{all_suit, key_cells, Row, row_of}
 use Rattle.mi_schema.specs.Tables.{Column, Table}
-use Rattle.mi_schema.specs.Values.{Row, row_of}
 use Rattle.mi_schema.proofs.CellLaws.{each_suit_at}
 use Rattle.mi_schema.proofs.DifferLemmas.{keys_differ}
 use Rattle.mi_schema.proofs.ReferenceLaws.{keyed_long}

@@ -25,7 +25,7 @@ use Rattle.mi_schema.specs.Checks.{row_with, parents_of, ends_at, endless_row, f
 use Rattle.mi_schema.specs.declared.known.Known.{Known}
 use Rattle.mi_schema.specs.declared.known.Listed.{Listed as InCode}
 use Rattle.mi_schema.specs.declared.known.Listed.TheVariants as code
-use Rattle.mi_schema.specs.Listed.{listed, listed_as}
+use Rattle.mi_schema.specs.Tables.{listed, listed_as}
 use Rattle.mi_schema.specs.TableRows.{Rows}
 use Rattle.mi_schema.specs.References.{first_dangling, rows_dangling, table_dangling}
 use Rattle.mi_schema.specs.Rows.{◌or_else◌}

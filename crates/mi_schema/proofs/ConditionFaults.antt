@@ -14,7 +14,7 @@ use Rattle.mi_schema.specs.declared.cell.Bad.{Bad}
 use Rattle.mi_schema.specs.declared.cell.Bad.TheVariants as bad
 use Rattle.mi_schema.specs.declared.column.Kind.{Kind}
 use Rattle.mi_schema.specs.declared.column.Kind.TheVariants as kind
-use Rattle.mi_schema.specs.Conditions.{condition_of}
+use Rattle.mi_schema.specs.Texts.{condition_of}
 use Rattle.mi_schema.specs.Laws.{StopsAt}
 use Rattle.mi_schema.specs.Rows.{◌or_else◌, has_columns, cell_fault, fault_at, cells_fault, row_fault, rows_fault, unsupported, is_refused, keys_of, rows_in, value_fault, spelled_value, table_fault}
 use Rattle.mi_schema.specs.Tables.{Column, Table}

@@ -10,7 +10,7 @@ use Rattle.mi_cond.proofs.AnswerLaws.{answer_is}
 use Rattle.mi_schema.specs.declared.cell.Cell.TheVariants.{Condition}
 use Rattle.mi_schema.specs.declared.cell.Bad.TheVariants as bad
 use Rattle.mi_schema.specs.Values.{place_of_fault, tree_of}
-use Rattle.mi_schema.specs.Conditions.{condition_of, place_in, placed}
+use Rattle.mi_schema.specs.Texts.{condition_of, place_in, placed}
 use Rattle.mi_schema.proofs.Words.{IsCondition}
 
 is_place : (f : CondFault) (text : List ℕ) → IsConditionFault f text → IsPlace text (place_in f)

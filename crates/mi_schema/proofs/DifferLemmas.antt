@@ -14,9 +14,8 @@ use Rattle.mi_schema.specs.declared.column.Kind.{Kind}
 use Rattle.mi_schema.specs.declared.column.Kind.TheVariants as kind
 use Rattle.mi_schema.specs.Reads.{FitsKind}
 use Rattle.mi_schema.specs.Rows.{key_places, begins_with}
-use Rattle.mi_schema.specs.Suits.{key_cell, key_cells}
+use Rattle.mi_schema.specs.Values.{key_cell, key_cells, Row, value_of, row_of}
 use Rattle.mi_schema.specs.Tables.{Column, Table}
-use Rattle.mi_schema.specs.Values.{Row, value_of, row_of}
 use Rattle.mi_schema.proofs.FitLemmas.{AllFit, front, back}
 use Rattle.mi_schema.proofs.SuitLemmas.{EachFits, IsFaultless, faultless}
 use Rattle.mi_schema.proofs.Words.{AreRowsOf, tells, keys_tell, IsNewKey, KeysDiffer}

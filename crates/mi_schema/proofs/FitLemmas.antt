@@ -16,12 +16,10 @@ use Rattle.mi_idt.specs.Spells.{SpellsField, SpellsFields}
 use Rattle.mi_schema.specs.declared.column.Kind.{Kind}
 use Rattle.mi_schema.specs.declared.column.Kind.TheVariants as kind
 use Rattle.mi_schema.specs.declared.column.Column.{Column as Listed}
-use Rattle.mi_schema.specs.Described.{column_as}
-use Rattle.mi_schema.specs.Tables.{Column}
+use Rattle.mi_schema.specs.Tables.{column_as, Column}
 use Rattle.mi_schema.specs.Values.{value_of, row_of, text_in, text_at}
 use Rattle.mi_schema.specs.Rows.{begins_with, is_of_class}
-use Rattle.mi_schema.specs.Reads.{FitsKind}
-use Rattle.mi_schema.specs.Read.{raw_row, has_text}
+use Rattle.mi_schema.specs.Reads.{FitsKind, raw_row, has_text}
 
 -- each cell fits the kind of its column
 abbrev pub AllFit : List Column → List Cell → Type 0

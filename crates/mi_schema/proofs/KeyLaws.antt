@@ -9,11 +9,10 @@ use Rattle.mi_schema.specs.declared.cell.Cell.{Cell}
 use Rattle.mi_schema.specs.declared.cell.Cell.TheVariants.{Text, Integer, Code, Condition}
 use Rattle.mi_schema.specs.declared.column.Kind.{Kind}
 use Rattle.mi_schema.specs.declared.column.Kind.TheVariants as kind
-use Rattle.mi_schema.specs.Read.{has_text}
-use Rattle.mi_schema.specs.Suits.{suits, suits_kind, all_suit, key_cell, key_cells, KeysTell}
+use Rattle.mi_schema.specs.Reads.{has_text}
+use Rattle.mi_schema.specs.Values.{suits, suits_kind, all_suit, key_cell, key_cells, KeysTell, Row, cell_at, text_in, text_at, number_in}
 use Rattle.mi_schema.specs.Tables.{Column}
 use Rattle.mi_schema.specs.TypedRows.{text_key, number_key, texts_key, text_number_key, upgrade_key}
-use Rattle.mi_schema.specs.Values.{Row, cell_at, text_in, text_at, number_in}
 
 both : (a b : Bool) → (a && b) ≡ true → (a ≡ true) × (b ≡ true)
 both true b e = (refl, e)

@@ -18,17 +18,12 @@ use Rattle.mi_schema.specs.declared.known.Known.TheVariants as known
 use Rattle.mi_schema.specs.declared.column.Rule.{Rule}
 use Rattle.mi_schema.specs.declared.column.Rule.TheVariants as rule
 use Rattle.mi_schema.specs.declared.error.LoadError.{LoadError}
-use Rattle.mi_schema.specs.Answers.{Answers, Fails}
-use Rattle.mi_schema.specs.Described.{column_as}
-use Rattle.mi_schema.specs.Keys.{asks_key, keys_asked}
-use Rattle.mi_schema.specs.Listed.{layout_of}
+use Rattle.mi_schema.specs.Reads.{Answers, Fails, asks_key, keys_asked, raw_row}
+use Rattle.mi_schema.specs.Tables.{column_as, layout_of, Column, Table}
 use Rattle.mi_schema.specs.Loaded.{AreRead}
-use Rattle.mi_schema.specs.Package.{keyed}
-use Rattle.mi_schema.specs.Read.{raw_row}
+use Rattle.mi_schema.specs.RowsOf.{keyed}
 use Rattle.mi_schema.specs.Rows.{◌or_else◌, begins_with, has_columns, is_refused, key_places, keys_of, rows_in, cell_fault, cells_fault, fault_at, row_fault, rows_fault, unsupported, value_fault, table_fault, table_rows}
-use Rattle.mi_schema.specs.Suits.{all_suit}
-use Rattle.mi_schema.specs.Tables.{Column, Table}
-use Rattle.mi_schema.specs.Values.{Row, value_of, row_of, kind_fault, unless, meets}
+use Rattle.mi_schema.specs.Values.{all_suit, Row, value_of, row_of, kind_fault, unless, meets}
 use Rattle.mi_schema.proofs.FitLemmas.{front, back, row_fits}
 use Rattle.mi_schema.proofs.RowLemmas.{passed_on}
 use Rattle.mi_schema.proofs.SuitLemmas.{each_fits, suits_row}

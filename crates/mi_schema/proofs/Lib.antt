@@ -5,12 +5,14 @@ pub mod CheckLemmas
 pub mod ColumnLemmas
 pub mod ConditionFaults
 pub mod ConditionLaws
+pub mod Dangling
 pub mod DifferLemmas
 pub mod FitLemmas
 pub mod FolderLemmas
 pub mod KeyLaws
 pub mod KeyLemmas
 pub mod KnownLemmas
+pub mod KnownTables
 pub mod LawfulLaws
 pub mod ListLemmas
 pub mod LoadLemmas

@@ -14,17 +14,16 @@ use Rattle.mi_schema.specs.declared.error.LoadError.{LoadError}
 use Rattle.mi_schema.specs.declared.error.LoadError.TheVariants.{NoMemory, Source, Table as TableFault}
 use Rattle.mi_schema.specs.declared.known.Known.TheVariants as known
 use Rattle.mi_schema.specs.declared.package.Package.{Package}
-use Rattle.mi_schema.specs.Answers.{Fails, IsCounted}
+use Rattle.mi_schema.specs.Reads.{Fails, IsCounted}
 use Rattle.mi_schema.specs.Checks.{Content, content_of, tables_fault}
 use Rattle.mi_schema.specs.declared.known.Listed.{Listed as InCode}
 use Rattle.mi_schema.specs.declared.known.Known.{Known}
-use Rattle.mi_schema.specs.Listed.{Listed, listed, listed_as, layout_of, table_of, tables}
-use Rattle.mi_schema.specs.Tables as table
+use Rattle.mi_schema.specs.Tables.{Listed, listed, listed_as, table_of, tables, layout_of, Table}
+use Rattle.mi_schema.proofs.KnownTables as table
 use Rattle.mi_schema.specs.TypedRows.{component_row, text_key, condition_row, text_number_key, create_folder_row, texts_key, custom_action_row, directory_row, duplicate_file_row, environment_row, feature_row, feature_components_row, file_row, install_execute_sequence_row, launch_condition_row, msi_file_hash_row, property_row, registry_row, remove_file_row, remove_registry_row, shortcut_row, summary_information_row, number_key, upgrade_row, upgrade_key}
 use Rattle.mi_schema.specs.Loaded.{with_file, IsOther, IsPut, AreLoaded}
-use Rattle.mi_schema.specs.Package.{HoldsAll, keyed}
+use Rattle.mi_schema.specs.RowsOf.{HoldsAll, keyed}
 use Rattle.mi_schema.specs.Rows.{◌or_else◌, table_fault, table_rows}
-use Rattle.mi_schema.specs.Tables.{Table}
 use Rattle.mi_schema.proofs.RowLemmas.{passed_on}
 use Rattle.mi_schema.proofs.FitLemmas.{front, back}
 

@@ -28,20 +28,18 @@ use Rattle.mi_schema.specs.declared.typed_rows.FileRow.{FileRow}
 use Rattle.mi_schema.specs.declared.typed_rows.PropertyRow.{PropertyRow}
 use Rattle.mi_schema.specs.declared.package.Package.{Package}
 use Rattle.mi_schema.specs.Checks.{Content, rows_at, chain_fault, companion_of, parent_of_directory, first_fault, missing_property}
-use Rattle.mi_schema.specs.Listed.{Listed, Loaded, layout_of, table_of, listed}
-use Rattle.mi_schema.specs.References.{keys_in, names, may_name, must_name, key_path_target, sets_directory, rows_dangling, table_dangling, component_dangling, condition_dangling, create_folder_dangling, custom_action_dangling, directory_dangling, duplicate_file_dangling, environment_dangling, feature_dangling, feature_components_dangling, file_dangling, msi_file_hash_dangling, registry_dangling, remove_file_dangling, remove_registry_dangling, shortcut_dangling}
-use Rattle.mi_schema.specs.RowsOf.{rows_in, behind, AreNamed}
+use Rattle.mi_schema.specs.Tables.{Listed, Loaded, table_of, listed, layout_of, required_properties}
+use Rattle.mi_schema.proofs.KnownTables.{component, condition, create_folder, custom_action, directory, duplicate_file, environment, feature, feature_components, file, install_execute_sequence, launch_condition, msi_file_hash, property, registry, remove_file, remove_registry, shortcut, summary_information, upgrade}
+use Rattle.mi_schema.specs.References.{keys_in, names, may_name, must_name, key_path_target, sets_directory, rows_dangling, table_dangling}
+use Rattle.mi_schema.proofs.Dangling.{component_dangling, condition_dangling, create_folder_dangling, custom_action_dangling, directory_dangling, duplicate_file_dangling, environment_dangling, feature_dangling, feature_components_dangling, file_dangling, msi_file_hash_dangling, registry_dangling, remove_file_dangling, remove_registry_dangling, shortcut_dangling}
+use Rattle.mi_schema.specs.RowsOf.{rows_in, behind, AreNamed, HoldsAll}
 use Rattle.mi_schema.specs.Source.{has_attributes, is_source_compressed, has_short_names}
 use Rattle.mi_schema.specs.TableRows.{Rows}
 use Rattle.mi_schema.specs.Laws.{IsKeyOf, IsWithin, HasOtherCode, HasProperty, KeysStand, KeysApart, ReferencesStand, ParentsEnd, PropertiesStand, ValuesStand, SourceStands, TablesSmall, key_paths}
-use Rattle.mi_schema.specs.Package.{HoldsAll}
 use Rattle.mi_schema.specs.Rows.{keys_of as keys_of_rows}
-use Rattle.mi_schema.specs.Tables.{required_properties, component, condition, create_folder, custom_action, directory, duplicate_file, environment, feature, feature_components, file, install_execute_sequence, launch_condition, msi_file_hash, property, registry, remove_file, remove_registry, shortcut, summary_information, upgrade}
-use Rattle.mi_schema.specs.Suits.{suits}
+use Rattle.mi_schema.specs.Values.{suits, cell_at, text_in, text_at, number_in, lacks, is_root, is_root_below, is_key_in}
 use Rattle.mi_schema.specs.Texts.{is_decimal, are_languages, is_language, is_product_code, is_value_of}
-use Rattle.mi_schema.specs.Typed.{condition_in}
-use Rattle.mi_schema.specs.TypedRows.{component_row, text_key, condition_row, text_number_key, create_folder_row, texts_key, custom_action_row, directory_row, duplicate_file_row, environment_row, feature_row, feature_components_row, file_row, install_execute_sequence_row, launch_condition_row, msi_file_hash_row, property_row, registry_row, remove_file_row, remove_registry_row, shortcut_row, summary_information_row, number_key, upgrade_row, upgrade_key}
-use Rattle.mi_schema.specs.Values.{cell_at, text_in, text_at, number_in, lacks, is_root, is_root_below, is_key_in}
+use Rattle.mi_schema.specs.TypedRows.{condition_in, component_row, text_key, condition_row, text_number_key, create_folder_row, texts_key, custom_action_row, directory_row, duplicate_file_row, environment_row, feature_row, feature_components_row, file_row, install_execute_sequence_row, launch_condition_row, msi_file_hash_row, property_row, registry_row, remove_file_row, remove_registry_row, shortcut_row, summary_information_row, number_key, upgrade_row, upgrade_key}
 use Rattle.mi_schema.proofs.ApartLaws.{own_keys, few_keyed, no_file, neither, without}
 use Rattle.mi_schema.proofs.CellLaws.{AreTables, is_known, is_listed, none_found, IsRight, OfKind, value_at, of_table, right_parts}
 use Rattle.mi_schema.proofs.ChainLaws.{found_first, get_any, chains_end}

@@ -16,13 +16,11 @@ use Rattle.mi_schema.specs.declared.known.Target.{Target}
 use Rattle.mi_schema.specs.Checks.{Content, rows_at}
 use Rattle.mi_schema.specs.Laws.{EachRow}
 use Rattle.mi_schema.specs.References.{keys_in, names, may_name, must_name, first_dangling}
-use Rattle.mi_schema.specs.RowsOf.{behind}
+use Rattle.mi_schema.specs.RowsOf.{behind, keyed}
 use Rattle.mi_schema.specs.TableRows.{Rows}
-use Rattle.mi_schema.specs.Package.{keyed}
 use Rattle.mi_schema.specs.Rows.{keys_of}
-use Rattle.mi_schema.specs.Suits.{suits}
+use Rattle.mi_schema.specs.Values.{suits, Row, is_key_in}
 use Rattle.mi_schema.specs.Tables.{Column, Table}
-use Rattle.mi_schema.specs.Values.{Row, is_key_in}
 use Rattle.mi_schema.proofs.CellLaws.{AreTables, IsKnown, Stands, value_at, of_table, stands_at, suits_at}
 use Rattle.mi_schema.proofs.SuitLemmas.{or_none, map_none}
 

@@ -11,14 +11,12 @@ use Rattle.mi_idt.specs.Cells as raw
 use Rattle.mi_schema.specs.declared.cell.Bad.{Bad}
 use Rattle.mi_schema.specs.declared.cell.Cell.{Cell}
 use Rattle.mi_schema.specs.declared.column.Column.{Column as Listed}
-use Rattle.mi_schema.specs.Described.{column_as}
-use Rattle.mi_schema.specs.Tables.{Column, Table}
+use Rattle.mi_schema.specs.Tables.{column_as, Column, Table}
 use Rattle.mi_schema.specs.declared.error.LoadError.{LoadError}
 use Rattle.mi_schema.specs.declared.error.LoadError.TheVariants.{NoMemory, Source, Table as TableFault}
-use Rattle.mi_schema.specs.Answers.{Fails}
+use Rattle.mi_schema.specs.Reads.{Fails, Refuses, RefusesAs, IsBad}
 use Rattle.mi_schema.specs.declared.cell.CellError.{CellError}
 use Rattle.mi_schema.specs.declared.cell.CellError.TheVariants.{NoMemory as NoCellMemory, Bad as BadCell}
-use Rattle.mi_schema.specs.Reads.{Refuses, RefusesAs, IsBad}
 use Rattle.mi_schema.specs.Values.{Row, value_of, row_of, text_at}
 use Rattle.mi_schema.specs.Rows.{◌or_else◌, cell_fault, cells_fault, fault_at, row_fault, rows_fault, keys_of}
 

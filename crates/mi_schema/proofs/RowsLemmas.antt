@@ -2,10 +2,9 @@
 use Rattle.std.proofs.Common.{◌≡◌, ℕ, zero, suc, Bool, true, false, List, [], ◌∷◌, ◌++◌, length, map, take, refl, sym, ap, ◌∙◌, cond}
 use Rattle.indexmap.specs.IndexMap.{insert_entry}
 use Rattle.mi_idt.specs.Cells as raw
-use Rattle.mi_schema.specs.Package.{keyed}
-use Rattle.mi_schema.specs.Suits.{suits, all_suit, key_cells, KeysTell}
+use Rattle.mi_schema.specs.RowsOf.{keyed}
+use Rattle.mi_schema.specs.Values.{suits, all_suit, key_cells, KeysTell, Row, row_of}
 use Rattle.mi_schema.specs.Tables.{Column}
-use Rattle.mi_schema.specs.Values.{Row, row_of}
 use Rattle.mi_schema.proofs.FitLemmas.{front, back}
 use Rattle.mi_schema.proofs.SuitLemmas.{both}
 use Rattle.mi_schema.proofs.Words.{each_suits, IsNewKey, KeysDiffer}

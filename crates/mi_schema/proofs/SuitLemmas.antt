@@ -16,9 +16,8 @@ use Rattle.mi_schema.specs.declared.column.Kind.{Kind}
 use Rattle.mi_schema.specs.declared.column.Kind.TheVariants as kind
 use Rattle.mi_schema.specs.Reads.{FitsKind}
 use Rattle.mi_schema.specs.Rows.{◌or_else◌, begins_with, has_columns, is_refused, keys_of, rows_in, unsupported, cell_fault, cells_fault, fault_at, row_fault, rows_fault, value_fault, spelled_value}
-use Rattle.mi_schema.specs.Suits.{suits, suits_kind, all_suit}
+use Rattle.mi_schema.specs.Values.{suits, suits_kind, all_suit, Row, value_of, text_value, row_of, kind_fault, unless, meets}
 use Rattle.mi_schema.specs.Tables.{Column, Table}
-use Rattle.mi_schema.specs.Values.{Row, value_of, text_value, row_of, kind_fault, unless, meets}
 use Rattle.mi_schema.proofs.FitLemmas.{AllFit, front, back, fits_all}
 use Rattle.mi_schema.proofs.Words.{AreRowsOf, each_suits}
 

@@ -17,7 +17,7 @@ use Rattle.mi_idt.specs.Raw.{value_of}
 use Rattle.mi_schema.specs.Tables.{Table}
 use Rattle.mi_schema.specs.Rows.{◌or_else◌, are_none, rows_in, value_fault, unsupported, spelled_value, size_fault, table_fault}
 use Rattle.mi_schema.specs.declared.error.LoadError.{LoadError}
-use Rattle.mi_schema.specs.Answers.{Answers}
+use Rattle.mi_schema.specs.Reads.{Answers}
 use Rattle.mi_schema.specs.Values.{row_of}
 
 no_rows_of : {A : Type 0} (xs : List A) → length xs ≡ 0 → xs ≡ []

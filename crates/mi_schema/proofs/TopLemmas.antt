@@ -5,9 +5,9 @@ use Rattle.mi_source.specs.Counts.{Rose}
 use Rattle.mi_source.specs.Paths.{Files}
 use Rattle.mi_base.specs.declared.answers.Fault.{Fault}
 use Rattle.mi_schema.specs.declared.error.LoadError.{LoadError}
-use Rattle.mi_schema.specs.Answers.{Fails}
+use Rattle.mi_schema.specs.Reads.{Fails}
 use Rattle.mi_schema.specs.Checks.{Content, missing_fault, tables_fault, package_fault, content_of, load_fault}
-use Rattle.mi_schema.specs.Listed.{tables}
+use Rattle.mi_schema.specs.Tables.{tables}
 use Rattle.mi_schema.specs.Rows.{◌or_else◌}
 use Rattle.mi_schema.specs.RowsOf.{rows_of_content}
 use Rattle.mi_schema.specs.TableRows.{Rows}

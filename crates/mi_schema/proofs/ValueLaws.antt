@@ -12,12 +12,11 @@ use Rattle.mi_schema.specs.declared.cell.Cell.TheVariants as cell
 use Rattle.mi_schema.specs.declared.column.Kind.{Kind}
 use Rattle.mi_schema.specs.declared.column.Kind.TheVariants as kind
 use Rattle.mi_schema.specs.Laws.{IsWithin, HasOtherCode}
-use Rattle.mi_schema.specs.Package.{keyed}
-use Rattle.mi_schema.specs.Read.{has_text}
-use Rattle.mi_schema.specs.Suits.{suits, suits_kind}
+use Rattle.mi_schema.specs.RowsOf.{keyed}
+use Rattle.mi_schema.specs.Reads.{has_text}
+use Rattle.mi_schema.specs.Values.{suits, suits_kind, Row, cell_at, text_in, text_at, number_in, is_root, has_code, code_in, same_code, is_new_code}
 use Rattle.mi_schema.specs.Tables.{Column}
-use Rattle.mi_schema.specs.Typed.{some_number_in, some_code_in}
-use Rattle.mi_schema.specs.Values.{Row, cell_at, text_in, text_at, number_in, is_root, has_code, code_in, same_code, is_new_code}
+use Rattle.mi_schema.specs.TypedRows.{some_number_in, some_code_in}
 use Rattle.mi_schema.proofs.CellLaws.{OfKind}
 use Rattle.mi_schema.proofs.FitLemmas.{front, back}
 use Rattle.mi_schema.proofs.ReferenceLaws.{keyed_at, keyed_long}

@@ -9,13 +9,10 @@ use Rattle.mi_schema.specs.declared.column.Kind.{Kind}
 use Rattle.mi_schema.specs.declared.column.Kind.TheVariants as kind
 use Rattle.mi_schema.specs.declared.package.Package.{Package}
 use Rattle.mi_schema.specs.Checks.{Content, package_fault, tables_fault}
-use Rattle.mi_schema.specs.Listed.{tables}
-use Rattle.mi_schema.specs.Package.{IsPackage}
+use Rattle.mi_schema.specs.Tables.{tables, Column, Table}
+use Rattle.mi_schema.specs.RowsOf.{IsPackage, rows_in}
 use Rattle.mi_schema.specs.Rows.{table_fault, table_rows}
-use Rattle.mi_schema.specs.RowsOf.{rows_in}
-use Rattle.mi_schema.specs.Suits.{all_suit, key_cells}
-use Rattle.mi_schema.specs.Tables.{Column, Table}
-use Rattle.mi_schema.specs.Values.{Row}
+use Rattle.mi_schema.specs.Values.{all_suit, key_cells, Row}
 
 -- the rows of a table in some file that has no fault, or in none
 abbrev pub AreRowsOf : Table → List Row → Type 0

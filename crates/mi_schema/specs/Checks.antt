@@ -9,14 +9,14 @@ use Rattle.mi_dirs.specs.Chains.{ends_in}
 use Rattle.mi_dirs.specs.Order.{parent_in}
 use Rattle.mi_dirs.specs.Places.{first_row}
 use Rattle.mi_dirs.specs.Faults.{numbers}
-pub use Rattle.mi_schema.specs.Content.{Content, table_path, content_of, rows_at}
-use Rattle.mi_schema.specs.Listed.{listed, tables}
+pub use Rattle.mi_schema.specs.Rows.{Content, table_path, content_of, rows_at}
+use Rattle.mi_schema.specs.declared.known.Known.TheVariants as known
+use Rattle.mi_schema.specs.Tables.{listed, tables, Table, layout_of, required_properties}
 use Rattle.mi_schema.specs.References.{table_dangling}
 use Rattle.mi_schema.specs.Rows.{◌or_else◌, table_fault}
 use Rattle.mi_schema.specs.RowsOf.{rows_of_content}
 use Rattle.mi_schema.specs.Source.{is_source_compressed, file_fault}
 use Rattle.mi_schema.specs.TableRows.{Rows}
-use Rattle.mi_schema.specs.Tables.{Table, directory, feature, file, install_execute_sequence, property, required_properties}
 use Rattle.mi_schema.specs.TypedRows.{DirectoryRow, FeatureRow, FileRow, PropertyRow}
 use Rattle.mi_schema.specs.Values.{is_key_in, is_root_below}
 
@@ -73,9 +73,9 @@ references_fault rows = first_fault (table_dangling rows) listed
 
 abbrev pub cycles_fault : Rows → Option Fault
 cycles_fault rows =
-    chain_fault directory.name (λ (r : DirectoryRow). r.directory) parent_of_directory rows.directory
-    or_else chain_fault feature.name (λ (r : FeatureRow). r.feature) (λ r. r.feature_parent) rows.feature
-    or_else chain_fault file.name (λ (r : FileRow). r.file) (λ r. companion_of r.version) rows.file
+    chain_fault (layout_of known.Directory).name (λ (r : DirectoryRow). r.directory) parent_of_directory rows.directory
+    or_else chain_fault (layout_of known.Feature).name (λ (r : FeatureRow). r.feature) (λ r. r.feature_parent) rows.feature
+    or_else chain_fault (layout_of known.File).name (λ (r : FileRow). r.file) (λ r. companion_of r.version) rows.file
 
 abbrev pub compressed_fault : Rows → Option Fault
 compressed_fault rows = file_fault (is_source_compressed rows.summary_information) rows.file
@@ -85,7 +85,7 @@ unfoldable pub package_fault : Rows → Option Fault
 package_fault rows = required_fault rows or_else references_fault rows or_else cycles_fault rows or_else compressed_fault rows
 
 abbrev pub missing_fault : Content → Option Fault
-missing_fault content = missing_table content property.name or_else missing_table content install_execute_sequence.name
+missing_fault content = missing_table content (layout_of known.Property).name or_else missing_table content (layout_of known.InstallExecuteSequence).name
 
 abbrev pub tables_fault : Content → List Table → Option Fault
 tables_fault content ts = first_fault (λ (t : Table). table_fault t (content t.name)) ts

@@ -3,13 +3,12 @@ use Rattle.std.specs.Prelude.{◌≡◌, ℕ, ◌<◌, false, if◌then◌else�
 use Rattle.std.specs.Str.{bytes_eq}
 use Rattle.mi_text.specs.Maps.{Name}
 use Rattle.mi_schema.specs.declared.package.Package.{Package}
-use Rattle.mi_schema.specs.Content.{Content}
-use Rattle.mi_schema.specs.Package.{HoldsAll, keyed}
-use Rattle.mi_schema.specs.Rows.{table_fault, table_rows}
+use Rattle.mi_schema.specs.Rows.{Content, table_fault, table_rows}
+use Rattle.mi_schema.specs.RowsOf.{HoldsAll, keyed}
 use Rattle.mi_schema.specs.Checks.{tables_fault}
 use Rattle.mi_schema.specs.declared.known.Known.{Known}
-use Rattle.mi_schema.specs.Listed.{Listed, Loaded, Refused, layout_of, tables}
-use Rattle.mi_schema.specs.Tables.{Table}
+use Rattle.mi_schema.specs.declared.known.Known.TheVariants as of
+use Rattle.mi_schema.specs.Tables.{Listed, Loaded, Refused, tables, layout_of, Table}
 use Rattle.mi_schema.specs.Values.{Row}
 
 -- all bytes of a file, or that there are more than a table may have
@@ -38,6 +37,20 @@ with_file content table file = λ name. if bytes_eq name table then file else co
 abbrev pub IsOther : Listed → Type 0
 IsOther (Loaded k) = Unit {0}
 IsOther (Refused name) = (k : Known) → bytes_eq (layout_of k).name name ≡ false
+
+-- a known table of the second of the two lists in which the program goes over them
+abbrev pub IsLate : Known → Type 0
+IsLate of.InstallExecuteSequence = Unit {0}
+IsLate of.LaunchCondition = Unit {0}
+IsLate of.MsiFileHash = Unit {0}
+IsLate of.Property = Unit {0}
+IsLate of.Registry = Unit {0}
+IsLate of.RemoveFile = Unit {0}
+IsLate of.RemoveRegistry = Unit {0}
+IsLate of.Shortcut = Unit {0}
+IsLate of.SummaryInformation = Unit {0}
+IsLate of.Upgrade = Unit {0}
+IsLate other = ⊥
 
 -- some file without a fault has been put into the package
 pub record IsPut (told : Type 0) (content : Content) (t : Table) (old new : Package) : Type 0 where

@@ -1,14 +1,55 @@
--- What reading a field answers.
-use Rattle.std.specs.Prelude.{◌≡◌, Option, Some, None, Result, Ok, Err}
+-- What reading a package, a table and a field answers, and what the program holds of a table while it reads its rows.
+use Rattle.std.specs.Prelude.{◌≡◌, ℕ, Bool, true, false, if◌then◌else◌, List, [], String, Option, Some, None, Result, Ok, Err}
+use Rattle.std.specs.BTreeMap.{BTreeMap, get_by_text}
+use Rattle.std.specs.BTreeSet.{contains}
+use Rattle.std.specs.List.{list_any, slice_index_or}
+use Rattle.std.specs.Ordering.{nat_cmp}
+use Rattle.std.specs.declared.alloc.Global.{Global}
+use Rattle.mi_text.specs.Maps.{Name, same_name}
 use Rattle.mi_base.specs.declared.answers.Fault.{Fault}
+use Rattle.mi_dirs.specs.Places.{first_row}
+use Rattle.mi_source.specs.declared.fault.SrcFault.{SrcFault}
+use Rattle.mi_source.specs.declared.fault.SrcFault.TheVariants as source
 use Rattle.mi_idt.specs.Cells as raw
-use Rattle.mi_schema.specs.declared.column.Kind.{Kind}
-use Rattle.mi_schema.specs.declared.column.Kind.TheVariants as kind
+use Rattle.mi_idt.specs.Means.{meaning}
+use Rattle.mi_idt.specs.declared.table.Table.{Table as Spelled}
 use Rattle.mi_schema.specs.declared.cell.Bad.{Bad}
-use Rattle.mi_schema.specs.declared.error.LoadError.{LoadError}
-use Rattle.mi_schema.specs.declared.error.LoadError.TheVariants.{NoMemory, Source, Table}
 use Rattle.mi_schema.specs.declared.cell.CellError.{CellError}
 use Rattle.mi_schema.specs.declared.cell.CellError.TheVariants as error
+use Rattle.mi_schema.specs.declared.column.Kind.{Kind}
+use Rattle.mi_schema.specs.declared.column.Kind.TheVariants as kind
+use Rattle.mi_schema.specs.declared.column.Rule.{Rule}
+use Rattle.mi_schema.specs.declared.column.Rule.TheVariants.{VersionOrKey}
+use Rattle.mi_schema.specs.declared.error.LoadError.{LoadError}
+use Rattle.mi_schema.specs.declared.error.LoadError.TheVariants.{NoMemory, Source, Table as TableFault}
+use Rattle.mi_schema.specs.declared.rule.Seen.{Seen}
+use Rattle.mi_schema.specs.Rows.{keys_of, rows_in}
+use Rattle.mi_schema.specs.Tables.{Table}
+use Rattle.mi_schema.specs.Values.{Row, is_root, has_code}
+
+-- ---- answers of a package and a table
+
+abbrev pub error_of : SrcFault → LoadError
+error_of source.NoMemory = NoMemory
+error_of source.Failed = Source
+
+-- why there is no value: `failed` says that the source's count rose; want of memory may come at any time
+abbrev pub Fails : Type 0 → Option Fault → LoadError → Type 0
+Fails failed fault NoMemory = Unit {0}
+Fails failed fault Source = failed
+Fails failed fault (TableFault f) = fault ≡ Some f
+
+-- a value that is as P says, where there is no fault, or why there is none
+abbrev pub Answers : {X : Type 0} → Type 0 → Option Fault → (X → Type 0) → Result X LoadError → Type 0
+Answers failed fault P (Ok x) = (fault ≡ None) × P x
+Answers failed fault P (Err e) = Fails failed fault e
+
+-- the same of a source that doesn't tell its content
+abbrev pub IsCounted : {X : Type 0} → Type 0 → Result X LoadError → Type 0
+IsCounted failed (Err Source) = failed
+IsCounted failed other = Unit {0}
+
+-- ---- answers of a field
 
 -- why there is no value; want of memory may come at any time
 abbrev pub IsBad : Option Bad → CellError → Type 0
@@ -32,9 +73,38 @@ FitsKind other (raw.Number z) = ⊥
 abbrev pub Refuses : LoadError → Fault → Type 0
 Refuses NoMemory fault = Unit {0}
 Refuses Source fault = ⊥
-Refuses (Table f) fault = f ≡ fault
+Refuses (TableFault f) fault = f ≡ fault
 
 -- the error of a value, whose fault is given by what is wrong with it
 abbrev pub RefusesAs : CellError → (Bad → Fault) → LoadError → Type 0
 RefusesAs error.NoMemory at e = e ≡ NoMemory
 RefusesAs (error.Bad b) at e = Refuses e (at b)
+
+-- ---- what is held
+
+-- the fields of a row, from 0
+abbrev pub raw_row : Spelled → ℕ → List raw.Cell
+raw_row t number = slice_index_or (meaning t).rows number []
+
+abbrev pub has_text : Kind → Bool
+has_text kind.Integer = false
+has_text kind.Code = false
+has_text other = true
+
+-- the place of the first row of each key
+abbrev pub KnowsKeys : BTreeMap (String Global) ℕ → List Name → Type 0
+KnowsKeys index keys = (q : Name) → get_by_text index q ≡ first_row (same_name q) keys
+
+-- the rule asks whether a text is a key of its table
+abbrev pub asks_key : Rule → Bool
+asks_key VersionOrKey = true
+asks_key other = false
+
+-- the keys of a table where a column asks for them, and none elsewhere
+abbrev pub keys_asked : Table → raw.TableValue → List Name
+keys_asked t v = if list_any (λ c. asks_key c.rule) t.columns then keys_of (rows_in t v) else []
+
+-- of the rows before
+pub record IsSeen (seen : Seen) (before : List Row) : Type 0 where
+  pub root : seen.root ≡ list_any is_root before
+  pub codes : (n : ℕ) → contains nat_cmp seen.codes n ≡ list_any (has_code n) before

@@ -7,10 +7,10 @@ use Rattle.mi_schema.specs.declared.known.Known.{Known}
 use Rattle.mi_schema.specs.declared.known.Known.TheVariants as known
 use Rattle.mi_schema.specs.declared.known.Target.{Target}
 use Rattle.mi_schema.specs.declared.known.Target.TheVariants as of
-use Rattle.mi_schema.specs.Listed.{Listed, Loaded, Refused, layout_of}
+use Rattle.mi_schema.specs.Tables.{Listed, Loaded, Refused, layout_of}
 use Rattle.mi_schema.specs.Rows.{◌or_else◌}
 use Rattle.mi_schema.specs.TableRows.{Rows}
-use Rattle.mi_schema.specs.TypedRows.{ComponentRow, ConditionRow, CreateFolderRow, CustomActionRow, DirectoryRow, DuplicateFileRow, EnvironmentRow, FeatureRow, FeatureComponentsRow, FileRow, MsiFileHashRow, RegistryRow, RemoveFileRow, RemoveRegistryRow, ShortcutRow}
+use Rattle.mi_schema.specs.TypedRows.{ComponentRow}
 use Rattle.mi_schema.specs.Values.{bits_of, lacks, is_key_in}
 
 -- the keys of a table that other tables name
@@ -35,60 +35,15 @@ abbrev pub must_name : Rows → Target → ℕ → Option Name → Option ℕ
 must_name rows target column None = Some column
 must_name rows target column (Some key) = names rows target column key
 
--- ---- the first column of a row that names a row that isn't there
+-- ---- the first column of each row that names a row that isn't there
 
 -- a component's key path is a value of the registry where attribute 4 is set
 abbrev pub key_path_target : ComponentRow → Target
 key_path_target r = if lacks 4 r.attributes then of.File else of.Registry
 
-abbrev pub component_dangling : Rows → ComponentRow → Option ℕ
-component_dangling rows r = names rows of.Directory 3 r.directory or_else may_name rows (key_path_target r) 6 r.key_path
-
-abbrev pub condition_dangling : Rows → ConditionRow → Option ℕ
-condition_dangling rows r = names rows of.Feature 1 r.feature
-
-abbrev pub create_folder_dangling : Rows → CreateFolderRow → Option ℕ
-create_folder_dangling rows r = names rows of.Directory 1 r.directory or_else names rows of.Component 2 r.component
-
 -- an action that sets a directory
 abbrev pub sets_directory : ℤ → Bool
 sets_directory kind = bit_and (bits_of kind) 63 == 35
-
-abbrev pub custom_action_dangling : Rows → CustomActionRow → Option ℕ
-custom_action_dangling rows r = if sets_directory r.kind then must_name rows of.Directory 3 r.source else None
-
-abbrev pub directory_dangling : Rows → DirectoryRow → Option ℕ
-directory_dangling rows r = may_name rows of.Directory 2 r.directory_parent
-
-abbrev pub duplicate_file_dangling : Rows → DuplicateFileRow → Option ℕ
-duplicate_file_dangling rows r = names rows of.Component 2 r.component or_else names rows of.File 3 r.file
-
-abbrev pub environment_dangling : Rows → EnvironmentRow → Option ℕ
-environment_dangling rows r = names rows of.Component 4 r.component
-
-abbrev pub feature_dangling : Rows → FeatureRow → Option ℕ
-feature_dangling rows r = may_name rows of.Feature 2 r.feature_parent
-
-abbrev pub feature_components_dangling : Rows → FeatureComponentsRow → Option ℕ
-feature_components_dangling rows r = names rows of.Feature 1 r.feature or_else names rows of.Component 2 r.component
-
-abbrev pub file_dangling : Rows → FileRow → Option ℕ
-file_dangling rows r = names rows of.Component 2 r.component
-
-abbrev pub msi_file_hash_dangling : Rows → MsiFileHashRow → Option ℕ
-msi_file_hash_dangling rows r = names rows of.File 1 r.file
-
-abbrev pub registry_dangling : Rows → RegistryRow → Option ℕ
-registry_dangling rows r = names rows of.Component 6 r.component
-
-abbrev pub remove_file_dangling : Rows → RemoveFileRow → Option ℕ
-remove_file_dangling rows r = names rows of.Component 2 r.component
-
-abbrev pub remove_registry_dangling : Rows → RemoveRegistryRow → Option ℕ
-remove_registry_dangling rows r = names rows of.Component 5 r.component
-
-abbrev pub shortcut_dangling : Rows → ShortcutRow → Option ℕ
-shortcut_dangling rows r = names rows of.Directory 2 r.directory or_else names rows of.Component 4 r.component
 
 -- ---- by row, then by table
 
@@ -96,22 +51,25 @@ abbrev pub first_dangling : {R : Type 0} → Name → (R → Option ℕ) → ℕ
 first_dangling table dangling number [] = None
 first_dangling table dangling number (r ∷ rows) = option_map (Reference table number) (dangling r) or_else first_dangling table dangling (number + 1) rows
 
+abbrev pub dangling_in : {R : Type 0} → Known → List R → (R → Option ℕ) → Option Fault
+dangling_in k rows dangling = first_dangling (layout_of k).name dangling 1 rows
+
 abbrev pub rows_dangling : Rows → Known → Option Fault
-rows_dangling rows known.Component = first_dangling (layout_of known.Component).name (component_dangling rows) 1 rows.component
-rows_dangling rows known.Condition = first_dangling (layout_of known.Condition).name (condition_dangling rows) 1 rows.condition
-rows_dangling rows known.CreateFolder = first_dangling (layout_of known.CreateFolder).name (create_folder_dangling rows) 1 rows.create_folder
-rows_dangling rows known.CustomAction = first_dangling (layout_of known.CustomAction).name (custom_action_dangling rows) 1 rows.custom_action
-rows_dangling rows known.Directory = first_dangling (layout_of known.Directory).name (directory_dangling rows) 1 rows.directory
-rows_dangling rows known.DuplicateFile = first_dangling (layout_of known.DuplicateFile).name (duplicate_file_dangling rows) 1 rows.duplicate_file
-rows_dangling rows known.Environment = first_dangling (layout_of known.Environment).name (environment_dangling rows) 1 rows.environment
-rows_dangling rows known.Feature = first_dangling (layout_of known.Feature).name (feature_dangling rows) 1 rows.feature
-rows_dangling rows known.FeatureComponents = first_dangling (layout_of known.FeatureComponents).name (feature_components_dangling rows) 1 rows.feature_components
-rows_dangling rows known.File = first_dangling (layout_of known.File).name (file_dangling rows) 1 rows.file
-rows_dangling rows known.MsiFileHash = first_dangling (layout_of known.MsiFileHash).name (msi_file_hash_dangling rows) 1 rows.msi_file_hash
-rows_dangling rows known.Registry = first_dangling (layout_of known.Registry).name (registry_dangling rows) 1 rows.registry
-rows_dangling rows known.RemoveFile = first_dangling (layout_of known.RemoveFile).name (remove_file_dangling rows) 1 rows.remove_file
-rows_dangling rows known.RemoveRegistry = first_dangling (layout_of known.RemoveRegistry).name (remove_registry_dangling rows) 1 rows.remove_registry
-rows_dangling rows known.Shortcut = first_dangling (layout_of known.Shortcut).name (shortcut_dangling rows) 1 rows.shortcut
+rows_dangling rows known.Component = dangling_in known.Component rows.component (λ r. names rows of.Directory 3 r.directory or_else may_name rows (key_path_target r) 6 r.key_path)
+rows_dangling rows known.Condition = dangling_in known.Condition rows.condition (λ r. names rows of.Feature 1 r.feature)
+rows_dangling rows known.CreateFolder = dangling_in known.CreateFolder rows.create_folder (λ r. names rows of.Directory 1 r.directory or_else names rows of.Component 2 r.component)
+rows_dangling rows known.CustomAction = dangling_in known.CustomAction rows.custom_action (λ r. if sets_directory r.kind then must_name rows of.Directory 3 r.source else None)
+rows_dangling rows known.Directory = dangling_in known.Directory rows.directory (λ r. may_name rows of.Directory 2 r.directory_parent)
+rows_dangling rows known.DuplicateFile = dangling_in known.DuplicateFile rows.duplicate_file (λ r. names rows of.Component 2 r.component or_else names rows of.File 3 r.file)
+rows_dangling rows known.Environment = dangling_in known.Environment rows.environment (λ r. names rows of.Component 4 r.component)
+rows_dangling rows known.Feature = dangling_in known.Feature rows.feature (λ r. may_name rows of.Feature 2 r.feature_parent)
+rows_dangling rows known.FeatureComponents = dangling_in known.FeatureComponents rows.feature_components (λ r. names rows of.Feature 1 r.feature or_else names rows of.Component 2 r.component)
+rows_dangling rows known.File = dangling_in known.File rows.file (λ r. names rows of.Component 2 r.component)
+rows_dangling rows known.MsiFileHash = dangling_in known.MsiFileHash rows.msi_file_hash (λ r. names rows of.File 1 r.file)
+rows_dangling rows known.Registry = dangling_in known.Registry rows.registry (λ r. names rows of.Component 6 r.component)
+rows_dangling rows known.RemoveFile = dangling_in known.RemoveFile rows.remove_file (λ r. names rows of.Component 2 r.component)
+rows_dangling rows known.RemoveRegistry = dangling_in known.RemoveRegistry rows.remove_registry (λ r. names rows of.Component 5 r.component)
+rows_dangling rows known.Shortcut = dangling_in known.Shortcut rows.shortcut (λ r. names rows of.Directory 2 r.directory or_else names rows of.Component 4 r.component)
 rows_dangling rows other = None
 
 abbrev pub table_dangling : Rows → Listed → Option Fault

@@ -1,7 +1,9 @@
--- The rows of a table, and its first fault.
-use Rattle.std.specs.Prelude.{ℕ, ◌+◌, ◌&&◌, Bool, true, false, if◌then◌else◌, List, [], ◌∷◌, ◌++◌, map, length, nat_lt, Option, Some, None, option_map}
+-- The rows of a table, its first fault, and the files of a package. (Database Tables.)
+use Rattle.std.specs.Prelude.{ℕ, ◌+◌, ◌&&◌, Bool, true, false, if◌then◌else◌, List, [], ◌∷◌, ◌++◌, map, length, codes, nat_lt, Option, Some, None, option_map}
 use Rattle.std.specs.Str.{bytes_eq}
+use Rattle.std.specs.FinMap.{get}
 use Rattle.mi_text.specs.Maps.{Name}
+use Rattle.mi_source.specs.Paths.{Files, path_in}
 use Rattle.mi_base.specs.declared.answers.Fault.{Fault}
 use Rattle.mi_base.specs.declared.answers.Fault.TheVariants.{Idt, Columns, Unsupported, Value, Condition}
 use Rattle.mi_text.specs.declared.answers.IdtFault.TheVariants.{TooLarge}
@@ -112,3 +114,20 @@ table_fault t (Some bytes) = option_map (Idt t.name) (idt_fault bytes) or_else v
 abbrev pub table_rows : Table → Option (List ℕ) → List Row
 table_rows t None = []
 table_rows t (Some bytes) = rows_in t (spelled_value bytes)
+
+-- ---- what a folder holds of a package
+
+-- the bytes of each table's file, by the name of the table
+abbrev pub Content : Type 0
+Content = Name → Option (List ℕ)
+
+-- the file of a table
+abbrev pub table_path : Name → Name → Name
+table_path folder table = path_in folder (table ++ codes ".idt")
+
+abbrev pub content_of : Files → Name → Content
+content_of files folder = λ table. get files (table_path folder table)
+
+-- the rows of a table, as they stand in its file
+abbrev pub rows_at : Content → Table → List Row
+rows_at content t = table_rows t (content t.name)

@@ -1,5 +1,12 @@
--- The layouts of the known tables. (Database Tables.)
-use Rattle.std.specs.Prelude.{ℕ, pos, negsuc, Bool, true, false, List, [], ◌∷◌, codes}
+-- The layouts of the known tables, and the list of the tables that are known or refused, in byte order of their names.
+-- (Database Tables.)
+use Rattle.std.specs.Prelude.{ℕ, pos, negsuc, Bool, true, false, List, [], ◌∷◌, codes, map}
+use Rattle.mi_schema.specs.declared.column.Column.{Column as InCode}
+use Rattle.mi_schema.specs.declared.column.Layout.{Layout}
+use Rattle.mi_schema.specs.declared.known.Known.{Known}
+use Rattle.mi_schema.specs.declared.known.Known.TheVariants as of
+use Rattle.mi_schema.specs.declared.known.Listed.{Listed as InList}
+use Rattle.mi_schema.specs.declared.known.Listed.TheVariants as code
 use Rattle.mi_schema.specs.declared.column.Kind.{Kind}
 use Rattle.mi_schema.specs.declared.column.Kind.TheVariants.{Text, Name, Pattern, Formatted, Condition, Code, Integer}
 use Rattle.mi_schema.specs.declared.column.Rule.{Rule}
@@ -38,102 +45,71 @@ known n cs = record { name = n; columns = cs }
 abbrev pub refused : List ℕ → Table
 refused n = record { name = n; columns = [] }
 
--- ---- the list
+-- a column and a table as the program has them
+abbrev pub column_as : InCode → Column
+column_as c = record { name = c.name.now; kind = c.kind; nullable = c.nullable; key = c.key; rule = c.rule }
 
-abbrev pub component : Table
-component = known (codes "Component") (
+abbrev pub table_as : Layout → Table
+table_as t = record { name = t.name.now; columns = map column_as t.columns.now }
+
+-- ---- the layouts
+
+abbrev pub layout_of : Known → Table
+layout_of of.Component = known (codes "Component") (
     key (codes "Component") Text Free ∷ allows (codes "ComponentId") Code NewCode ∷ needs (codes "Directory_") Text Free
     ∷ needs (codes "Attributes") Integer (Without 97) ∷ allows (codes "Condition") Condition Free
     ∷ allows (codes "KeyPath") Text Free ∷ [])
-
-abbrev pub condition : Table
-condition = known (codes "Condition") (
+layout_of of.Condition = known (codes "Condition") (
     key (codes "Feature_") Text Free ∷ key (codes "Level") Integer Free ∷ allows (codes "Condition") Condition Free ∷ [])
-
-abbrev pub create_folder : Table
-create_folder = known (codes "CreateFolder") (key (codes "Directory_") Text Free ∷ key (codes "Component_") Text Free ∷ [])
-
-abbrev pub custom_action : Table
-custom_action = known (codes "CustomAction") (
+layout_of of.CreateFolder = known (codes "CreateFolder") (key (codes "Directory_") Text Free ∷ key (codes "Component_") Text Free ∷ [])
+layout_of of.CustomAction = known (codes "CustomAction") (
     key (codes "Action") Text Free ∷ needs (codes "Type") Integer Free ∷ allows (codes "Source") Text Free
     ∷ allows (codes "Target") Formatted Free ∷ [])
-
-abbrev pub directory : Table
-directory = known (codes "Directory") (
+layout_of of.Directory = known (codes "Directory") (
     key (codes "Directory") Text Free ∷ allows (codes "Directory_Parent") Text OneRoot
     ∷ needs (codes "DefaultDir") Text DefaultDir ∷ [])
-
-abbrev pub duplicate_file : Table
-duplicate_file = known (codes "DuplicateFile") (
+layout_of of.DuplicateFile = known (codes "DuplicateFile") (
     key (codes "FileKey") Text Free ∷ needs (codes "Component_") Text Free ∷ needs (codes "File_") Text Free
     ∷ allows (codes "DestName") Name Free ∷ allows (codes "DestFolder") Text Free ∷ [])
-
-abbrev pub environment : Table
-environment = known (codes "Environment") (
+layout_of of.Environment = known (codes "Environment") (
     key (codes "Environment") Text Free ∷ needs (codes "Name") Text Free ∷ allows (codes "Value") Formatted Free
     ∷ needs (codes "Component_") Text Free ∷ [])
-
-abbrev pub feature : Table
-feature = known (codes "Feature") (
+layout_of of.Feature = known (codes "Feature") (
     key (codes "Feature") Text Free ∷ allows (codes "Feature_Parent") Text Free ∷ allows (codes "Title") Text Free
     ∷ allows (codes "Description") Text Free ∷ allows (codes "Display") Integer Free ∷ needs (codes "Level") Integer Free
     ∷ allows (codes "Directory_") Text Free ∷ needs (codes "Attributes") Integer Free ∷ [])
-
-abbrev pub feature_components : Table
-feature_components = known (codes "FeatureComponents") (key (codes "Feature_") Text Free ∷ key (codes "Component_") Text Free ∷ [])
-
-abbrev pub file : Table
-file = known (codes "File") (
+layout_of of.FeatureComponents = known (codes "FeatureComponents") (key (codes "Feature_") Text Free ∷ key (codes "Component_") Text Free ∷ [])
+layout_of of.File = known (codes "File") (
     key (codes "File") Text Free ∷ needs (codes "Component_") Text Free ∷ needs (codes "FileName") Name Free
     ∷ needs (codes "FileSize") Integer (Within (pos 0) (pos 2147483647)) ∷ allows (codes "Version") Text VersionOrKey
     ∷ allows (codes "Language") Text Languages ∷ allows (codes "Attributes") Integer Free ∷ needs (codes "Sequence") Integer Free
     ∷ [])
-
-abbrev pub install_execute_sequence : Table
-install_execute_sequence = known (codes "InstallExecuteSequence") (
+layout_of of.InstallExecuteSequence = known (codes "InstallExecuteSequence") (
     key (codes "Action") Text Free ∷ allows (codes "Condition") Condition Free ∷ allows (codes "Sequence") Integer Free ∷ [])
-
-abbrev pub launch_condition : Table
-launch_condition = known (codes "LaunchCondition") (key (codes "Condition") Condition Free ∷ needs (codes "Description") Formatted Free ∷ [])
-
-abbrev pub msi_file_hash : Table
-msi_file_hash = known (codes "MsiFileHash") (
+layout_of of.LaunchCondition = known (codes "LaunchCondition") (key (codes "Condition") Condition Free ∷ needs (codes "Description") Formatted Free ∷ [])
+layout_of of.MsiFileHash = known (codes "MsiFileHash") (
     key (codes "File_") Text Free ∷ needs (codes "Options") Integer Free ∷ needs (codes "HashPart1") Integer Free
     ∷ needs (codes "HashPart2") Integer Free ∷ needs (codes "HashPart3") Integer Free ∷ needs (codes "HashPart4") Integer Free
     ∷ [])
-
-abbrev pub property : Table
-property = known (codes "Property") (key (codes "Property") Text PropertyName ∷ needs (codes "Value") Text PropertyValue ∷ [])
-
-abbrev pub registry : Table
-registry = known (codes "Registry") (
+layout_of of.Property = known (codes "Property") (key (codes "Property") Text PropertyName ∷ needs (codes "Value") Text PropertyValue ∷ [])
+layout_of of.Registry = known (codes "Registry") (
     key (codes "Registry") Text Free ∷ needs (codes "Root") Integer (Within (negsuc 0) (pos 3))
     ∷ needs (codes "Key") Formatted Free ∷ allows (codes "Name") Formatted Free ∷ allows (codes "Value") Formatted Free
     ∷ needs (codes "Component_") Text Free ∷ [])
-
-abbrev pub remove_file : Table
-remove_file = known (codes "RemoveFile") (
+layout_of of.RemoveFile = known (codes "RemoveFile") (
     key (codes "FileKey") Text Free ∷ needs (codes "Component_") Text Free ∷ allows (codes "FileName") Pattern Free
     ∷ needs (codes "DirProperty") Text Free ∷ needs (codes "InstallMode") Integer (Within (pos 1) (pos 3)) ∷ [])
-
-abbrev pub remove_registry : Table
-remove_registry = known (codes "RemoveRegistry") (
+layout_of of.RemoveRegistry = known (codes "RemoveRegistry") (
     key (codes "RemoveRegistry") Text Free ∷ needs (codes "Root") Integer (Within (negsuc 0) (pos 3))
     ∷ needs (codes "Key") Formatted Free ∷ allows (codes "Name") Formatted Free ∷ needs (codes "Component_") Text Free ∷ [])
-
-abbrev pub shortcut : Table
-shortcut = known (codes "Shortcut") (
+layout_of of.Shortcut = known (codes "Shortcut") (
     key (codes "Shortcut") Text Free ∷ needs (codes "Directory_") Text Free ∷ needs (codes "Name") Name Free
     ∷ needs (codes "Component_") Text Free ∷ needs (codes "Target") Formatted Free ∷ allows (codes "Arguments") Formatted Free
     ∷ allows (codes "Description") Text Free ∷ allows (codes "Hotkey") Integer (Within (pos 0) (pos 65535))
     ∷ allows (codes "Icon_") Text Free ∷ allows (codes "IconIndex") Integer (Within (negsuc 32766) (pos 32767))
     ∷ allows (codes "ShowCmd") Integer (Within (pos 0) (pos 65535)) ∷ allows (codes "WkDir") Text Free ∷ [])
-
-abbrev pub summary_information : Table
-summary_information = known (codes "_SummaryInformation") (key (codes "PropertyId") Integer Free ∷ allows (codes "Value") Text WordCount ∷ [])
-
-abbrev pub upgrade : Table
-upgrade = known (codes "Upgrade") (
+layout_of of.SummaryInformation = known (codes "_SummaryInformation") (key (codes "PropertyId") Integer Free ∷ allows (codes "Value") Text WordCount ∷ [])
+layout_of of.Upgrade = known (codes "Upgrade") (
     key (codes "UpgradeCode") Text Free ∷ key_or_null (codes "VersionMin") Text Free ∷ key_or_null (codes "VersionMax") Text Free
     ∷ key_or_null (codes "Language") Text Free ∷ key (codes "Attributes") Integer Free ∷ allows (codes "Remove") Text Free
     ∷ needs (codes "ActionProperty") Text Free ∷ [])
@@ -141,3 +117,37 @@ upgrade = known (codes "Upgrade") (
 -- the properties that each package has
 abbrev pub required_properties : List (List ℕ)
 required_properties = codes "Manufacturer" ∷ codes "ProductCode" ∷ codes "ProductLanguage" ∷ codes "ProductName" ∷ codes "ProductVersion" ∷ []
+
+-- ---- the list
+
+-- a known table, or one that is refused where it holds a row
+pub data Listed : Type 0 where
+  Loaded : (k : Known) → Listed
+  Refused : (name : List ℕ) → Listed
+
+abbrev pub table_of : Listed → Table
+table_of (Loaded k) = layout_of k
+table_of (Refused name) = refused name
+
+-- a table of the list as the program has it
+abbrev pub listed_as : InList → Listed
+listed_as (code.Known k) = Loaded k
+listed_as (code.Refused name) = Refused name.now
+
+unfoldable pub listed : List Listed
+listed =
+    Refused (codes "AppId") ∷ Refused (codes "BindImage") ∷ Refused (codes "Class") ∷ Refused (codes "Complus")
+    ∷ Loaded of.Component ∷ Loaded of.Condition ∷ Loaded of.CreateFolder ∷ Loaded of.CustomAction ∷ Loaded of.Directory
+    ∷ Loaded of.DuplicateFile ∷ Loaded of.Environment ∷ Refused (codes "Extension") ∷ Loaded of.Feature
+    ∷ Loaded of.FeatureComponents ∷ Loaded of.File ∷ Refused (codes "Font") ∷ Refused (codes "IniFile")
+    ∷ Loaded of.InstallExecuteSequence ∷ Refused (codes "IsolatedComponent") ∷ Loaded of.LaunchCondition
+    ∷ Refused (codes "LockPermissions") ∷ Refused (codes "MIME") ∷ Refused (codes "MoveFile") ∷ Refused (codes "MsiAssembly")
+    ∷ Loaded of.MsiFileHash ∷ Refused (codes "ODBCAttribute") ∷ Refused (codes "ODBCDataSource") ∷ Refused (codes "ODBCDriver")
+    ∷ Refused (codes "ODBCSourceAttribute") ∷ Refused (codes "ODBCTranslator") ∷ Refused (codes "ProgId") ∷ Loaded of.Property
+    ∷ Refused (codes "PublishComponent") ∷ Loaded of.Registry ∷ Loaded of.RemoveFile ∷ Refused (codes "RemoveIniFile")
+    ∷ Loaded of.RemoveRegistry ∷ Refused (codes "SelfReg") ∷ Refused (codes "ServiceControl") ∷ Refused (codes "ServiceInstall")
+    ∷ Loaded of.Shortcut ∷ Refused (codes "TypeLib") ∷ Loaded of.Upgrade ∷ Refused (codes "Verb") ∷ Loaded of.SummaryInformation
+    ∷ []
+
+abbrev pub tables : List Table
+tables = map table_of listed

@@ -1,10 +1,14 @@
 -- Which texts are values of their kind, or meet the rule of their column.
-use Rattle.std.specs.Prelude.{ℕ, ◌==◌, ◌&&◌, not, nat_le, Bool, true, if◌then◌else◌, List, length, codes, Option, Some, None, is_some}
+use Rattle.std.specs.Prelude.{ℕ, ◌==◌, ◌&&◌, not, nat_le, Bool, true, if◌then◌else◌, List, length, codes, Option, Some, None, is_some, Result, Ok, Err}
 use Rattle.std.specs.List.{slice_split, list_all}
 use Rattle.std.specs.Str.{bytes_eq}
 use Rattle.mi_text.specs.Guid.{guid_of}
 use Rattle.mi_text.specs.Version.{version_of}
 use Rattle.mi_idt.specs.Fields.{is_digit, number_within}
+use Rattle.mi_cond.specs.Tree.{Tree}
+use Rattle.mi_cond.specs.declared.error.CondFault.{CondFault}
+use Rattle.mi_cond.specs.declared.error.CondFault.TheVariants.{Syntax, TooDeep}
+use Rattle.mi_cond.specs.Answer as answer
 
 -- ---- numbers, languages and codes
 
@@ -35,3 +39,18 @@ is_value_of name text =
     else if bytes_eq name (codes "ProductVersion") then is_some (version_of text)
     else if bytes_eq name (codes "ProductLanguage") then is_language text
     else true
+
+-- ---- conditions (Conditional Statement Syntax)
+
+-- the place of a fault
+abbrev pub place_in : CondFault → ℕ
+place_in (Syntax place) = place
+place_in (TooDeep place) = place
+
+abbrev pub placed : Result Tree CondFault → Result Tree ℕ
+placed (Ok tree) = Ok tree
+placed (Err f) = Err (place_in f)
+
+-- the condition of a text, or the place of its fault
+unfoldable pub condition_of : List ℕ → Result Tree ℕ
+condition_of text = placed (answer.condition_of text)

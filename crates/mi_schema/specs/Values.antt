@@ -1,5 +1,5 @@
 -- The values of a row, and which of them are values of their columns.
-use Rattle.std.specs.Prelude.{ℕ, ℤ, pos, ◌==◌, ◌&&◌, ◌||◌, not, Bool, true, false, List, [], ◌∷◌, bit_and, int_le, Option, Some, None, is_some, is_none, unwrap_or, Result, Ok, Err}
+use Rattle.std.specs.Prelude.{◌≡◌, if◌then◌else◌, ℕ, ℤ, pos, ◌==◌, ◌&&◌, ◌||◌, not, Bool, true, false, List, [], ◌∷◌, bit_and, int_le, Option, Some, None, is_some, is_none, unwrap_or, Result, Ok, Err}
 use Rattle.std.specs.Int.{cast_unsigned, w32}
 use Rattle.std.specs.Ordering.{int_eq}
 use Rattle.std.specs.Option.{option_map_or}
@@ -22,8 +22,7 @@ use Rattle.mi_schema.specs.declared.column.Kind.{Kind}
 use Rattle.mi_schema.specs.declared.column.Kind.TheVariants as kind
 use Rattle.mi_schema.specs.declared.column.Rule.{Rule}
 use Rattle.mi_schema.specs.declared.column.Rule.TheVariants as rule
-use Rattle.mi_schema.specs.Conditions.{condition_of}
-use Rattle.mi_schema.specs.Texts.{is_decimal, are_languages, is_value_of}
+use Rattle.mi_schema.specs.Texts.{condition_of, is_decimal, are_languages, is_value_of}
 use Rattle.mi_schema.specs.Tables.{Column}
 
 -- the values of a row in the known columns; None is null
@@ -159,3 +158,43 @@ meets rule.VersionOrKey keys before front cell = if_text (λ text. is_some (vers
 meets rule.Languages keys before front cell = if_text are_languages cell
 meets rule.WordCount keys before front cell = not (int_eq (number_in (cell_at front 0)) (pos 15)) || is_decimal (unwrap_or (text_in cell) [])
 meets rule.Free keys before front cell = true
+
+-- ---- rows whose values are of the types of their columns (Column Data Types)
+
+-- a value of the type that the kind has
+abbrev pub suits_kind : Kind → Cell → Bool
+suits_kind kind.Integer (Integer z) = true
+suits_kind kind.Code (Code code) = true
+suits_kind kind.Condition (Condition text tree) = true
+suits_kind kind.Text (Text text) = true
+suits_kind kind.Name (Text text) = true
+suits_kind kind.Pattern (Text text) = true
+suits_kind kind.Formatted (Text text) = true
+suits_kind kind other = false
+
+-- null only where the column allows it
+abbrev pub suits : Column → Option Cell → Bool
+suits c None = c.nullable
+suits c (Some value) = suits_kind c.kind value
+
+-- a value for each column, and no more
+abbrev pub all_suit : List Column → Row → Bool
+all_suit [] [] = true
+all_suit (c ∷ cs) (x ∷ xs) = suits c x && all_suit cs xs
+all_suit cs xs = false
+
+-- ---- keys
+
+-- a value in a key: a condition stands as its text
+abbrev pub key_cell : Option Cell → Option Cell
+key_cell (Some (Condition text tree)) = Some (Text text)
+key_cell other = other
+
+-- the values of a row in the key columns
+abbrev pub key_cells : List Column → Row → Row
+key_cells (c ∷ cs) (x ∷ xs) = if c.key then key_cell x ∷ key_cells cs xs else key_cells cs xs
+key_cells cs xs = []
+
+-- keys that compare equal have the same values in the key columns
+abbrev pub KeysTell : {K : Type 0} → (K → K → Bool) → (Row → K) → List Column → Type 0
+KeysTell eq key cs = (a b : Row) → all_suit cs a ≡ true → all_suit cs b ≡ true → eq (key a) (key b) ≡ true → key_cells cs a ≡ key_cells cs b

@@ -3,7 +3,7 @@
 ghost use Rattle.std.specs.Prelude.{◌≡◌, ◌≤◌, ℕ, List, Option, map, length, codes, IfOk, option_map, option_and_then};
 ghost use Rattle.std.specs.Map.{keys_of};
 ghost use Rattle.mi_text.specs.Maps.{Name};
-ghost use Rattle.mi_schema.specs.Answers.{Answers};
+ghost use Rattle.mi_schema.specs.Reads.{Answers};
 ghost use Rattle.mi_schema.specs.Checks.{companion_of, parent_of_directory, row_with, parents_of, chain_fault, cycles_fault};
 ghost use Rattle.mi_schema.specs.Laws.{TablesSmall};
 ghost use Rattle.mi_schema.specs.RowsOf.{rows_in, behind, AreNamed};

@@ -1,6 +1,6 @@
 //! What the rows of all tables have to meet together, and the form of the source files.
 
-ghost use Rattle.mi_schema.specs.Answers.{Answers};
+ghost use Rattle.mi_schema.specs.Reads.{Answers};
 ghost use Rattle.mi_schema.specs.Checks.{package_fault, first_fault, missing_property, required_fault, compressed_fault};
 ghost use Rattle.mi_schema.specs.Laws.{TablesSmall};
 ghost use Rattle.mi_schema.specs.RowsOf.{rows_in, behind, AreNamed};

@@ -2,7 +2,7 @@
 
 ghost use Rattle.std.specs.Prelude.{◌≡◌};
 ghost use Rattle.mi_schema.specs.declared.error.LoadError.TheVariants.{NoMemory as no_memory, Source as source_failed};
-ghost use Rattle.mi_schema.specs.Answers.{error_of};
+ghost use Rattle.mi_schema.specs.Reads.{error_of};
 
 use mi_base::{Fault, NoMemory};
 use mi_source::{Failed, SrcFault};

@@ -1,7 +1,7 @@
 //! The known tables by name, and the list of the tables that are known or refused (Database Tables).
 
 ghost use Rattle.std.specs.Prelude.{◌≡◌, map};
-ghost use Rattle.mi_schema.specs.Listed.{listed, listed_as};
+ghost use Rattle.mi_schema.specs.Tables.{listed, listed_as};
 
 /// A known table (Database Tables).
 #[derive(Clone, Copy, PartialEq, Eq)]
@@ -38,14 +38,14 @@ pub enum Target {
     Registry,
 }
 
-// Hands a macro each known table with its layout and the field of its rows.
+// Hands a macro each known table with its layout and the field of its rows, in two lists.
 macro_rules! each_table {
     ($then:ident: $($with:ident),*) => {
         $then!($($with),*: Component COMPONENT component, Condition CONDITION condition,
             CreateFolder CREATE_FOLDER create_folder, CustomAction CUSTOM_ACTION custom_action,
             Directory DIRECTORY directory, DuplicateFile DUPLICATE_FILE duplicate_file,
             Environment ENVIRONMENT environment, Feature FEATURE feature,
-            FeatureComponents FEATURE_COMPONENTS feature_components, File FILE file,
+            FeatureComponents FEATURE_COMPONENTS feature_components, File FILE file;
             InstallExecuteSequence INSTALL_EXECUTE_SEQUENCE install_execute_sequence,
             LaunchCondition LAUNCH_CONDITION launch_condition,
             MsiFileHash MSI_FILE_HASH msi_file_hash, Property PROPERTY property,
@@ -86,7 +86,7 @@ const LISTED: [Listed; 45] = all!(
 );
 
 /// Every table that is known or refused, in byte order of the names.
-#[tactic(auto, unfolding(crate::specs::Listed::listed))]
+#[tactic(auto, unfolding(crate::specs::Tables::listed))]
 pub fn tables() -> &'static [Listed]
     ensures { map listed_as result.now ≡ listed }
 {

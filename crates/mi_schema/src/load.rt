@@ -2,12 +2,11 @@
 
 ghost use Rattle.std.specs.Prelude.{◌≡◌, ◌≤◌, IfErr, IfOk, OnOk, None};
 ghost use Rattle.mi_source.specs.Counts.{Rose};
-ghost use Rattle.mi_schema.specs.Answers.{Answers, Fails, IsCounted};
+ghost use Rattle.mi_schema.specs.Reads.{Answers, Fails, IsCounted};
 ghost use Rattle.mi_schema.specs.Lawful.{IsLawful};
-ghost use Rattle.mi_schema.specs.Listed.{layout_of, table_of, tables, listed_as};
-ghost use Rattle.mi_schema.specs.Loaded.{IsPut, IsOther, AreLoaded};
-ghost use Rattle.mi_schema.specs.Package.{IsPackage, HoldsAll};
-ghost use Rattle.mi_schema.specs.RowsOf.{folder_rows, rows_in};
+ghost use Rattle.mi_schema.specs.Tables.{table_of, tables, listed_as, layout_of};
+ghost use Rattle.mi_schema.specs.Loaded.{IsPut, IsLate, IsOther, AreLoaded};
+ghost use Rattle.mi_schema.specs.RowsOf.{IsPackage, HoldsAll, folder_rows, rows_in};
 ghost use Rattle.mi_schema.specs.Rows.{table_fault};
 ghost use Rattle.mi_schema.specs.Checks.{Content, content_of, tables_fault, missing_table, missing_fault, load_fault};
 
@@ -21,12 +20,43 @@ use mi_base::{Fault, Text};
 use mi_source::Source;
 use std::alloc::Global;
 
-macro_rules! load_into {
-    ($alloc:ident, $src:ident, $folder:ident, $known:ident, $loaded:ident: $($table:ident $layout:ident $rows:ident),*) => {
+// A match over all tables is two functions, since the proof of one would take more than a minute.
+macro_rules! early_tables {
+    ($alloc:ident, $src:ident, $folder:ident, $known:ident, $loaded:ident:
+        $($table:ident $layout:ident $rows:ident),*; $($late:ident $of:ident $more:ident),*) => {
         match $known {
             $(Known::$table => load_table($alloc, $src, $folder, &rows::$layout, &mut $loaded.$rows),)*
+            $(Known::$late)|* => load_late($alloc, $src, $folder, $known, $loaded),
         }
     };
+}
+
+macro_rules! late_tables {
+    ($alloc:ident, $src:ident, $folder:ident, $known:ident, $loaded:ident:
+        $($table:ident $layout:ident $rows:ident),*; $($late:ident $of:ident $more:ident),*) => {
+        match $known {
+            $(Known::$late => load_table($alloc, $src, $folder, &rows::$of, &mut $loaded.$more),)*
+            $(Known::$table)|* => unreachable!(),
+        }
+    };
+}
+
+/// Reads the rows of a known table of the second list in a folder into a package.
+fn load_late<S: Source>(
+    alloc: Global,
+    src: &mut S,
+    folder: &str,
+    known: Known,
+    loaded: &mut Package,
+) -> Checked
+    requires { IsLate known }
+    ensures put { OnOk result (IsPut S.told (content_of (S.files src.old) folder.now) (layout_of known) loaded.old loaded.new) }
+    ensures fault { S.told → IfErr result (Fails (Rose (S.faults src.old) (S.faults src.new)) (table_fault (layout_of known) (content_of (S.files src.old) folder.now (layout_of known).name))) }
+    ensures counted { IsCounted (Rose (S.faults src.old) (S.faults src.new)) result }
+    ensures stays { S.files src.new ≡ S.files src.old }
+    ensures counts { S.faults src.old ≤ S.faults src.new }
+{
+    each_table!(late_tables: alloc, src, folder, known, loaded)
 }
 
 /// Reads the rows of a known table in a folder into a package.
@@ -43,7 +73,7 @@ fn load_known<S: Source>(
     ensures stays { S.files src.new ≡ S.files src.old }
     ensures counts { S.faults src.old ≤ S.faults src.new }
 {
-    each_table!(load_into: alloc, src, folder, known, loaded)
+    each_table!(early_tables: alloc, src, folder, known, loaded)
 }
 
 /// Reads a table of the list in a folder into a package.

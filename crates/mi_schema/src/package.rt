@@ -37,19 +37,19 @@ pub struct Package {
 }
 
 macro_rules! without_rows {
-    ($alloc:ident: $($table:ident $layout:ident $rows:ident),*) => {
+    ($alloc:ident: $($table:ident $layout:ident $rows:ident),*; $($late:ident $of:ident $more:ident),*) => {
         Package {
             short_names: false,
-            $($rows: IndexMap::new($alloc)),*
+            $($rows: IndexMap::new($alloc),)*
+            $($more: IndexMap::new($alloc)),*
         }
     };
 }
 
 impl Package {
     ghost use Rattle.std.specs.Prelude.{◌≡◌, None};
-    ghost use Rattle.mi_schema.specs.Package.{HoldsAll};
+    ghost use Rattle.mi_schema.specs.RowsOf.{HoldsAll, rows_in, AreNamed};
     ghost use Rattle.mi_schema.specs.References.{keys_in};
-    ghost use Rattle.mi_schema.specs.RowsOf.{rows_in, AreNamed};
     ghost use Rattle.mi_schema.specs.Values.{is_key_in};
 
     /// A package without rows.

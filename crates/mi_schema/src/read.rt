@@ -8,7 +8,7 @@ ghost use Rattle.mi_idt.specs.Spells.{SpellsInteger};
 ghost use Rattle.mi_schema.specs.declared.cell.Cell.TheVariants.{Text as text_cell, Integer as integer_cell};
 ghost use Rattle.mi_schema.specs.Values.{unless, text_fault, text_value, kind_fault, value_of};
 ghost use Rattle.mi_schema.specs.Reads.{ReadsAs, FitsKind};
-ghost use Rattle.mi_schema.specs.Conditions.{place_in};
+ghost use Rattle.mi_schema.specs.Texts.{place_in};
 
 use crate::cell::{Bad, Cell, CellError};
 use crate::column::{Column, Kind};

@@ -1,7 +1,7 @@
 //! Rows that name rows of other tables.
 
 ghost use Rattle.std.specs.Prelude.{◌≡◌, ◌≤◌, ℕ, Option, length};
-ghost use Rattle.mi_schema.specs.Answers.{Answers};
+ghost use Rattle.mi_schema.specs.Reads.{Answers};
 ghost use Rattle.mi_schema.specs.Checks.{references_fault};
 ghost use Rattle.mi_schema.specs.Laws.{TablesSmall};
 ghost use Rattle.mi_schema.specs.References.{names, may_name, must_name, key_path_target, sets_directory, first_dangling, rows_dangling};

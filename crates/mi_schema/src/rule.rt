@@ -1,6 +1,6 @@
-//! The rules that values meet beside their kind.
+//! The rules that values meet beside their kind, and what is known of the rows of a table that were read before.
 
-ghost use Rattle.std.specs.Prelude.{◌≡◌, ◌&&◌, ◌||◌, not, pos, is_none, is_some, int_le, unwrap_or, [], List};
+ghost use Rattle.std.specs.Prelude.{◌≡◌, ◌&&◌, ◌||◌, ◌++◌, ◌∷◌, not, pos, is_none, is_some, int_le, unwrap_or, [], List, OnOk};
 ghost use Rattle.std.specs.Ordering.{int_eq};
 ghost use Rattle.std.specs.Option.{option_copied};
 ghost use Rattle.mi_text.specs.FileNames.{is_default_dir};
@@ -8,16 +8,15 @@ ghost use Rattle.mi_text.specs.Maps.{Name};
 ghost use Rattle.mi_text.specs.PropertyNames.{is_property_name};
 ghost use Rattle.mi_text.specs.Version.{version_of};
 ghost use Rattle.mi_schema.specs.Texts.{are_languages, is_decimal, is_value_of};
-ghost use Rattle.mi_schema.specs.Keys.{KnowsKeys};
-ghost use Rattle.mi_schema.specs.Seen.{IsSeen};
-ghost use Rattle.mi_schema.specs.Values.{Row, cell_at, text_in, number_in, is_root_below, is_root, lacks, meets, if_text, is_key_in};
+ghost use Rattle.mi_schema.specs.Reads.{KnowsKeys, IsSeen};
+ghost use Rattle.mi_schema.specs.Values.{Row, cell_at, code_at, text_in, number_in, is_new_code, is_root_below, is_root, lacks, meets, if_text, is_key_in};
 
 use crate::cell::{Cell, number_at, number_in, some_text_at, text_at, text_in};
 use crate::column::Rule;
-use crate::seen::Seen;
 use crate::text::{are_languages, is_decimal, is_value_of, is_version};
-use mi_base::{is_default_dir, is_property_name};
-use std::collections::BTreeMap;
+use mi_base::{NoMemory, is_default_dir, is_property_name};
+use std::alloc::Global;
+use std::collections::{BTreeMap, BTreeSet};
 
 /// Whether a row of Directory is a root row, by its key and its parent.
 pub fn is_root_below(own: &str, parent: Option<&str>) -> bool
@@ -91,5 +90,57 @@ pub fn meets(
         Rule::Languages => text.is_none_or(|text| are_languages(text)),
         Rule::WordCount => counts_words(front, cell),
         Rule::Free => true,
+    }
+}
+
+/// Of rows: whether there is a root row of Directory among them, and the ids of Component among them.
+#[derive(Drop)]
+pub struct Seen {
+    pub root: bool,
+    codes: BTreeSet<u128>,
+}
+
+/// The code in the second column.
+fn code_of(row: &[Option<Cell>]) -> Option<u128>
+    ensures { result ≡ code_at row.now }
+{
+    match row.get(1) {
+        Some(Some(Cell::Code(code))) => Some(code.number),
+        _ => None,
+    }
+}
+
+impl Seen {
+    /// No rows.
+    pub fn new(alloc: Global) -> Seen
+        ensures { IsSeen result [] }
+    {
+        Seen {
+            root: false,
+            codes: BTreeSet::new(alloc),
+        }
+    }
+
+    /// Whether no row has this code.
+    pub fn is_new(&self, cell: &Option<Cell>) -> bool
+        ensures { (before : List Row) → IsSeen self.now before → result ≡ is_new_code before cell.now }
+    {
+        match cell {
+            Some(Cell::Code(code)) => !self.codes.contains(&code.number),
+            _ => true,
+        }
+    }
+
+    /// One row more.
+    pub fn add(&mut self, row: &[Option<Cell>]) -> Result<(), NoMemory>
+        ensures { OnOk result ((before : List Row) → IsSeen self.old before → IsSeen self.new (before ++ row.now ∷ [])) }
+    {
+        if is_root(row) {
+            self.root = true;
+        }
+        if let Some(code) = code_of(row) {
+            self.codes.insert(code)?;
+        }
+        Ok(())
     }
 }

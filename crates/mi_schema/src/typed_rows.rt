@@ -4,13 +4,12 @@
 ghost use Rattle.mi_schema.specs.declared.known.Known.TheVariants as of;
 ghost use Rattle.mi_schema.specs.TypedRows.{property_row, directory_row, component_row, feature_row, feature_components_row, condition_row, file_row, msi_file_hash_row, remove_file_row, create_folder_row, duplicate_file_row, registry_row, remove_registry_row, environment_row, shortcut_row, launch_condition_row, custom_action_row, install_execute_sequence_row, upgrade_row, summary_information_row};
 
-use crate::cell::Row;
+use crate::cell::{
+    Row, cells, condition_of, number, some_code, some_condition, some_number, some_text, text,
+};
 use crate::column::{Column, Kind, Layout, Rule};
 use crate::package::UpgradeKey;
 use crate::table_row::TableRow;
-use crate::typed::{
-    cells, condition_of, number, some_code, some_condition, some_number, some_text, text,
-};
 use mi_base::{Guid, Text};
 use mi_cond::Cond;
 use std::alloc::Global;

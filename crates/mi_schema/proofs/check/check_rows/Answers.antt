@@ -4,7 +4,7 @@ use Rattle.mi_schema.specs.Rows.{◌or_else◌}
 use Rattle.mi_schema.specs.RowsOf.{rows_in}
 use Rattle.std.proofs.Common.{Option, sym, ap, subst, ◌∙◌}
 use Rattle.mi_base.specs.declared.answers.Fault.{Fault}
-use Rattle.mi_schema.specs.Answers.{Answers}
+use Rattle.mi_schema.specs.Reads.{Answers}
 use Rattle.mi_schema.proofs.RowLemmas.{fails_first, fails_then}
 use Rattle.mi_schema.proofs.check.check_rows.Goals as goal
 

@@ -2,9 +2,8 @@ use Rattle.std.proofs.Common.{◌≡◌, ◌∙◌, None, refl, ap, subst}
 use Rattle.std.proofs.lemmas.Result.{err_from_is_err_and}
 use Rattle.mi_source.specs.Paths.{Files}
 use Rattle.mi_schema.specs.Checks.{Content, content_of, tables_fault}
-use Rattle.mi_schema.specs.Listed.{tables}
-use Rattle.mi_schema.specs.Package.{IsPackage}
-use Rattle.mi_schema.specs.RowsOf.{rows_of_content}
+use Rattle.mi_schema.specs.Tables.{tables}
+use Rattle.mi_schema.specs.RowsOf.{IsPackage, rows_of_content}
 use Rattle.mi_schema.proofs.LawfulLaws.{of_folder}
 use Rattle.mi_schema.proofs.PackageLaws.{are_named, tables_small}
 use Rattle.mi_schema.proofs.RowLaws.{rows_in-IsPackage}

@@ -1,7 +1,7 @@
 use Rattle.std.proofs.Common.{OnOk, sym, subst}
 use Rattle.mi_schema.specs.declared.known.Listed.{Listed as InCode}
 use Rattle.mi_schema.specs.Checks.{content_of}
-use Rattle.mi_schema.specs.Listed.{table_of, listed_as}
+use Rattle.mi_schema.specs.Tables.{table_of, listed_as}
 use Rattle.mi_schema.specs.Loaded.{IsPut, IsOther}
 use Rattle.mi_schema.proofs.LoadLemmas.{on_ok, refused_holds}
 use Rattle.mi_schema.proofs.load.load_listed.Goals as goal

@@ -2,7 +2,7 @@ use Rattle.std.proofs.Common.{◌≡◌, List, map, length, ap, subst, ◌∙◌
 use Rattle.std.proofs.lemmas.Result.{err_from_is_err_and}
 use Rattle.std.proofs.lemmas.List.{length-map}
 use Rattle.mi_source.specs.Counts.{Rose}
-use Rattle.mi_schema.specs.Answers.{Fails}
+use Rattle.mi_schema.specs.Reads.{Fails}
 use Rattle.mi_schema.specs.Checks.{content_of, tables_fault}
 use Rattle.mi_schema.specs.Tables.{Table}
 use Rattle.mi_schema.proofs.ListLemmas.{map_next, map_done}

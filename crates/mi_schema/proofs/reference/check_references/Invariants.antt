@@ -1,6 +1,6 @@
 use Rattle.std.proofs.Common.{◌≡◌, map, drop}
 use Rattle.mi_schema.specs.Checks.{first_fault}
-use Rattle.mi_schema.specs.Listed.{listed_as}
+use Rattle.mi_schema.specs.Tables.{listed_as}
 use Rattle.mi_schema.specs.References.{table_dangling}
 use Rattle.mi_schema.specs.RowsOf.{rows_in}
 use Rattle.mi_schema.proofs.reference.check_references.Given as goal

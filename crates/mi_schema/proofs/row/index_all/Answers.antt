@@ -7,9 +7,9 @@ use Rattle.mi_text.specs.Maps.{Name, same_name}
 use Rattle.mi_idt.specs.Means.{meaning}
 use Rattle.mi_dirs.specs.Places.{first_row}
 use Rattle.mi_dirs.proofs.RowLemmas.{index_more, index_same}
-use Rattle.mi_schema.specs.Described.{table_as}
+use Rattle.mi_schema.specs.Tables.{table_as}
 use Rattle.mi_schema.specs.Rows.{keys_of}
-use Rattle.mi_schema.specs.Keys.{KnowsKeys}
+use Rattle.mi_schema.specs.Reads.{KnowsKeys}
 use Rattle.mi_schema.specs.Values.{row_of}
 use Rattle.mi_schema.proofs.FitLemmas.{rows_long}
 use Rattle.mi_schema.proofs.RowLemmas.{keys_next, keys_long}

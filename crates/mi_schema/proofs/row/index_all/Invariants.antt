@@ -1,7 +1,7 @@
 use Rattle.std.proofs.Common.{map, take}
 use Rattle.mi_idt.specs.Means.{meaning}
-use Rattle.mi_schema.specs.Described.{table_as}
-use Rattle.mi_schema.specs.Keys.{KnowsKeys}
+use Rattle.mi_schema.specs.Tables.{table_as}
+use Rattle.mi_schema.specs.Reads.{KnowsKeys}
 use Rattle.mi_schema.specs.Rows.{keys_of}
 use Rattle.mi_schema.specs.Values.{row_of}
 use Rattle.mi_schema.proofs.row.index_all.Given as goal

@@ -3,7 +3,7 @@ use Rattle.std.specs.BTreeMap.{get_by_text}
 use Rattle.mi_text.specs.Maps.{Name, same_name}
 use Rattle.mi_dirs.specs.Places.{first_row}
 use Rattle.mi_idt.specs.Means.{meaning}
-use Rattle.mi_schema.specs.Keys.{KnowsKeys}
+use Rattle.mi_schema.specs.Reads.{KnowsKeys}
 use Rattle.mi_schema.proofs.KnownLemmas.{asked_on, asked_off}
 use Rattle.mi_schema.proofs.row.index_of.Goals as goal
 

@@ -1,7 +1,7 @@
 use Rattle.std.proofs.Common.{List, ℕ, Option, Some, map, subst, ◌∙◌, arith}
 use Rattle.std.proofs.lemmas.List.{length-map}
 use Rattle.mi_idt.specs.Means.{Shows, cell_at, meaning}
-use Rattle.mi_schema.specs.Described.{column_as}
+use Rattle.mi_schema.specs.Tables.{column_as}
 use Rattle.mi_schema.proofs.FitLemmas.{row_fits, columns_there, key_of_text, key_of_none}
 use Rattle.mi_schema.proofs.row.key_of.Goals as goal
 

@@ -1,7 +1,7 @@
 use Rattle.std.proofs.Common.{◌+◌, map, arith}
 use Rattle.std.proofs.lemmas.List.{length-map}
-use Rattle.mi_schema.specs.Described.{column_as}
-use Rattle.mi_schema.specs.Read.{raw_row}
+use Rattle.mi_schema.specs.Tables.{column_as}
+use Rattle.mi_schema.specs.Reads.{raw_row}
 use Rattle.mi_schema.proofs.FitLemmas.{row_fits, fit_at, columns_there, few_rows, few_columns}
 use Rattle.mi_schema.proofs.RowLemmas.{reads_more, fault_here, reads_all, refused_as}
 use Rattle.mi_schema.proofs.row.read_row.Goals as goal

@@ -1,9 +1,7 @@
 use Rattle.std.proofs.Common.{◌+◌, List, map}
 use Rattle.mi_text.specs.Maps.{Name}
-use Rattle.mi_schema.specs.Described.{column_as}
-use Rattle.mi_schema.specs.Read.{raw_row}
-use Rattle.mi_schema.specs.Keys.{KnowsKeys}
-use Rattle.mi_schema.specs.Seen.{IsSeen}
+use Rattle.mi_schema.specs.Tables.{column_as}
+use Rattle.mi_schema.specs.Reads.{raw_row, KnowsKeys, IsSeen}
 use Rattle.mi_schema.specs.Values.{Row}
 use Rattle.mi_schema.proofs.RowLemmas.{IsReading}
 use Rattle.mi_schema.proofs.row.read_row.Given as goal

@@ -2,14 +2,10 @@ use Rattle.std.proofs.Common.{◌≡◌, ◌<◌, ◌+◌, List, length, map, ta
 use Rattle.std.proofs.lemmas.Result.{err_from_is_err_and}
 use Rattle.std.proofs.Math.Seq.{take-length}
 use Rattle.mi_idt.specs.Means.{meaning}
-use Rattle.mi_schema.specs.Described.{table_as}
-use Rattle.mi_schema.specs.Keys.{keys_asked}
-use Rattle.mi_schema.specs.Listed.{layout_of}
-use Rattle.mi_schema.specs.Package.{keyed}
-use Rattle.mi_schema.specs.Seen.{IsSeen}
-use Rattle.mi_schema.specs.Suits.{KeysTell}
-use Rattle.mi_schema.specs.Tables.{Table}
-use Rattle.mi_schema.specs.Values.{Row, row_of}
+use Rattle.mi_schema.specs.Tables.{table_as, layout_of, Table}
+use Rattle.mi_schema.specs.Reads.{keys_asked, IsSeen}
+use Rattle.mi_schema.specs.RowsOf.{keyed}
+use Rattle.mi_schema.specs.Values.{KeysTell, Row, row_of}
 use Rattle.mi_schema.proofs.FitLemmas.{rows_long}
 use Rattle.mi_schema.proofs.KnownLemmas.{asked, keys_tell_known, has_begun, suits_here, spelled_differ}
 use Rattle.mi_schema.proofs.RowLemmas.{before_more, rows_more, rows_fault_here, rows_all, passed_on}

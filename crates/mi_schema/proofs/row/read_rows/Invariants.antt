@@ -1,9 +1,8 @@
 use Rattle.std.proofs.Common.{◌≡◌, true, map, take}
 use Rattle.mi_idt.specs.Means.{meaning}
-use Rattle.mi_schema.specs.Described.{table_as}
-use Rattle.mi_schema.specs.Keys.{keys_asked}
-use Rattle.mi_schema.specs.Package.{keyed}
-use Rattle.mi_schema.specs.Seen.{IsSeen}
+use Rattle.mi_schema.specs.Tables.{table_as}
+use Rattle.mi_schema.specs.Reads.{keys_asked, IsSeen}
+use Rattle.mi_schema.specs.RowsOf.{keyed}
 use Rattle.mi_schema.specs.Values.{row_of}
 use Rattle.mi_schema.proofs.RowLemmas.{SameRows}
 use Rattle.mi_schema.proofs.Words.{each_suits}

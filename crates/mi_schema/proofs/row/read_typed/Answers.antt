@@ -1,11 +1,8 @@
 use Rattle.std.proofs.Common.{◌≡◌, ◌<◌, ◌∷◌, [], ◌++◌, length, true, ap, subst, ◌∙◌, arith}
 use Rattle.std.proofs.lemmas.Result.{err_from_is_err_and}
-use Rattle.mi_schema.specs.Described.{table_as}
-use Rattle.mi_schema.specs.Listed.{layout_of}
-use Rattle.mi_schema.specs.Seen.{IsSeen}
-use Rattle.mi_schema.specs.Suits.{all_suit}
-use Rattle.mi_schema.specs.Tables.{Table}
-use Rattle.mi_schema.specs.Values.{Row}
+use Rattle.mi_schema.specs.Tables.{table_as, layout_of, Table}
+use Rattle.mi_schema.specs.Reads.{IsSeen}
+use Rattle.mi_schema.specs.Values.{all_suit, Row}
 use Rattle.mi_schema.proofs.KnownLemmas.{suits_here}
 use Rattle.mi_schema.proofs.RowsLemmas.{paired, is_long}
 use Rattle.mi_schema.proofs.row.read_typed.Goals as goal

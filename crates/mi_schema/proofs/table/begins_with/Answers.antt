@@ -1,7 +1,7 @@
 use Rattle.std.proofs.Common.{map, sym, arith}
 use Rattle.std.proofs.lemmas.List.{length-map}
 use Rattle.mi_idt.specs.Means.{column_value}
-use Rattle.mi_schema.specs.Described.{column_as}
+use Rattle.mi_schema.specs.Tables.{column_as}
 use Rattle.mi_schema.proofs.ColumnLemmas.{begins_short}
 use Rattle.mi_schema.proofs.table.begins_with.Goals as goal
 

@@ -1,6 +1,6 @@
 use Rattle.std.proofs.Common.{◌≡◌, map, drop}
 use Rattle.mi_idt.specs.Means.{column_value}
-use Rattle.mi_schema.specs.Described.{column_as}
+use Rattle.mi_schema.specs.Tables.{column_as}
 use Rattle.mi_schema.specs.Rows.{begins_with}
 use Rattle.mi_schema.proofs.table.begins_with.Given as goal
 

@@ -1,6 +1,6 @@
 use Rattle.std.proofs.Common.{◌≡◌, ◌≤◌, length, map, drop}
 use Rattle.std.specs.Str.{bytes_eq}
-use Rattle.mi_schema.specs.Described.{column_as}
+use Rattle.mi_schema.specs.Tables.{column_as}
 use Rattle.mi_schema.specs.Rows.{key_places}
 use Rattle.mi_schema.proofs.table.has_keys.Given as goal
 

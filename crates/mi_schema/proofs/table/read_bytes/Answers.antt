@@ -1,7 +1,7 @@
 use Rattle.std.proofs.Common.{◌≡◌}
 use Rattle.mi_idt.specs.Means.{meaning}
-use Rattle.mi_schema.specs.Described.{table_as}
-use Rattle.mi_schema.specs.Package.{keyed}
+use Rattle.mi_schema.specs.Tables.{table_as}
+use Rattle.mi_schema.specs.RowsOf.{keyed}
 use Rattle.mi_schema.specs.Rows.{rows_in}
 use Rattle.mi_schema.proofs.TableLemmas.{read_spelled}
 use Rattle.mi_schema.proofs.table.read_bytes.Goals as goal

@@ -3,8 +3,8 @@ use Rattle.std.proofs.lemmas.Result.{err_from_is_err_and}
 use Rattle.mi_base.specs.declared.answers.Fault.{Fault}
 use Rattle.mi_base.specs.declared.answers.Fault.TheVariants.{Columns}
 use Rattle.mi_idt.specs.Means.{meaning}
-use Rattle.mi_schema.specs.Answers.{Fails}
-use Rattle.mi_schema.specs.Described.{table_as}
+use Rattle.mi_schema.specs.Reads.{Fails}
+use Rattle.mi_schema.specs.Tables.{table_as}
 use Rattle.mi_schema.specs.Rows.{is_refused}
 use Rattle.mi_schema.proofs.KnownLemmas.{never_refused, value_known, value_other}
 use Rattle.mi_schema.proofs.table.read_spelled.Goals as goal

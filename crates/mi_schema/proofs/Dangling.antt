@@ -1,0 +1,53 @@
+-- Of each table that names rows, the first column of a row that names one that isn't there.
+use Rattle.std.proofs.Common.{ℕ, Option, None}
+use Rattle.std.specs.Prelude.{if◌then◌else◌}
+use Rattle.mi_schema.specs.declared.known.Target.TheVariants as of
+use Rattle.mi_schema.specs.References.{names, may_name, must_name, key_path_target, sets_directory}
+use Rattle.mi_schema.specs.Rows.{◌or_else◌}
+use Rattle.mi_schema.specs.TableRows.{Rows}
+use Rattle.mi_schema.specs.TypedRows.{ComponentRow, ConditionRow, CreateFolderRow, CustomActionRow, DirectoryRow, DuplicateFileRow, EnvironmentRow, FeatureRow, FeatureComponentsRow, FileRow, MsiFileHashRow, RegistryRow, RemoveFileRow, RemoveRegistryRow, ShortcutRow}
+
+abbrev pub component_dangling : Rows → ComponentRow → Option ℕ
+component_dangling rows r = names rows of.Directory 3 r.directory or_else may_name rows (key_path_target r) 6 r.key_path
+
+abbrev pub condition_dangling : Rows → ConditionRow → Option ℕ
+condition_dangling rows r = names rows of.Feature 1 r.feature
+
+abbrev pub create_folder_dangling : Rows → CreateFolderRow → Option ℕ
+create_folder_dangling rows r = names rows of.Directory 1 r.directory or_else names rows of.Component 2 r.component
+
+abbrev pub custom_action_dangling : Rows → CustomActionRow → Option ℕ
+custom_action_dangling rows r = if sets_directory r.kind then must_name rows of.Directory 3 r.source else None
+
+abbrev pub directory_dangling : Rows → DirectoryRow → Option ℕ
+directory_dangling rows r = may_name rows of.Directory 2 r.directory_parent
+
+abbrev pub duplicate_file_dangling : Rows → DuplicateFileRow → Option ℕ
+duplicate_file_dangling rows r = names rows of.Component 2 r.component or_else names rows of.File 3 r.file
+
+abbrev pub environment_dangling : Rows → EnvironmentRow → Option ℕ
+environment_dangling rows r = names rows of.Component 4 r.component
+
+abbrev pub feature_dangling : Rows → FeatureRow → Option ℕ
+feature_dangling rows r = may_name rows of.Feature 2 r.feature_parent
+
+abbrev pub feature_components_dangling : Rows → FeatureComponentsRow → Option ℕ
+feature_components_dangling rows r = names rows of.Feature 1 r.feature or_else names rows of.Component 2 r.component
+
+abbrev pub file_dangling : Rows → FileRow → Option ℕ
+file_dangling rows r = names rows of.Component 2 r.component
+
+abbrev pub msi_file_hash_dangling : Rows → MsiFileHashRow → Option ℕ
+msi_file_hash_dangling rows r = names rows of.File 1 r.file
+
+abbrev pub registry_dangling : Rows → RegistryRow → Option ℕ
+registry_dangling rows r = names rows of.Component 6 r.component
+
+abbrev pub remove_file_dangling : Rows → RemoveFileRow → Option ℕ
+remove_file_dangling rows r = names rows of.Component 2 r.component
+
+abbrev pub remove_registry_dangling : Rows → RemoveRegistryRow → Option ℕ
+remove_registry_dangling rows r = names rows of.Component 5 r.component
+
+abbrev pub shortcut_dangling : Rows → ShortcutRow → Option ℕ
+shortcut_dangling rows r = names rows of.Directory 2 r.directory or_else names rows of.Component 4 r.component
