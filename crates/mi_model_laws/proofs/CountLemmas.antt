@@ -450,7 +450,7 @@ module _ {R : Type 0} (key : R → Name) (test : R → Bool) where
   of_second [] = refl
   of_second (e ∷ es) = ap (λ b. passes e || b) (of_second es)
 
-  none_in_order : (rows : List R) → list_any test rows ≡ false → list_any (λ (r : Numbered R). test r.row) (in_key_order key rows) ≡ false
+  pub none_in_order : (rows : List R) → list_any test rows ≡ false → list_any (λ (r : Numbered R). test r.row) (in_key_order key rows) ≡ false
   unfolding in_key_order
   none_in_order rows none = of_second (made 1 rows) ∙ none_made 1 rows none
 

@@ -23,3 +23,4 @@ pub mod NamedLemmas
 pub mod RemovingLemmas
 pub mod CleanLemmas
 pub mod CountLemmas
+pub mod ChangingLemmas

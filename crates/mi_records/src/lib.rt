@@ -3,6 +3,7 @@
 #![tactic(auto)]
 
 mod below;
+mod changing;
 mod clear;
 mod counts;
 mod error;

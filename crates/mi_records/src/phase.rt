@@ -17,13 +17,14 @@ ghost use Rattle.mi_records.specs.Choices.{IsAsked};
 ghost use Rattle.mi_records.specs.Order.{as_numbered};
 ghost use Rattle.mi_records.specs.Rows.{Phase};
 
+use crate::changing::some_comes;
 use crate::error::PlanError;
 use crate::order::{Row, in_key_order};
 use crate::sees::Sees;
 use crate::write::write_rows;
 use crate::written::written;
 use mi_base::NoMemory;
-use mi_schema::{Package, RegistryRow, keys_stand, tables_small, values_stand};
+use mi_schema::{Package, RegistryRow, keys_stand, references_stand, tables_small, values_stand};
 use mi_steps::Plan;
 use std::alloc::Global;
 
@@ -51,7 +52,13 @@ fn written_rows<'a, S: Sees>(
     ensures rows { (w : World) → IsAsked (S.lookups seen.now) (S.choices seen.now) (S.rows seen.now) w → IfOk result (λ rows. map as_numbered rows.items ≡ written_rows w) }
     ensures roots { IfOk result (λ rows. All (λ r. IsWithin (negsuc 0) (pos 3) r.1.now.root) rows.items) }
 {
-    let rows = registry_rows(alloc, seen.package())?;
+    let loaded = seen.package();
+    keys_stand(loaded);
+    references_stand(loaded);
+    if !some_comes(seen) {
+        return Ok(Vec::new(alloc));
+    }
+    let rows = registry_rows(alloc, loaded)?;
     let taken = written(alloc, seen, rows.as_slice())?;
     Ok(taken)
 }

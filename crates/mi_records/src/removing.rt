@@ -23,6 +23,7 @@ ghost use Rattle.mi_records.specs.Keeps.{Keeps};
 ghost use Rattle.mi_records.specs.Order.{as_numbered};
 ghost use Rattle.mi_records.specs.Rows.{Rows, Phase};
 
+use crate::changing::some_leaves;
 use crate::error::PlanError;
 use crate::guards::guarded_values;
 use crate::named::{add_removal_keys, kept_keys, registry_keys};
@@ -32,7 +33,10 @@ use crate::removal::removal_rows;
 use crate::remove::remove_rows;
 use crate::sees::Sees;
 use mi_base::{Bytes, NoMemory};
-use mi_schema::{Package, RegistryRow, RemoveRegistryRow, keys_stand, tables_small, values_stand};
+use mi_schema::{
+    Package, RegistryRow, RemoveRegistryRow, keys_stand, references_stand, tables_small,
+    values_stand,
+};
 use mi_steps::{Plan, Tree};
 use std::alloc::Global;
 
@@ -96,7 +100,13 @@ fn leaving_rows<'a, S: Sees>(
     ensures rows { (w : World) → IsAsked (S.lookups seen.now) (S.choices seen.now) (S.rows seen.now) w → IfOk result (λ rows. map as_numbered rows.items ≡ model.leaving_rows w) }
     ensures roots { IfOk result (λ rows. All (λ r. IsWithin (negsuc 0) (pos 3) r.1.now.root) rows.items) }
 {
-    let rows = registry_rows(alloc, seen.package())?;
+    let loaded = seen.package();
+    keys_stand(loaded);
+    references_stand(loaded);
+    if !some_leaves(seen) {
+        return Ok(Vec::new(alloc));
+    }
+    let rows = registry_rows(alloc, loaded)?;
     let taken = leaving(alloc, seen, rows.as_slice())?;
     Ok(taken)
 }
@@ -221,8 +231,8 @@ fn remove_and_prune<S: Sees>(
 /// RemoveRegistryValues: the rows of Registry of leaving components in byte order of their keys, but for the values that rows and
 /// counts of kept components name; then those of RemoveRegistry of local components; then the keys that all these rows name are
 /// pruned, but for the keys of rows `+` and `*` of kept components (RemoveRegistryValues Action; Registry table, columns Name and Value;
-/// RemoveRegistry table, column Name). It costs a search for each row of the two tables; where some row is taken, also what its key
-/// holds, the name of each row of a kept component, and a sort of what is held.
+/// RemoveRegistry table, column Name). It costs a search for each row of RemoveRegistry, and where a component leaves for each row of
+/// Registry; where some row is taken, also what its key holds, the name of each row of a kept component, and a sort of what is held.
 ///
 /// Refused with the first of `TooDeep` and `BadKey` of a row, column by column. No text of more than 67,108,864 bytes is put
 /// together: it is want of memory.
