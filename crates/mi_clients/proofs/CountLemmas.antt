@@ -1,20 +1,16 @@
 -- What becomes of the counts of shared files in a plan.
 use Rattle.std.proofs.Common.{◌≡◌, ℕ, Bool, true, false, cond, List, [], ◌∷◌, ◌++◌, Option, Some, None, refl, sym, ap, ◌∙◌, subst}
-use Rattle.std.specs.Prelude.{◌+◌, ◌&&◌, ◌||◌, filter, min, is_some, option_map, All, Contains, Result, Ok, Err, IfSome}
+use Rattle.std.specs.Prelude.{◌+◌, ◌&&◌, ◌||◌, min, is_some, option_map, Result, Ok, Err, IfSome}
 use Rattle.std.specs.FinMap.{get, keys}
-use Rattle.std.specs.List.{AllByRecursion, list_any}
+use Rattle.std.specs.List.{list_any}
 use Rattle.std.specs.Option.{option_or, option_map_or}
-use Rattle.std.specs.Result.{result_ok}
 use Rattle.std.specs.BTreeSet.{BTreeSet, contains}
-use Rattle.std.proofs.lemmas.List.Elements.{recursion_from_All, All-contains_itself}
 use Rattle.mi_text.specs.Maps.{Name, Map, name_cmp, same_name}
 use Rattle.mi_text.specs.Lookups.{Lookups}
 use Rattle.mi_base.specs.declared.answers.Fault.{Fault}
 use Rattle.mi_base.specs.declared.entry.Entry.{Entry}
-use Rattle.mi_base.specs.declared.entry.RegValue.TheVariants as value
 use Rattle.mi_base.specs.declared.entry.FileHead.{FileHead}
 use Rattle.mi_base.specs.Machine.{Machine}
-use Rattle.mi_base.specs.Spelling.{name_of}
 use Rattle.mi_source.specs.Paths.{Files}
 use Rattle.mi_changes.specs.Touches.{Touch, Set, Clear}
 use Rattle.mi_image.specs.declared.item.Content.{Content}
@@ -24,26 +20,25 @@ use Rattle.mi_script.specs.declared.rec.Rec.{Rec}
 use Rattle.mi_script.specs.Spelled.{is_file_name}
 use Rattle.mi_schema.specs.declared.package.Package.{Package}
 use Rattle.mi_schema.specs.declared.typed_rows.ComponentRow.{ComponentRow}
-use Rattle.mi_schema.specs.Laws.{HaveOwnKeys}
-use Rattle.mi_schema.specs.RowsOf.{rows_in, behind}
+use Rattle.mi_schema.specs.RowsOf.{rows_in}
 use Rattle.mi_schema.specs.TableRows.{Rows as TableRows, row_of, component_row_of}
 use Rattle.mi_model.specs.Texts.{Text}
 use Rattle.mi_model.specs.World.{World, Action, MakeLocal, MakeAbsent}
-use Rattle.mi_model.specs.Asked.{leaves, keeps}
+use Rattle.mi_model.specs.Asked.{leaves}
 use Rattle.mi_model.specs.ComponentRows.{action_in}
-use Rattle.mi_model.specs.CountRows.{counted_path, guards_count, is_guarded_count, is_guarded, takes_count, count_touches, counted_by}
+use Rattle.mi_model.specs.CountRows.{is_guarded, takes_count, count_touches, counted_by}
 use Rattle.mi_model.specs.ClientRows.{recorded_path, component_touches}
 use Rattle.mi_model.specs.Parents.{key_with_parents}
 use Rattle.mi_model.specs.ProcessComponents.{processed, takes_counts, touched_counts}
-use Rattle.mi_model.specs.Prune.{Path, Seat, Holder, Leaf, Apart, goes, seat_goes, key_place, key_seat}
-use Rattle.mi_model.specs.RegistryGuards.{is_guarded_value, kept_keys, prune_keys}
+use Rattle.mi_model.specs.Prune.{goes, key_place, key_seat}
+use Rattle.mi_model.specs.RegistryGuards.{kept_keys, prune_keys}
 use Rattle.mi_model.specs.Refusals.{◌>>=◌}
 use Rattle.mi_model.specs.SharedCounts.{shared_key, count_name, count_entry, count_in, raised, lowered, is_counted}
 use Rattle.mi_model.specs.States.{is_present}
 use Rattle.mi_steps.specs.Follows.{Follows, put_touch, drop_touch}
 use Rattle.mi_steps.specs.declared.plan.Plan.{Plan}
 use Rattle.mi_steps.specs.Makes.{plan_machine}
-use Rattle.mi_steps.proofs.FollowLemmas.{started, joined, same_touch, no_step, cleared}
+use Rattle.mi_steps.proofs.FollowLemmas.{started, joined, same_touch, no_step}
 use Rattle.mi_steps.proofs.StepLemmas.{get-over}
 use Rattle.mi_records.specs.declared.error.PlanError.{PlanError}
 use Rattle.mi_records.specs.declared.error.PlanError.TheVariants as error
@@ -53,10 +48,7 @@ use Rattle.mi_clients.specs.Counts.{GuardsCounts, MayStandAt}
 use Rattle.mi_records.proofs.CountLemmas.{counted_is}
 use Rattle.mi_records.specs.Removing.{Guards}
 use Rattle.mi_records.specs.Rows.{Made, Row}
-use Rattle.mi_records.proofs.KeyedLemmas.{own_row}
 use Rattle.mi_records.proofs.LessLemmas.{whole_over, plain_value}
-use Rattle.mi_records.proofs.SeatLemmas.{or_none}
-use Rattle.mi_records.proofs.WriteLemmas.{value_named}
 
 -- ---- a name
 
@@ -203,24 +195,6 @@ taking_all w rest taking is = ap (list_any (takes w)) (sym is) ∙ taking
 
 pub touched_is : (w : World) (b : Bool) → b ≡ takes_counts w → cond b (key_place 2 shared_key ∷ []) [] ≡ touched_counts w
 touched_is w b is = ap (λ t. cond t (key_place 2 shared_key ∷ []) []) is
-
-nothing_goes : (seat : Name → Seat) (held : List Name) (protected : List Path) (name : Name) → goes seat held [] protected name ≡ false
-unfolding goes
-nothing_goes seat held protected name = by (seat name)
-  where
-    by : (s : Seat) → seat_goes seat held [] protected s ≡ false
-    by (Holder path) = refl
-    by (Leaf path) = refl
-    by Apart = refl
-
-none_pass : (test : Name → Bool) (names : List Name) → ((name : Name) → test name ≡ false) → [] ≡ filter test names
-none_pass test [] none = refl
-none_pass test (n ∷ names) none = none_pass test names none ∙ ap (λ b. cond b (n ∷ filter test names) (filter test names)) (sym (none n))
-
-pub untouched : (files : Files) (m : Machine) (h : List Rec) (w : World) (protected : List Path) → false ≡ takes_counts w → Follows files m m h h (Clear (goes key_seat (keys m) (touched_counts w) protected) ∷ [])
-untouched files m h w protected is =
-    subst (λ (ps : List Path). Follows files m m h h (Clear (goes key_seat (keys m) ps protected) ∷ [])) (ap (λ b. cond b (key_place 2 shared_key ∷ []) []) is)
-    (cleared files m m h h (goes key_seat (keys m) [] protected) [] (none_pass (goes key_seat (keys m) [] protected) (keys m) (nothing_goes key_seat (keys m) protected)) (started files m h))
 
 pub prunes_counts : (w : World) (m : Machine) → prune_keys w (touched_counts w) m ≡ Ok (Clear (goes key_seat (keys m) (touched_counts w) (kept_keys w)) ∷ [])
 unfolding prune_keys
