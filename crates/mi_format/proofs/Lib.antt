@@ -10,3 +10,4 @@ mod DepthLemmas
 mod StepLemmas
 mod ValueLemmas
 mod LawLemmas
+mod OpenMarkLemmas

@@ -10,3 +10,4 @@ pub mod Bare
 pub mod Bounds
 pub mod Kept
 pub mod Marks
+pub mod OpenMarks

@@ -1,15 +1,16 @@
 //! Expanding formatted text in one scan.
 
-ghost use Rattle.std.specs.Prelude.{◌≡◌, ◌≤◌, ℕ, List, IfOk, OnOk, IsErrOf};
+ghost use Rattle.std.specs.Prelude.{◌≡◌, ◌≤◌, ℕ, List, Ok, IfOk, OnOk, IsErrOf};
 ghost use Rattle.mi_text.specs.Lookups.{Lookups};
 ghost use Rattle.mi_format.specs.Bounds.{AreShort};
 ghost use Rattle.mi_format.specs.Kept.{kept, in_limit, IsRoom};
-ghost use Rattle.mi_format.specs.Expansion.{IsExpansion, IsTooDeep, expand_of, expanded, expanded_within};
+ghost use Rattle.mi_format.specs.Expansion.{IsExpansion, IsTooDeep, expand_of, expanded, within, expanded_within};
 ghost use Rattle.mi_format.specs.Answers.{Expands, ExpandsWithin};
 
 use crate::bounded::BoundedEnv;
 use crate::depth::is_too_deep;
 use crate::error::{FormatError, FormatFault, LimitError, LimitFault};
+use crate::open_marks::has_open_mark;
 use crate::part::{Held, Room};
 use crate::scan::Scan;
 use crate::tokens::next_token;
@@ -61,6 +62,16 @@ fn room_within(text: &str, limit: usize, bound: usize) -> Room
     Room { most, names: true }
 }
 
+// The text itself, where it has at most `limit` bytes.
+fn copied_within(alloc: Global, text: &str, limit: usize) -> Result<Text, LimitError>
+    ensures { ExpandsWithin result (within limit (Ok text.now)) }
+{
+    if text.len() > limit {
+        return Err(LimitError::Fault(LimitFault::TooLong));
+    }
+    Ok(Text::copy_of(alloc, text)?)
+}
+
 /// The expansion of a formatted text (Formatted).
 ///
 /// A group is an open mark, an inside and the close of its kind. A bracket whose expanded inside names something
@@ -77,6 +88,9 @@ pub fn expand<E: Env>(alloc: Global, text: &str, env: &E) -> Result<Text, Format
     ensures shallow { OnOk result (IsTooDeep text.now → ⊥) }
     ensures deep { IsErrOf result (FormatError.Fault FormatFault.TooDeep) → IsTooDeep text.now }
 {
+    if !has_open_mark(text) {
+        return Ok(Text::copy_of(alloc, text)?);
+    }
     let deep = is_too_deep(alloc, text)?;
     if deep {
         return Err(FormatError::Fault(FormatFault::TooDeep));
@@ -106,6 +120,9 @@ pub fn expand_within<E: BoundedEnv>(
 ) -> Result<Text, LimitError>
     ensures { ExpandsWithin result (expanded_within limit (E.lookups env.now) text.now) }
 {
+    if !has_open_mark(text) {
+        return copied_within(alloc, text, limit);
+    }
     let deep = is_too_deep(alloc, text)?;
     if deep {
         return Err(LimitError::Fault(LimitFault::TooDeep));

@@ -11,6 +11,7 @@ mod kept;
 mod laws;
 mod look;
 mod naming;
+mod open_marks;
 mod part;
 mod scan;
 mod steps;

@@ -1,59 +1,34 @@
 -- The counts of shared files: their names, and what they guard.
-use Rattle.std.proofs.Common.{◌≡◌, ℕ, Bool, true, false, cond, List, [], ◌∷◌, ◌++◌, Option, Some, None, refl, sym, ap, ◌∙◌, subst}
-use Rattle.std.specs.Prelude.{◌+◌, ◌&&◌, ◌||◌, filter, min, is_some, option_map, All, Contains, Result, Ok, Err, IfSome}
-use Rattle.std.specs.FinMap.{get, keys}
+use Rattle.std.proofs.Common.{◌≡◌, ℕ, Bool, true, false, cond, List, [], ◌∷◌, Option, Some, None, refl, sym, ap, ◌∙◌, subst}
+use Rattle.std.specs.Prelude.{◌&&◌, ◌||◌, option_map, All, Contains, Result, Ok, Err}
+use Rattle.std.specs.FinMap.{keys}
 use Rattle.std.specs.List.{AllByRecursion, list_any}
-use Rattle.std.specs.Option.{option_or, option_map_or}
+use Rattle.std.specs.Option.{option_map_or}
 use Rattle.std.specs.Result.{result_ok}
 use Rattle.std.specs.BTreeSet.{BTreeSet, contains}
 use Rattle.std.proofs.lemmas.List.Elements.{recursion_from_All, All-contains_itself}
-use Rattle.mi_text.specs.Maps.{Name, Map, name_cmp, same_name}
+use Rattle.mi_text.specs.Maps.{Name, name_cmp, same_name}
 use Rattle.mi_text.specs.Lookups.{Lookups}
 use Rattle.mi_base.specs.declared.answers.Fault.{Fault}
 use Rattle.mi_base.specs.declared.entry.Entry.{Entry}
 use Rattle.mi_base.specs.declared.entry.RegValue.TheVariants as value
-use Rattle.mi_base.specs.declared.entry.FileHead.{FileHead}
-use Rattle.mi_base.specs.Machine.{Machine}
 use Rattle.mi_base.specs.Spelling.{name_of}
-use Rattle.mi_source.specs.Paths.{Files}
-use Rattle.mi_changes.specs.Touches.{Touch, Set, Clear}
-use Rattle.mi_image.specs.declared.item.Content.{Content}
-use Rattle.mi_image.specs.declared.item.Item.TheVariants.{Head, Whole}
-use Rattle.mi_image.specs.Items.{Items, entry_over, machine_over}
-use Rattle.mi_script.specs.declared.rec.Rec.{Rec}
-use Rattle.mi_script.specs.Spelled.{is_file_name}
 use Rattle.mi_schema.specs.declared.package.Package.{Package}
 use Rattle.mi_schema.specs.declared.typed_rows.ComponentRow.{ComponentRow}
 use Rattle.mi_schema.specs.Laws.{HaveOwnKeys}
 use Rattle.mi_schema.specs.RowsOf.{rows_in, behind}
-use Rattle.mi_schema.specs.TableRows.{Rows as TableRows, row_of, component_row_of}
+use Rattle.mi_schema.specs.TableRows.{Rows as TableRows, row_of}
 use Rattle.mi_model.specs.Texts.{Text}
-use Rattle.mi_model.specs.World.{World, Action, MakeLocal, MakeAbsent}
-use Rattle.mi_model.specs.Asked.{leaves, keeps}
-use Rattle.mi_model.specs.ComponentRows.{action_in}
-use Rattle.mi_model.specs.CountRows.{counted_path, guards_count, is_guarded_count, is_guarded, takes_count, count_touches, counted_by}
-use Rattle.mi_model.specs.ClientRows.{recorded_path, component_touches}
-use Rattle.mi_model.specs.Parents.{key_with_parents}
-use Rattle.mi_model.specs.ProcessComponents.{processed, takes_counts, touched_counts}
-use Rattle.mi_model.specs.Prune.{Path, Seat, Holder, Leaf, Apart, goes, seat_goes, key_place, key_seat}
-use Rattle.mi_model.specs.RegistryGuards.{is_guarded_value, kept_keys, prune_keys}
-use Rattle.mi_model.specs.Refusals.{◌>>=◌}
-use Rattle.mi_model.specs.SharedCounts.{shared_key, count_name, count_entry, count_in, raised, lowered, is_counted}
-use Rattle.mi_model.specs.States.{is_present}
-use Rattle.mi_steps.specs.Follows.{Follows, put_touch, drop_touch}
-use Rattle.mi_steps.specs.declared.plan.Plan.{Plan}
-use Rattle.mi_steps.specs.Makes.{plan_machine}
-use Rattle.mi_steps.proofs.FollowLemmas.{started, joined, same_touch, no_step, cleared}
-use Rattle.mi_steps.proofs.StepLemmas.{get-over}
-use Rattle.mi_records.specs.declared.error.PlanError.{PlanError}
-use Rattle.mi_records.specs.declared.error.PlanError.TheVariants as error
+use Rattle.mi_model.specs.World.{World}
+use Rattle.mi_model.specs.Asked.{keeps}
+use Rattle.mi_model.specs.CountRows.{counted_path, guards_count, is_guarded_count, is_guarded}
+use Rattle.mi_model.specs.ClientRows.{recorded_path}
+use Rattle.mi_model.specs.RegistryGuards.{is_guarded_value}
+use Rattle.mi_model.specs.SharedCounts.{shared_key, count_name, count_entry, is_counted}
 use Rattle.mi_records.specs.Choices.{Choices, IsAsked}
-use Rattle.mi_records.specs.Clients.{IsOwn}
 use Rattle.mi_records.specs.Counts.{guard_of_count}
 use Rattle.mi_records.specs.Removing.{Guards}
-use Rattle.mi_records.specs.Rows.{Made, Row}
 use Rattle.mi_records.proofs.KeyedLemmas.{own_row}
-use Rattle.mi_records.proofs.LessLemmas.{whole_over, plain_value}
 use Rattle.mi_records.proofs.SeatLemmas.{or_none}
 use Rattle.mi_records.proofs.WriteLemmas.{value_named}
 

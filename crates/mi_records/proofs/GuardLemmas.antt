@@ -1,24 +1,21 @@
 -- The values that rows of kept components guard, row by row.
-use Rattle.std.proofs.Common.{◌≡◌, ℕ, suc, Bool, true, false, cond, ◌&&◌, ◌||◌, List, [], ◌∷◌, Option, None, refl, sym, ap, ◌∙◌}
+use Rattle.std.proofs.Common.{◌≡◌, Bool, true, false, cond, ◌&&◌, ◌||◌, List, [], ◌∷◌, Option, Some, None, refl, sym, ap, ◌∙◌}
 use Rattle.std.specs.Prelude.{option_map}
-use Rattle.std.specs.List.{list_any}
+use Rattle.std.specs.List.{list_any, filter_map, cons_option}
 use Rattle.std.specs.Option.{option_map_or}
 use Rattle.std.specs.Result.{result_ok}
-use Rattle.std.specs.BTreeSet.{BTreeSet, contains}
 use Rattle.std.specs.Ordering.{is_eq}
 use Rattle.mi_text.specs.Lookups.{Lookups}
 use Rattle.mi_text.specs.Maps.{Name, name_cmp, same_name}
 use Rattle.mi_schema.specs.declared.package.Package.{Package}
 use Rattle.mi_schema.specs.declared.typed_rows.RegistryRow.{RegistryRow}
-use Rattle.mi_schema.specs.RowsOf.{rows_in}
-use Rattle.mi_schema.specs.TableRows.{Numbered, numbered_from, Rows as TableRows}
+use Rattle.mi_schema.specs.TableRows.{Numbered, numbered_from}
 use Rattle.mi_model.specs.World.{World}
 use Rattle.mi_model.specs.Asked.{keeps}
 use Rattle.mi_model.specs.RegistryGuards.{value_named, is_guarded_value}
 use Rattle.mi_model.specs.RegistryRows.{name_of_value, registry_place}
 use Rattle.mi_records.specs.Choices.{Choices, IsAsked}
-use Rattle.mi_records.specs.Meaning.{numbered}
-use Rattle.mi_records.specs.Removing.{Guards, guard_of}
+use Rattle.mi_records.specs.Removing.{guard_of, named_values}
 use Rattle.mi_records.proofs.ItemLemmas.{turned}
 use Rattle.mi_records.proofs.SeatLemmas.{or_none}
 
@@ -26,51 +23,27 @@ use Rattle.mi_records.proofs.SeatLemmas.{or_none}
 abbrev guards_it : World → Name → Numbered RegistryRow → Bool
 guards_it w name r = keeps w r.row.component && option_map_or (same_name name) (value_named w r) false
 
--- what a set has, and what the rows guard that are still to come
-pub record Guarding (w : World) (set : BTreeSet Name) (rest : List RegistryRow) : Type 0 where
-  pub number : ℕ
-  pub so : (name : Name) → (contains name_cmp set name || list_any (guards_it w name) (numbered_from number rest)) ≡ is_guarded_value w name
-
 by_guard : (w : World) (name : Name) (r : Numbered RegistryRow) → guards_it w name r ≡ option_map_or (same_name name) (guard_of w r) false
 by_guard w name r = elim (keeps w r.row.component) as (λ b. (b && option_map_or (same_name name) (value_named w r) false) ≡ option_map_or (same_name name) (cond b (value_named w r) None) false) [
   | true ↦ refl
   | false ↦ refl
 ]
 
--- before the first row
-pub guarding_none : (w : World) (p : Package) (set : BTreeSet Name) (rest : List RegistryRow) → w.given.rows ≡ rows_in p → rest ≡ (rows_in p).registry → ((name : Name) → contains name_cmp set name ≡ false) → Guarding w set rest
+-- a value is guarded where it is among those that the rows name
+pub among_named : (w : World) (name : Name) → list_any (same_name name) (named_values w) ≡ is_guarded_value w name
 unfolding is_guarded_value
-guarding_none w p set rest rows is none = record {
-  number = 1;
-  so = λ name.
-      ap (λ b. b || list_any (guards_it w name) (numbered_from 1 rest)) (none name)
-      ∙ ap (λ (rs : List RegistryRow). list_any (guards_it w name) (numbered_from 1 rs)) (is ∙ ap (λ (rs : TableRows). rs.registry) (sym rows));
-}
-
--- one row more
-pub guarding_more : (w : World) (set new : BTreeSet Name) (rest more : List RegistryRow) (row : RegistryRow) (o : Option Name) → (g : Guarding w set rest) → rest ≡ row ∷ more → o ≡ guard_of w (numbered g.number row)
-    → ((name : Name) → contains name_cmp new name ≡ (contains name_cmp set name || option_map_or (same_name name) o false)) → Guarding w new more
-guarding_more w set new rest more row o g is found grown = record {
-  number = suc g.number;
-  so = λ name.
-      let later = list_any (guards_it w name) (numbered_from (suc g.number) more) in
-      ap (λ b. b || later) (grown name)
-      ∙ or_assoc (contains name_cmp set name) (option_map_or (same_name name) o false) later
-      ∙ ap (λ b. contains name_cmp set name || (b || later)) (ap (λ (x : Option Name). option_map_or (same_name name) x false) found ∙ sym (by_guard w name (numbered g.number row)))
-      ∙ ap (λ (rs : List RegistryRow). contains name_cmp set name || list_any (guards_it w name) (numbered_from g.number rs)) (sym is)
-      ∙ g.so name;
-}
+among_named w name = by_rows (numbered_from 1 w.given.rows.registry)
   where
-    or_assoc : (a b c : Bool) → ((a || b) || c) ≡ (a || (b || c))
-    or_assoc true b c = refl
-    or_assoc false b c = refl
+    one : (o : Option Name) (names : List Name) → list_any (same_name name) (cons_option o names) ≡ (option_map_or (same_name name) o false || list_any (same_name name) names)
+    one None names = refl
+    one (Some x) names = refl
 
--- behind the last row
-pub guarding_all : (w : World) (set : BTreeSet Name) (rest : List RegistryRow) → Guarding w set rest → rest ≡ [] → Guards set (is_guarded_value w)
-guarding_all w set rest g is name =
-    sym (or_none (contains name_cmp set name))
-    ∙ sym (ap (λ (rs : List RegistryRow). contains name_cmp set name || list_any (guards_it w name) (numbered_from g.number rs)) is)
-    ∙ g.so name
+    by_rows : (rs : List (Numbered RegistryRow)) → list_any (same_name name) (filter_map (guard_of w) rs) ≡ list_any (guards_it w name) rs
+    by_rows [] = refl
+    by_rows (r ∷ rs) =
+        one (guard_of w r) (filter_map (guard_of w) rs)
+        ∙ ap (λ b. b || list_any (same_name name) (filter_map (guard_of w) rs)) (sym (by_guard w name r))
+        ∙ ap (λ b. guards_it w name r || b) (by_rows rs)
 
 -- a row of a component that is kept, and of one that isn't
 module _ (L : Lookups) (c : Choices) (p : Package) (w : World) (asked : IsAsked L c p w) where

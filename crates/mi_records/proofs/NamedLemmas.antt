@@ -1,21 +1,25 @@
 -- Lists that loops build of what they pick, and the keys that rows name and keep.
-use Rattle.std.proofs.Common.{◌≡◌, ℕ, suc, ◌+◌, ◌<◌, true, false, cond, List, [], ◌∷◌, ◌++◌, map, take, length, get_or, Option, Some, None, refl, sym, ap, subst, ◌∙◌, append_assoc}
-use Rattle.std.specs.Prelude.{All, option_and_then}
+use Rattle.std.proofs.Common.{◌≡◌, ℕ, suc, ◌+◌, ◌<◌, true, false, cond, List, [], ◌∷◌, ◌++◌, map, take, length, get_or, Option, Some, None, Ok, Err, refl, sym, ap, subst, ◌∙◌, append_assoc}
+use Rattle.std.specs.Prelude.{All, Result, codes, option_and_then}
 use Rattle.std.specs.List.{AllByRecursion, filter_map, cons_option}
 use Rattle.std.specs.Option.{option_to_list}
 use Rattle.std.specs.Result.{result_ok}
 use Rattle.std.proofs.lemmas.List.{append-nil, map-append, take_more}
 use Rattle.std.proofs.lemmas.List.Elements.{filter_map-append, recursion_from_All}
 use Rattle.mi_text.specs.Lookups.{Lookups}
+use Rattle.mi_text.specs.Maps.{Name}
+use Rattle.mi_base.specs.declared.answers.Fault.{Fault}
 use Rattle.mi_schema.specs.declared.package.Package.{Package}
 use Rattle.mi_schema.specs.declared.typed_rows.RegistryRow.{RegistryRow}
 use Rattle.mi_schema.specs.RowsOf.{rows_in, behind}
 use Rattle.mi_schema.specs.TableRows.{Numbered, numbered_from, Rows as TableRows}
 use Rattle.mi_model.specs.World.{World}
-use Rattle.mi_model.specs.Asked.{lookups}
+use Rattle.mi_model.specs.Asked.{keeps, lookups}
 use Rattle.mi_model.specs.Prune.{Path}
-use Rattle.mi_model.specs.RegistryGuards.{key_kept_by, kept_key, kept_keys}
-use Rattle.mi_model.specs.RegistryRows.{registry_meaning}
+use Rattle.mi_model.specs.Refusals.{◌>>=◌, expanded}
+use Rattle.mi_model.specs.RegistryGuards.{key_kept_by, kept_key}
+use Rattle.mi_model.specs.RegistryRows.{RegistryPlace, Writes, said, registry_place, registry_meaning}
+use Rattle.mi_model.specs.Texts.{Text}
 use Rattle.mi_records.specs.Choices.{Choices, IsAsked}
 use Rattle.mi_records.specs.Meaning.{numbered}
 
@@ -46,42 +50,68 @@ picked_seen {X} {Y} {T} seen pick xs i x o old new within is found so_far grown 
     ∙ ap (filter_map pick) (sym (map-append seen (take i xs) (x ∷ [])))
     ∙ ap (λ (l : List X). filter_map pick (map seen l)) (sym (take_more xs i x within ∙ ap (λ (y : X). take i xs ++ y ∷ []) (sym is)))
 
+-- ---- what rows give, one after the other
+
+module _ (w : World) (pick : Numbered RegistryRow → Option Name) where
+  -- what the rows gave so far, and what those give that are still to come
+  pub record Picking (built : List Name) (rest : List RegistryRow) : Type 0 where
+    pub number : ℕ
+    pub so : built ++ filter_map pick (numbered_from number rest) ≡ filter_map pick (numbered_from 1 w.given.rows.registry)
+
+  pub picking_none : (p : Package) (built : List Name) (rest : List RegistryRow) → w.given.rows ≡ rows_in p → rest ≡ (rows_in p).registry → built ≡ [] → Picking built rest
+  picking_none p built rest rows is none = record {
+    number = 1;
+    so =
+        ap (λ (l : List Name). l ++ filter_map pick (numbered_from 1 rest)) none
+        ∙ ap (λ (rs : List RegistryRow). filter_map pick (numbered_from 1 rs)) (is ∙ ap (λ (rs : TableRows). rs.registry) (sym rows));
+  }
+
+  pub picking_more : (built new : List Name) (rest more : List RegistryRow) (row : RegistryRow) (o : Option Name) → (k : Picking built rest) → rest ≡ row ∷ more → o ≡ pick (numbered k.number row) → new ≡ built ++ option_to_list o → Picking new more
+  picking_more built new rest more row o k is found grown = record {
+    number = suc k.number;
+    so =
+        let later = filter_map pick (numbered_from (suc k.number) more) in
+        ap (λ (l : List Name). l ++ later) grown
+        ∙ append_assoc built (option_to_list o) later
+        ∙ ap (λ (l : List Name). built ++ l) (joined o later ∙ ap (λ (x : Option Name). cons_option x later) found)
+        ∙ ap (λ (rs : List RegistryRow). built ++ filter_map pick (numbered_from k.number rs)) (sym is)
+        ∙ k.so;
+  }
+    where
+      joined : (o : Option Name) (later : List Name) → option_to_list o ++ later ≡ cons_option o later
+      joined None later = refl
+      joined (Some x) later = refl
+
+  pub picking_all : (built : List Name) (rest : List RegistryRow) → Picking built rest → rest ≡ [] → built ≡ filter_map pick (numbered_from 1 w.given.rows.registry)
+  picking_all built rest k is =
+      sym (append-nil built)
+      ∙ sym (ap (λ (rs : List RegistryRow). built ++ filter_map pick (numbered_from k.number rs)) is)
+      ∙ k.so
+
 -- ---- the keys that are kept
 
--- the keys so far, and those of the rows that are still to come
-pub record Keeping (w : World) (built : List Path) (rest : List RegistryRow) : Type 0 where
-  pub number : ℕ
-  pub so : built ++ filter_map (kept_key w) (numbered_from number rest) ≡ kept_keys w
-
-pub keeping_none : (w : World) (p : Package) (built : List Path) (rest : List RegistryRow) → w.given.rows ≡ rows_in p → rest ≡ (rows_in p).registry → built ≡ [] → Keeping w built rest
-keeping_none w p built rest rows is none = record {
-  number = 1;
-  so =
-      ap (λ (l : List Path). l ++ filter_map (kept_key w) (numbered_from 1 rest)) none
-      ∙ ap (λ (rs : List RegistryRow). filter_map (kept_key w) (numbered_from 1 rs)) (is ∙ ap (λ (rs : TableRows). rs.registry) (sym rows));
-}
-
-pub keeping_more : (w : World) (built new : List Path) (rest more : List RegistryRow) (row : RegistryRow) (o : Option Path) → (k : Keeping w built rest) → rest ≡ row ∷ more → o ≡ kept_key w (numbered k.number row) → new ≡ built ++ option_to_list o → Keeping w new more
-keeping_more w built new rest more row o k is found grown = record {
-  number = suc k.number;
-  so =
-      let later = filter_map (kept_key w) (numbered_from (suc k.number) more) in
-      ap (λ (l : List Path). l ++ later) grown
-      ∙ append_assoc built (option_to_list o) later
-      ∙ ap (λ (l : List Path). built ++ l) (joined o later ∙ ap (λ (x : Option Path). cons_option x later) found)
-      ∙ ap (λ (rs : List RegistryRow). built ++ filter_map (kept_key w) (numbered_from k.number rs)) (sym is)
-      ∙ k.so;
-}
+-- a row with a Value makes no key
+pub valued_none : (w : World) (r : Numbered RegistryRow) (value : Text) → r.row.value ≡ Some value → None ≡ kept_key w r
+unfolding registry_meaning
+valued_none w r value is =
+    elim (keeps w r.row.component) as (λ b. None ≡ cond b (option_and_then key_kept_by (result_ok (registry_meaning (lookups w) r))) None) [
+      | true ↦ by_place (registry_place (lookups w) r) ∙ ap (λ (v : Option Text). made (registry_place (lookups w) r) v) (sym is)
+      | false ↦ refl
+    ]
   where
-    joined : (o : Option Path) (later : List Path) → option_to_list o ++ later ≡ cons_option o later
-    joined None later = refl
-    joined (Some x) later = refl
+    expand : Text → Result Text Fault
+    expand = expanded (lookups w) (codes "Registry") r.number
 
-pub keeping_all : (w : World) (built : List Path) (rest : List RegistryRow) → Keeping w built rest → rest ≡ [] → built ≡ kept_keys w
-keeping_all w built rest k is =
-    sym (append-nil built)
-    ∙ sym (ap (λ (rs : List RegistryRow). built ++ filter_map (kept_key w) (numbered_from k.number rs)) is)
-    ∙ k.so
+    made : Result RegistryPlace Fault → Option Text → Option Path
+    made p v = option_and_then key_kept_by (result_ok (p >>= λ place. said r.row.name place.name v expand >>= λ says. Ok (record { place = place; says = says })))
+
+    by_text : (place : RegistryPlace) (x : Result Text Fault) → None ≡ option_and_then key_kept_by (result_ok (x >>= (λ text. Ok (Writes text)) >>= λ says. Ok (record { place = place; says = says })))
+    by_text place (Ok text) = refl
+    by_text place (Err f) = refl
+
+    by_place : (p : Result RegistryPlace Fault) → None ≡ made p (Some value)
+    by_place (Ok place) = by_text place (expand value)
+    by_place (Err f) = refl
 
 module _ (L : Lookups) (c : Choices) (p : Package) (w : World) (asked : IsAsked L c p w) where
   abbrev key_by : Lookups → Numbered RegistryRow → Option Path

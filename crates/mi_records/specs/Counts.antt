@@ -1,17 +1,11 @@
 -- What becomes of the counts of shared files, as the program keeps it. (Component Table, Attributes, msidbComponentAttributesSharedDllRefCount.)
-use Rattle.std.specs.Prelude.{◌≡◌, true, false, if◌then◌else◌, Option, None, option_map}
-use Rattle.std.specs.BTreeSet.{BTreeSet}
+use Rattle.std.specs.Prelude.{if◌then◌else◌, Option, None, option_map}
 use Rattle.mi_text.specs.Maps.{Name}
-use Rattle.mi_base.specs.declared.entry.Entry.{Entry}
-use Rattle.mi_base.specs.Spelling.{name_of}
 use Rattle.mi_schema.specs.declared.typed_rows.ComponentRow.{ComponentRow}
 use Rattle.mi_model.specs.World.{World}
 use Rattle.mi_model.specs.Asked.{keeps}
-use Rattle.mi_model.specs.CountRows.{counted_path, is_guarded}
-use Rattle.mi_model.specs.ProcessComponents.{takes_counts}
+use Rattle.mi_model.specs.CountRows.{counted_path}
 use Rattle.mi_model.specs.SharedCounts.{count_name}
-use Rattle.mi_steps.specs.Makes.{is_file}
-use Rattle.mi_records.specs.Removing.{Guards}
 
 -- the name of the count that a kept component guards
 abbrev pub guard_of_count : World → ComponentRow → Option Name

@@ -1,6 +1,6 @@
 -- What the removal of registry values goes by, as the program keeps it. (RemoveRegistryValues Action. Guards are this project's own.)
 use Rattle.std.specs.Prelude.{◌≡◌, ℕ, Bool, true, false, not, nat_eq, if◌then◌else◌, List, Option, Some, None, unwrap_or}
-use Rattle.std.specs.List.{starts_with}
+use Rattle.std.specs.List.{starts_with, filter_map}
 use Rattle.std.specs.BTreeMap.{BTreeMap, get_by}
 use Rattle.std.specs.BTreeSet.{BTreeSet, contains}
 use denote.Ref.{Bor}
@@ -13,7 +13,7 @@ use Rattle.mi_base.specs.declared.entry.ValueKey.{ValueKey}
 use Rattle.mi_base.specs.Names.{value_name}
 use Rattle.mi_base.specs.Limits.{fits}
 use Rattle.mi_base.specs.Spelling.{name_of}
-use Rattle.mi_schema.specs.TableRows.{Numbered}
+use Rattle.mi_schema.specs.TableRows.{Numbered, numbered_from}
 use Rattle.mi_schema.specs.declared.typed_rows.RegistryRow.{RegistryRow}
 use Rattle.mi_model.specs.World.{World}
 use Rattle.mi_model.specs.Asked.{keeps}
@@ -33,6 +33,10 @@ Guards set guarded = (name : Name) → contains name_cmp set name ≡ guarded na
 -- the value that a row of a kept component names
 abbrev pub guard_of : World → Numbered RegistryRow → Option Name
 guard_of w r = if keeps w r.row.component then value_named w r else None
+
+-- those of all rows, in file order
+abbrev pub named_values : World → List Name
+named_values w = filter_map (guard_of w) (numbered_from 1 w.given.rows.registry)
 
 -- ---- what is held at a key and below it
 

@@ -10,7 +10,7 @@ ghost use Rattle.mi_schema.specs.Lawful.{IsLawful};
 ghost use Rattle.mi_schema.specs.Laws.{IsWithin};
 ghost use Rattle.mi_records.specs.Choices.{IsAsked};
 ghost use Rattle.mi_records.specs.Meaning.{numbered};
-ghost use Rattle.mi_records.specs.Removing.{Guards, guard_of};
+ghost use Rattle.mi_records.specs.Removing.{Guards, guard_of, named_values};
 
 use crate::counts::add_counts;
 use crate::meaning::place_of;
@@ -60,19 +60,29 @@ fn guard_of<S: Sees>(alloc: Global, seen: &S, row: &RegistryRow) -> Result<Optio
     }
 }
 
-// The names of the values that rows of Registry of kept components name.
+// The names of the values that rows of Registry of kept components name, in file order.
+fn value_names<S: Sees>(alloc: Global, seen: &S) -> Result<Vec<Name>, NoMemory>
+    requires { IsLawful (S.rows seen.now) }
+    ensures { (w : World) → IsAsked (S.lookups seen.now) (S.choices seen.now) (S.rows seen.now) w → IfOk result (λ names. names.items ≡ named_values w) }
+{
+    let loaded = seen.package();
+    values_stand(loaded);
+    let mut names = Vec::new(alloc);
+    for row in loaded.registry.values() {
+        if let Some(name) = guard_of(alloc, seen, row)? {
+            names.push(name)?;
+        }
+    }
+    Ok(names)
+}
+
+// The same as a set, which is made at once, since rows mostly stand in the order of their names.
 fn value_guards<S: Sees>(alloc: Global, seen: &S) -> Result<BTreeSet<Name>, NoMemory>
     requires { IsLawful (S.rows seen.now) }
     ensures { (w : World) → IsAsked (S.lookups seen.now) (S.choices seen.now) (S.rows seen.now) w → IfOk result (λ set. Guards set (is_guarded_value w)) }
 {
-    let loaded = seen.package();
-    values_stand(loaded);
-    let mut set = BTreeSet::new(alloc);
-    for row in loaded.registry.values() {
-        if let Some(name) = guard_of(alloc, seen, row)? {
-            set.insert(name)?;
-        }
-    }
+    let names = value_names(alloc, seen)?;
+    let set = BTreeSet::from_iter(alloc, names)?;
     Ok(set)
 }
 

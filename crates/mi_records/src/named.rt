@@ -147,8 +147,12 @@ fn key_made<E: BoundedEnv>(
     }
 }
 
-// The key that a row keeps.
-fn kept_key<S: Sees>(alloc: Global, seen: &S, row: &RegistryRow) -> Result<Option<Bytes>, NoMemory>
+// The key that a row keeps, by its component.
+fn key_if_kept<S: Sees>(
+    alloc: Global,
+    seen: &S,
+    row: &RegistryRow,
+) -> Result<Option<Bytes>, NoMemory>
     requires { IsWithin (negsuc 0) (pos 3) row.now.root }
     ensures { (w : World) (number : ℕ) → IsAsked (S.lookups seen.now) (S.choices seen.now) (S.rows seen.now) w → IfOk result (λ key. key ≡ kept_key w (numbered number row.now)) }
 {
@@ -156,6 +160,17 @@ fn kept_key<S: Sees>(alloc: Global, seen: &S, row: &RegistryRow) -> Result<Optio
         key_made(alloc, seen, row)
     } else {
         Ok(None)
+    }
+}
+
+// The key that a row keeps; one with a Value keeps none.
+fn kept_key<S: Sees>(alloc: Global, seen: &S, row: &RegistryRow) -> Result<Option<Bytes>, NoMemory>
+    requires { IsWithin (negsuc 0) (pos 3) row.now.root }
+    ensures { (w : World) (number : ℕ) → IsAsked (S.lookups seen.now) (S.choices seen.now) (S.rows seen.now) w → IfOk result (λ key. key ≡ kept_key w (numbered number row.now)) }
+{
+    match &row.value {
+        Some(_) => Ok(None),
+        None => key_if_kept(alloc, seen, row),
     }
 }
 

@@ -31,7 +31,7 @@ use crate::phase::registry_rows;
 use crate::removal::removal_rows;
 use crate::remove::remove_rows;
 use crate::sees::Sees;
-use mi_base::NoMemory;
+use mi_base::{Bytes, NoMemory};
 use mi_schema::{Package, RegistryRow, RemoveRegistryRow, keys_stand, tables_small, values_stand};
 use mi_steps::{Plan, Tree};
 use std::alloc::Global;
@@ -117,6 +117,25 @@ fn local_rows<'a, S: Sees>(
 
 // ---- what they do
 
+// Carries out the rows of Registry. Where there is none, no value needs to be guarded.
+fn remove_leaving<S: Sees>(
+    alloc: Global,
+    seen: &S,
+    leaving: &[Row<'_, RegistryRow>],
+    plan: &mut Plan,
+) -> Result<(), PlanError>
+    requires lawful { IsLawful (S.rows seen.now) }
+    requires leaving { All (λ r. IsWithin (negsuc 0) (pos 3) r.1.now.root) leaving.now }
+    ensures rows { (held files : Map (List ℕ)) (w : World) → IsAsked (S.lookups seen.now) (S.choices seen.now) (S.rows seen.now) w → Rows held files plan.old plan.new (map (λ r. remove_row w (as_numbered r)) leaving.now) result }
+    ensures keeps { Keeps plan.old plan.new }
+{
+    if leaving.is_empty() {
+        return Ok(());
+    }
+    let guards = guarded_values(alloc, seen)?;
+    remove_rows(alloc, seen, &guards, leaving, plan)
+}
+
 // Carries out the rows of both tables.
 fn remove_all<S: Sees>(
     alloc: Global,
@@ -131,11 +150,29 @@ fn remove_all<S: Sees>(
     ensures rows { (held files : Map (List ℕ)) (w : World) → IsAsked (S.lookups seen.now) (S.choices seen.now) (S.rows seen.now) w → Rows held files plan.old plan.new (map (λ r. remove_row w (as_numbered r)) leaving.now ++ map (λ r. removal_row w (as_numbered r)) local.now) result }
     ensures keeps { Keeps plan.old plan.new }
 {
-    let guards = guarded_values(alloc, seen)?;
-    match remove_rows(alloc, seen, &guards, leaving, plan) {
+    match remove_leaving(alloc, seen, leaving, plan) {
         Ok(()) => removal_rows(alloc, seen, local, plan),
         Err(error) => Err(error),
     }
+}
+
+// Prunes these keys. Where there is none, none needs to be kept.
+fn prune_touched<S: Sees>(
+    alloc: Global,
+    seen: &S,
+    touched: Vec<Bytes>,
+    plan: &mut Plan,
+) -> Result<(), NoMemory>
+    requires { IsLawful (S.rows seen.now) }
+    ensures makes { (held files : Map (List ℕ)) (w : World) → IsAsked (S.lookups seen.now) (S.choices seen.now) (S.rows seen.now) w → OnOk result (Makes held files plan.old plan.new (Clear (goes key_seat (keys (plan_machine held files plan.old)) touched.items (kept_keys w)) ∷ [])) }
+    ensures keeps { Keeps plan.old plan.new }
+{
+    if touched.is_empty() {
+        return Ok(());
+    }
+    let kept = kept_keys(alloc, seen)?;
+    plan.prune(alloc, Tree::Keys, touched, kept)?;
+    Ok(())
 }
 
 // Prunes the keys that the rows name.
@@ -154,8 +191,7 @@ fn prune_named<S: Sees>(
 {
     let mut touched = registry_keys(alloc, seen, leaving)?;
     add_removal_keys(alloc, seen, local, &mut touched)?;
-    let kept = kept_keys(alloc, seen)?;
-    plan.prune(alloc, Tree::Keys, touched, kept)?;
+    prune_touched(alloc, seen, touched, plan)?;
     Ok(())
 }
 
@@ -185,7 +221,8 @@ fn remove_and_prune<S: Sees>(
 /// RemoveRegistryValues: the rows of Registry of leaving components in byte order of their keys, but for the values that rows and
 /// counts of kept components name; then those of RemoveRegistry of local components; then the keys that all these rows name are
 /// pruned, but for the keys of rows `+` and `*` of kept components (RemoveRegistryValues Action; Registry table, columns Name and Value;
-/// RemoveRegistry table, column Name). It costs a search for each row and what its key holds, and a sort of what is held.
+/// RemoveRegistry table, column Name). It costs a search for each row of the two tables; where some row is taken, also what its key
+/// holds, the name of each row of a kept component, and a sort of what is held.
 ///
 /// Refused with the first of `TooDeep` and `BadKey` of a row, column by column. No text of more than 67,108,864 bytes is put
 /// together: it is want of memory.

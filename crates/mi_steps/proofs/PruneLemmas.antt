@@ -1,10 +1,18 @@
 -- What goes of a tree, by the places that keep holders.
-use Rattle.std.proofs.Common.{◌≡◌, Bool, true, false, cond, ◌||◌, ◌&&◌, List, [], ◌∷◌, filter, Some, None, refl, sym, ap, ◌∙◌}
+use Rattle.std.proofs.Common.{◌≡◌, ℕ, ◌==◌, length, arith, Bool, true, false, cond, ◌||◌, ◌&&◌, List, [], ◌∷◌, filter, Some, None, refl, sym, ap, subst, ◌∙◌}
 use Rattle.std.specs.Prelude.{nat_eq, not}
 use Rattle.std.specs.List.{starts_with, list_all, filter_map, cons_option}
+use Rattle.std.specs.FinMap.{keys}
+use Rattle.std.proofs.lemmas.Bool.{eqb-true}
 use Rattle.mi_text.specs.Maps.{Name}
+use Rattle.mi_base.specs.Machine.{Machine}
+use Rattle.mi_source.specs.Paths.{Files}
+use Rattle.mi_changes.specs.Touches.{Clear}
+use Rattle.mi_script.specs.declared.rec.Rec.{Rec}
 use Rattle.mi_model.specs.Prune.{Path, Seat, Holder, Leaf, Apart, is_on_way, lets_go, seat_goes, goes}
+use Rattle.mi_steps.specs.Follows.{Follows}
 use Rattle.mi_steps.specs.Trees.{keeps, passes}
+use Rattle.mi_steps.proofs.FollowLemmas.{cleared, started}
 
 not_or : (a b : Bool) → not (a || b) ≡ (not a && not b)
 not_or true b = refl
@@ -98,3 +106,27 @@ picked_filter p (n ∷ names) = ap (λ (rest : List Name). cons_option (cond (p 
     one : (b : Bool) (rest : List Name) → cons_option (cond b (Some n) None) rest ≡ cond b (n ∷ rest) rest
     one true rest = refl
     one false rest = refl
+
+-- ---- where nothing was touched, nothing goes
+
+pub none_there : {X : Type 0} (xs : List X) (n : ℕ) (b : Bool) → n ≡ length xs → b ≡ (n == 0) → b ≡ true → [] ≡ xs
+none_there [] n b counted test is = refl
+none_there (x ∷ xs) n b counted test is = let none : n ≡ 0 = eqb-true n 0 (sym test ∙ is) in absurd (omega arith)
+
+nothing_goes : (seat : Name → Seat) (held : List Name) (protected : List Path) (name : Name) → goes seat held [] protected name ≡ false
+unfolding goes
+nothing_goes seat held protected name = by (seat name)
+  where
+    by : (s : Seat) → seat_goes seat held [] protected s ≡ false
+    by (Holder path) = refl
+    by (Leaf path) = refl
+    by Apart = refl
+
+none_pass : (test : Name → Bool) (names : List Name) → ((name : Name) → test name ≡ false) → [] ≡ filter test names
+none_pass test [] none = refl
+none_pass test (n ∷ names) none = none_pass test names none ∙ ap (λ b. cond b (n ∷ filter test names) (filter test names)) (sym (none n))
+
+pub untouched : (files : Files) (m : Machine) (h : List Rec) (seat : Name → Seat) (touched protected : List Path) → [] ≡ touched → Follows files m m h h (Clear (goes seat (keys m) touched protected) ∷ [])
+untouched files m h seat touched protected none =
+    subst (λ (ps : List Path). Follows files m m h h (Clear (goes seat (keys m) ps protected) ∷ [])) none
+    (cleared files m m h h (goes seat (keys m) [] protected) [] (none_pass (goes seat (keys m) [] protected) (keys m) (nothing_goes seat (keys m) protected)) (started files m h))

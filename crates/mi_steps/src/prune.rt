@@ -171,7 +171,8 @@ fn names_gone(
 impl Plan {
     /// Prunes a tree: takes away the folders or keys that a phase left without use, over the places that it touched and
     /// those that are protected, in folded bytes. A place ends with a backslash; that of a key begins with the digit of its
-    /// root. It costs a sort of the places of what is held, and three searches for each holder (this project's own).
+    /// root. It costs a sort of the places of what is held, and three searches for each holder; nothing where nothing was touched
+    /// (this project's own).
     pub fn prune(
         &mut self,
         alloc: Global,
@@ -184,6 +185,9 @@ impl Plan {
         ensures former { former_items self.new.overlay ≡ former_items self.old.overlay }
         ensures grows { Grows self.old.script self.new.script }
     {
+        if touched.is_empty() {
+            return Ok(());
+        }
         let touched = Places::of(touched);
         let protected = Places::of(protected);
         let gone = names_gone(alloc, self.overlay.image(), tree, touched, protected)?;

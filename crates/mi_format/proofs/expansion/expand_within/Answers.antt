@@ -1,9 +1,19 @@
--- The marks come first, then the length of the value.
-use Rattle.std.proofs.Common.{sym, ◌∙◌}
+-- The marks come first, then the length of the value. A text without an open mark is its own expansion.
+use Rattle.std.proofs.Common.{List, ℕ, sym, subst, ◌∙◌}
+use Rattle.std.specs.Prelude.{Result}
+use Rattle.mi_format.specs.Answers.{ExpandsWithin}
+use Rattle.mi_format.specs.declared.error.LimitFault.{LimitFault}
 use Rattle.mi_format.specs.Expansion.{expand_of}
 use Rattle.mi_format.proofs.ValueLemmas.{limit_is, none_is}
 use Rattle.mi_format.proofs.LawLemmas.{limit_deep, limit_long, limit_value}
+use Rattle.mi_format.proofs.OpenMarkLemmas.{plain_within}
 use Rattle.mi_format.proofs.expansion.expand_within.Goals as goal
+
+pub returns-then-not-has_open_mark : goal.returns-then-not-has_open_mark
+returns-then-not-has_open_mark g c =
+    let L = g.E.Env.lookups c.args.env.now in
+    subst (λ (e : Result (List ℕ) LimitFault). ExpandsWithin c.copied_within.result e)
+    (sym (plain_within L c.args.text.now c.utf8.text (sym c.has_open_mark.ensures ∙ c.if-not-has_open_mark.true) c.args.limit)) c.copied_within.ensures
 
 pub returns-then-deep : goal.returns-then-deep
 returns-then-deep g c = limit_deep c.args.limit (g.E.Env.lookups c.args.env.now) c.args.text.now (sym c.in_ok-deep.ensures ∙ c.if-deep.true)

@@ -14,6 +14,4 @@ returns-clause-makes g c = λ held files w asked one two.
     let choices = g.S.Sees.choices c.args.seen.now in
     let m = plan_machine held files c.args.plan.now in
     let touched = keys_are L choices (g.S.Sees.rows c.args.seen.now) w asked c.args.leaving.now c.args.local.now c.in_ok-touched.touched.items c.add_removal_keys.new.keys.items one two c.in_ok-touched.ensures c.in_ok-add_removal_keys.ensures in
-    subst (λ (ps : List Path). Makes held files c.args.plan.now c.prune.new.self (Clear (goes key_seat (keys m) ps (kept_keys w)) ∷ [])) touched
-    (subst (λ (ps : List Path). Makes held files c.args.plan.now c.prune.new.self (Clear (goes key_seat (keys m) c.add_removal_keys.new.keys.items ps) ∷ [])) (c.in_ok-kept.ensures w asked)
-    (c.in_ok-prune.ensures.makes held files))
+    subst (λ (ps : List Path). Makes held files c.args.plan.now c.prune_touched.new.plan (Clear (goes key_seat (keys m) ps (kept_keys w)) ∷ [])) touched (c.in_ok-prune_touched.ensures.makes held files w asked)

@@ -6,8 +6,14 @@ use Rattle.mi_steps.specs.Trees.{seat_in}
 use Rattle.mi_steps.specs.Follows.{Follows, drop_touch}
 use Rattle.mi_steps.specs.Makes.{plan_machine}
 use Rattle.mi_steps.proofs.FollowLemmas.{cleared}
-use Rattle.mi_steps.proofs.PruneLemmas.{goes_in_order}
+use Rattle.mi_steps.proofs.PruneLemmas.{goes_in_order, none_there, untouched}
 use Rattle.mi_steps.proofs.plan.Plan.prune.Goals as goal
+
+-- where nothing was touched, nothing goes
+pub returns-then-is_empty-clause-makes : goal.returns-then-is_empty-clause-makes
+returns-then-is_empty-clause-makes c = λ held files.
+    untouched files (plan_machine held files c.args.self.now) c.args.self.now.script (seat_in c.args.tree) c.args.touched.items c.args.protected.items
+    (none_there c.args.touched.items c.args.touched.len c.is_empty.result c.args.touched.ok.0 c.is_empty.ensures c.if-is_empty.true)
 
 pub returns-clause-makes : goal.returns-clause-makes
 returns-clause-makes c = λ held files.

@@ -3,11 +3,12 @@ use Rattle.std.specs.List.{AllByRecursion}
 use Rattle.mi_schema.specs.Laws.{IsWithin}
 use Rattle.mi_model.specs.World.{World}
 use Rattle.mi_records.specs.Choices.{IsAsked}
-use Rattle.mi_records.proofs.GuardLemmas.{Guarding}
-use Rattle.mi_records.proofs.guards.value_guards.Given as goal
+use Rattle.mi_records.specs.Removing.{guard_of}
+use Rattle.mi_records.proofs.NamedLemmas.{Picking}
+use Rattle.mi_records.proofs.guards.value_names.Given as goal
 
 abbrev pub invariant-loop-row : goal.invariant-loop-row
 invariant-loop-row g l = record {
-  guards : (w : World) → IsAsked (g.S.Env.lookups l.seen) (g.S.Sees.choices l.seen) (g.S.Sees.rows l.seen) w → Guarding w l.set l.row-iterator;
+  picking : (w : World) → IsAsked (g.S.Env.lookups l.seen) (g.S.Sees.choices l.seen) (g.S.Sees.rows l.seen) w → Picking w (guard_of w) l.names.items l.row-iterator;
   roots : AllByRecursion (λ r. IsWithin (negsuc 0) (pos 3) r.root) l.row-iterator;
 }
