@@ -1,5 +1,6 @@
 pub mod EffectLemmas
 pub mod FrontLemmas
+pub mod GatherLemmas
 pub mod ItemLemmas
 pub mod LengthLemmas
 pub mod ListLemmas

@@ -64,14 +64,71 @@ fn taken_out(was: Option<Box<Item>>) -> Option<Item>
     }
 }
 
-impl Image {
-    /// The image of nothing, which takes no memory.
-    pub(crate) fn new(alloc: Global) -> Image
+// The item in a box, or dropped where there is no memory for one.
+fn boxed(alloc: Global, item: Item) -> Result<Box<Item>, NoMemory>
+    ensures { IfOk result (λ boxed. unboxed boxed ≡ item) }
+{
+    match Box::new(alloc, item) {
+        Ok(boxed) => Ok(boxed),
+        Err(refused) => {
+            drop(refused);
+            Err(NoMemory)
+        }
+    }
+}
+
+/// What a scan has read so far, in the order in which it came. The tree is built of all at once: where the names came in
+/// byte order, each is compared with its neighbours alone.
+#[derive(Drop)]
+pub(crate) struct Gathered {
+    pairs: Vec<(Vec<u8>, Box<Item>)>,
+}
+
+impl Model for Gathered {
+    ghost use Rattle.std.specs.Prelude.{reverse};
+    ghost use Rattle.std.specs.FinMap as map;
+    ghost use Rattle.std.specs.Coded.{coded_list, coded_ℕ};
+    ghost use Rattle.mi_image.specs.contracts.item.Item as item;
+    ghost use Rattle.mi_image.specs.Items.{Items, items_of, AreRight};
+
+    ghost Value = { Items };
+
+    ghost coded = { map.code (coded_list coded_ℕ) item.the_row.coded };
+
+    ghost view = { λ g. items_of (reverse g.pairs.items) };
+
+    ghost invariant = { λ g. AreRight (items_of (reverse g.pairs.items)) };
+}
+
+impl Gathered {
+    /// Nothing, which takes no memory.
+    pub(crate) fn new(alloc: Global) -> Gathered
         ensures { result ≡ tree.empty }
     {
-        Image {
-            items: BTreeMap::new(alloc),
+        Gathered {
+            pairs: Vec::new(alloc),
         }
+    }
+
+    /// Sets what stands at a name.
+    pub(crate) fn put(&mut self, alloc: Global, name: &Name, item: Item) -> Result<(), NoMemory>
+        requires { MayStand name.now item }
+        ensures ok { OnOk result (self.new ≡ tree.insert self.old name.now item) }
+    {
+        let item = boxed(alloc, item)?;
+        let key = Vec::from_slice(alloc, name.as_bytes())?;
+        self.pairs.push((key, item))?;
+        Ok(())
+    }
+}
+
+impl Image {
+    /// The image of what was gathered, which is moved.
+    pub(crate) fn of(alloc: Global, gathered: Gathered) -> Result<Image, NoMemory>
+        ensures { IfOk result (λ image. image ≡ gathered) }
+    {
+        let items = BTreeMap::from_iter(alloc, gathered.pairs)?;
+        Ok(Image { items })
     }
 
     /// What stands at a composed name, which takes no memory.
@@ -158,16 +215,9 @@ impl Image {
         ensures ok { OnOk result (self.new ≡ tree.insert self.old key.items item) }
         ensures err { OnErr result (self.new ≡ self.old) }
     {
-        match Box::new(alloc, item) {
-            Ok(item) => {
-                let was = self.items.insert(key, item)?;
-                Ok(taken_out(was))
-            }
-            Err(_) => {
-                drop(key);
-                Err(NoMemory)
-            }
-        }
+        let item = boxed(alloc, item)?;
+        let was = self.items.insert(key, item)?;
+        Ok(taken_out(was))
     }
 
     /// Takes away what stands at a name, and hands it out. No memory.

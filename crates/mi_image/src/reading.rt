@@ -1,6 +1,6 @@
 //! Reading what a volume holds under one name.
 
-ghost use Rattle.std.specs.Prelude.{◌≡◌, ◌≤◌, ◌||◌, List, ℕ, None, MatchOption, IfOk, OnOk, IsErrOf, length, take, codes, min, true, false, nat_eq};
+ghost use Rattle.std.specs.Prelude.{◌≡◌, ◌≤◌, ◌++◌, ◌||◌, List, ℕ, None, MatchOption, IfOk, OnOk, OnErr, IsErrOf, length, take, codes, min, true, false, nat_eq};
 ghost use Rattle.std.specs.List.{starts_with};
 ghost use Rattle.std.specs.FinMap.{get};
 ghost use Rattle.mi_text.specs.Bytes.{AreBytes};
@@ -14,7 +14,7 @@ use crate::fault::ImageError;
 use crate::fronts::may_go_on;
 use crate::item::{Content, Item};
 use crate::stated::stated_length;
-use mi_base::{Bytes, Name, RecError, dec_entry, dec_file_head};
+use mi_base::{Bytes, Name, NoMemory, RecError, dec_entry, dec_file_head};
 use mi_volume::{PIECE, VolFault, Volume};
 use std::alloc::Global;
 
@@ -32,6 +32,19 @@ pub fn begins(name: &Name, front: &[u8]) -> bool
     ensures { result ≡ starts_with nat_eq name.now front.now }
 {
     name.as_bytes().starts_with(front)
+}
+
+/// Adds a piece behind bytes. Behind none it is moved.
+fn append(bytes: &mut Bytes, piece: Bytes) -> Result<(), NoMemory>
+    ensures ok { OnOk result (bytes.new ≡ bytes.old ++ piece) }
+    ensures err { OnErr result (bytes.new ≡ bytes.old) }
+{
+    if bytes.is_empty() {
+        *bytes = piece;
+        return Ok(());
+    }
+    bytes.extend(piece.as_slice())?;
+    Ok(())
 }
 
 /// Reads on behind the first bytes that a name holds, up to `want` of them, or all where there are fewer. They are read in
@@ -52,8 +65,9 @@ fn read_on<V: Volume>(
     while bytes.len() < want {
         let asked = PIECE.min(want - bytes.len());
         let piece = vol.read(alloc, name, bytes.len() as u64, asked)?;
-        bytes.extend(piece.as_slice())?;
-        if piece.len() < asked {
+        let got = piece.len();
+        append(bytes, piece)?;
+        if got < asked {
             return Ok(());
         }
     }

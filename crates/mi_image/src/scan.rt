@@ -10,7 +10,7 @@ ghost use Rattle.mi_image.specs.Looks.{OnlyLooks};
 ghost use Rattle.mi_image.specs.Scan.{ReadUpTo};
 
 use crate::fault::ImageError;
-use crate::image::Image;
+use crate::image::{Gathered, Image};
 use crate::reading::{begins, read_item};
 use mi_base::Name;
 use mi_volume::Volume;
@@ -20,11 +20,11 @@ use std::alloc::Global;
 fn add_name<V: Volume>(
     alloc: Global,
     vol: &mut V,
-    image: &mut Image,
+    found: &mut Gathered,
     name: &Name,
 ) -> Result<(), ImageError>
-    ensures adds { V.told → (after : Option (List ℕ)) → next_name (V.state vol.old).held after ≡ Some name.now → ReadUpTo (V.state vol.old).held after image.old → OnOk result (ReadUpTo (V.state vol.old).held (Some name.now) image.new) }
-    ensures bad { V.told → (after : Option (List ℕ)) → next_name (V.state vol.old).held after ≡ Some name.now → ReadUpTo (V.state vol.old).held after image.old → (n : List ℕ) → IsErrOf result (ImageError.BadImage n) → machine_of (V.state vol.old).held ≡ Err n }
+    ensures adds { V.told → (after : Option (List ℕ)) → next_name (V.state vol.old).held after ≡ Some name.now → ReadUpTo (V.state vol.old).held after found.old → OnOk result (ReadUpTo (V.state vol.old).held (Some name.now) found.new) }
+    ensures bad { V.told → (after : Option (List ℕ)) → next_name (V.state vol.old).held after ≡ Some name.now → ReadUpTo (V.state vol.old).held after found.old → (n : List ℕ) → IsErrOf result (ImageError.BadImage n) → machine_of (V.state vol.old).held ≡ Err n }
     ensures looks { V.told → OnlyLooks (V.state vol.old) (V.state vol.new) }
     ensures passes { Passes (V.state vol.old) (V.state vol.new) }
     ensures fault { IsErrOf result ImageError.Fault → Rose (V.state vol.old) (V.state vol.new) }
@@ -33,7 +33,7 @@ fn add_name<V: Volume>(
         return Ok(());
     }
     let item = read_item(alloc, vol, name)?;
-    image.put(alloc, name, item)?;
+    found.put(alloc, name, item)?;
     Ok(())
 }
 
@@ -48,13 +48,14 @@ impl Image {
         ensures passes { Passes (V.state vol.old) (V.state vol.new) }
         ensures fault { IsErrOf result ImageError.Fault → Rose (V.state vol.old) (V.state vol.new) }
     {
-        let mut image = Image::new(alloc);
+        let mut found = Gathered::new(alloc);
         let mut after: Option<Name> = None;
         while let Some(name) = vol.next(alloc, after.as_ref())? {
-            add_name(alloc, vol, &mut image, &name)?;
+            add_name(alloc, vol, &mut found, &name)?;
             let _bytes = name.as_bytes();
             after = Some(name);
         }
+        let image = Image::of(alloc, found)?;
         Ok(image)
     }
 }

@@ -17,12 +17,10 @@ loop-alloc-preserved g c =
           c.in_ok-piece.ensures.value told
           ∙ ap (λ (n : ℕ). take c.min-asked.result (drop n (bytes_or_none (get (state c.loop-alloc.vol).held c.args.name.now)))) c.len-in-loop-alloc-2.ensures
           ∙ ap (λ (held : Map). take c.min-asked.result (drop (length c.loop-alloc.bytes) (bytes_or_none (get held c.args.name.now)))) (inv.looks told).stays.held in
-          front_piece c.loop-alloc.bytes c.extend.new.self whole c.min-asked.result (inv.front told begun)
-          (c.in_ok-extend.ensures.ok ∙ ap (λ (piece : List ℕ). c.loop-alloc.bytes ++ piece) (c.as_slice.ensures ∙ at));
+          front_piece c.loop-alloc.bytes c.append.new.bytes whole c.min-asked.result (inv.front told begun) (c.in_ok-append.ensures.ok ∙ ap (λ (piece : List ℕ). c.loop-alloc.bytes ++ piece) at);
       short = λ low.
-          let long : length c.extend.new.self ≡ length (c.loop-alloc.bytes ++ c.as_slice.result.now) = ap length c.in_ok-extend.ensures.ok in
-          let piece : length c.as_slice.result.now ≡ length c.in_ok-piece.piece = ap length c.as_slice.ensures in
-          omega (arith, long, piece, length-append c.loop-alloc.bytes c.as_slice.result.now, c.in_ok-piece.ensures.short, c.min-asked.ensures, c.len-in-loop-alloc.ensures, inv.short low);
+          let long : length c.append.new.bytes ≡ length (c.loop-alloc.bytes ++ c.in_ok-piece.piece) = ap length c.in_ok-append.ensures.ok in
+          omega (arith, long, length-append c.loop-alloc.bytes c.in_ok-piece.piece, c.in_ok-piece.ensures.short, c.min-asked.ensures, c.len-in-loop-alloc.ensures, inv.short low);
       looks = λ told. looks_then (state c.args.vol.now) (state c.loop-alloc.vol) (state c.read.new.self) (inv.looks told) (looks_once (state c.loop-alloc.vol) (state c.read.new.self) (c.in_ok-piece.ensures.stays told) (c.in_ok-piece.ensures.still told) c.in_ok-piece.ensures.moments);
       passes = then_passes (state c.args.vol.now) (state c.loop-alloc.vol) (state c.read.new.self) inv.passes (passes (state c.loop-alloc.vol) (state c.read.new.self) _ c.in_ok-piece.ensures.moments);
     }

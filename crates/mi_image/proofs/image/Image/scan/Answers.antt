@@ -1,12 +1,14 @@
 use Rattle.std.proofs.Common.{◌≡◌, List, ℕ, Option, Some, None, sym, ap, subst, ◌∙◌}
-use Rattle.std.specs.Prelude.{IfSome}
+use Rattle.std.specs.Prelude.{IfSome, IsOkAnd}
 use Rattle.std.specs.Option.{option_copied}
 use Rattle.mi_text.specs.Maps.{Map}
 use Rattle.mi_text.specs.Next.{next_name}
+use Rattle.mi_base.specs.Machine.{machine_of}
 use Rattle.mi_base.proofs.ByteLemmas.{text_bytes}
 use Rattle.mi_volume.specs.Maps.{IsAbove}
 use Rattle.mi_volume.specs.State.{Images}
 use Rattle.mi_volume.proofs.Moments.{started, passes, then_passes}
+use Rattle.mi_image.specs.Items.{Items, ImageOf}
 use Rattle.mi_image.specs.Scan.{ReadUpTo}
 use Rattle.mi_image.proofs.LookLemmas.{looks_first, looks_once, looks_then}
 use Rattle.mi_image.proofs.RankLemmas.{falls}
@@ -18,7 +20,7 @@ loop-after-init g c =
     let start = g.V.Volume.state c.args.vol.now in
     record {
       named = tt;
-      read = λ told. subst (ReadUpTo start.held None) (sym c.new-image.ensures) (begun start.held);
+      read = λ told. subst (ReadUpTo start.held None) (sym c.new-found.ensures) (begun start.held);
       looks = λ told. looks_first start;
       passes = passes start start (Images start) (started start (Images start));
     }
@@ -41,7 +43,7 @@ loop-after-preserved g c =
           let after : (state c.next.new.self).held ≡ (state c.args.vol.now).held = (c.in_ok-name.ensures.stays told).held ∙ here in
           let next : next_name (state c.args.vol.now).held c.loop-after.after ≡ Some c.in-Some.name =
           sym (c.in_ok-name.ensures.value told ∙ ap (next_name (state c.loop-after.vol).held) c.as_ref.ensures.value ∙ ap (λ (held : Map (List ℕ)). next_name held c.loop-after.after) here) ∙ c.in-Some.is in
-          subst (λ (held : Map (List ℕ)). next_name held c.loop-after.after ≡ Some c.in-Some.name → ReadUpTo held c.loop-after.after c.loop-after.image → ReadUpTo held (Some c.in-Some.name) c.add_name.new.image) after
+          subst (λ (held : Map (List ℕ)). next_name held c.loop-after.after ≡ Some c.in-Some.name → ReadUpTo held c.loop-after.after c.loop-after.found → ReadUpTo held (Some c.in-Some.name) c.add_name.new.found) after
           (c.in_ok-add_name.ensures.adds told c.loop-after.after) next (inv.read told);
       looks = λ told.
           let seen = looks_once (state c.loop-after.vol) (state c.next.new.self) (c.in_ok-name.ensures.stays told) (c.in_ok-name.ensures.still told) c.in_ok-name.ensures.moments in
@@ -56,4 +58,5 @@ returns-clause-image g c = λ told files.
     let here : (state c.loop-after.vol).held ≡ (state c.args.vol.now).held = (inv.looks told).stays.held in
     let next : next_name (state c.args.vol.now).held c.loop-after.after ≡ None =
     sym (c.in_ok-name.ensures.value told ∙ ap (next_name (state c.loop-after.vol).held) c.as_ref.ensures.value ∙ ap (λ (held : Map (List ℕ)). next_name held c.loop-after.after) here) ∙ c.in_default.is in
-    image_read (state c.args.vol.now).held files c.loop-after.after c.loop-after.image next (inv.read told)
+    subst (λ (found : Items). IsOkAnd (machine_of (state c.args.vol.now).held) (ImageOf (state c.args.vol.now).held files found)) (sym c.in_ok-image.ensures)
+    (image_read (state c.args.vol.now).held files c.loop-after.after c.loop-after.found next (inv.read told))

@@ -12,7 +12,7 @@ invariant-loop-after g l =
     let state = g.V.Volume.state in
     record {
       named : IfSome l.after (λ a. IsNameLength a × AreBytes a);
-      read : g.V.Volume.told → ReadUpTo (state l.initial.vol).held l.after l.image;
+      read : g.V.Volume.told → ReadUpTo (state l.initial.vol).held l.after l.found;
       looks : g.V.Volume.told → OnlyLooks (state l.initial.vol) (state l.vol);
       passes : Passes (state l.initial.vol) (state l.vol);
     }
