@@ -5,7 +5,7 @@ ghost use Rattle.std.specs.Option.{option_copied};
 ghost use Rattle.mi_volume.specs.Maps.{IsAbove};
 
 use crate::names::LONGEST_NAME;
-use crate::order::sorted;
+use crate::order::sort_names;
 use crate::trouble::Trouble;
 use mi_text::{Name, NameError};
 use std::alloc::Global;
@@ -107,30 +107,33 @@ fn sort_places(known: &[Known], places: &mut Vec<usize>) {
 impl Held {
     /// These names, of which no length is known. `is_whole` says whether nothing stands at the path of any other name.
     pub fn of(alloc: Global, names: Vec<String>, is_whole: bool) -> Result<Held, Trouble> {
-        let sorted = sorted(alloc, names.as_slice())?;
-        let removed = Vec::with_capacity(alloc, names.len())?;
-        let mut above = String::new(alloc);
-        above.reserve(LONGEST_NAME)?;
-        let mut known = Vec::with_capacity(alloc, names.len())?;
-        for name in names {
-            known.push(Known {
-                name,
-                is_held: true,
-                length: None,
-                written: 0,
-            })?;
-        }
-        Ok(Held {
-            known,
-            sorted,
+        let mut held = Held {
+            known: Vec::with_capacity(alloc, names.len())?,
+            sorted: Vec::with_capacity(alloc, names.len())?,
             others: BTreeMap::new(alloc),
             is_whole,
             at: 0,
-            above,
+            above: String::with_capacity(alloc, LONGEST_NAME)?,
             written: Vec::new(alloc),
-            removed,
+            removed: Vec::with_capacity(alloc, names.len())?,
             round: 1,
-        })
+        };
+        for name in sort_names(alloc, names)? {
+            held.push(name)?;
+        }
+        Ok(held)
+    }
+
+    // Adds a name that is held, above all others.
+    fn push(&mut self, name: String) -> Result<(), Trouble> {
+        self.sorted.push(self.known.len())?;
+        self.known.push(Known {
+            name,
+            is_held: true,
+            length: None,
+            written: 0,
+        })?;
+        Ok(())
     }
 
     /// The name at a place.

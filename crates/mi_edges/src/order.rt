@@ -5,6 +5,7 @@
 
 use crate::trouble::Trouble;
 use std::alloc::Global;
+use std::mem;
 
 // The bytes by which names are sorted at once.
 const KEY_BYTES: usize = 16;
@@ -110,8 +111,23 @@ fn sort_keys(names: &[String], keys: &mut Vec<Key>, runs: &mut Vec<Alike>) -> Re
     Ok(())
 }
 
-/// The places of names in their byte order.
-pub fn sorted(alloc: Global, names: &[String]) -> Result<Vec<usize>, Trouble> {
+// Moves names out, in the order of the keys.
+fn take_names(
+    alloc: Global,
+    names: &mut Vec<String>,
+    keys: &[Key],
+) -> Result<Vec<String>, Trouble> {
+    let mut sorted = Vec::with_capacity(alloc, keys.len())?;
+    for key in keys {
+        if let Some(name) = names.get_mut(key.3) {
+            sorted.push(mem::replace(name, String::new(alloc)))?;
+        }
+    }
+    Ok(sorted)
+}
+
+/// Puts names into their byte order.
+pub fn sort_names(alloc: Global, mut names: Vec<String>) -> Result<Vec<String>, Trouble> {
     let mut keys: Vec<Key> = Vec::with_capacity(alloc, names.len())?;
     for place in 0..names.len() {
         keys.push((0, 0, 0, place))?;
@@ -122,10 +138,6 @@ pub fn sorted(alloc: Global, names: &[String]) -> Result<Vec<usize>, Trouble> {
         to: names.len(),
         shared: 0,
     })?;
-    sort_keys(names, &mut keys, &mut runs)?;
-    let mut places = Vec::with_capacity(alloc, names.len())?;
-    for key in keys.iter() {
-        places.push(key.3)?;
-    }
-    Ok(places)
+    sort_keys(names.as_slice(), &mut keys, &mut runs)?;
+    take_names(alloc, &mut names, keys.as_slice())
 }
