@@ -306,7 +306,7 @@ impl<R: Files + Alloc + Clone + Drop> Disk<R> {
     fn begin(&mut self, name: &str) -> Result<Option<u64>, Trouble> {
         let before = self.size(name)?;
         self.looked.clear();
-        if before.is_none() {
+        if before.is_none() && name.len() > PART_BYTES {
             self.do_parts(name, Parts::Made)?;
         }
         Ok(before)

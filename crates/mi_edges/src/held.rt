@@ -121,12 +121,17 @@ impl Held {
         for name in sort_names(alloc, names)? {
             held.push(name)?;
         }
+        held.at = 0;
         Ok(held)
     }
 
-    // Adds a name that is held, above all others.
+    // Adds a name that is held, above all others. A folder that another program changes may be listed with a name twice.
     fn push(&mut self, name: String) -> Result<(), Trouble> {
-        self.sorted.push(self.known.len())?;
+        if self.is_at(self.at, name.as_str()) {
+            return Ok(());
+        }
+        self.at = self.known.len();
+        self.sorted.push(self.at)?;
         self.known.push(Known {
             name,
             is_held: true,
