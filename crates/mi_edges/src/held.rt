@@ -249,7 +249,7 @@ impl Held {
         }
     }
 
-    /// The least name above `after`, with its place.
+    /// The least name above `after`, with its place. That it is above is looked at: names out of order are a failure.
     pub fn next(
         &mut self,
         alloc: Global,
@@ -264,7 +264,7 @@ impl Held {
         if is_above(after, &name) {
             Ok(Some((name, place)))
         } else {
-            Ok(None)
+            Err(Trouble::Failed)
         }
     }
 
