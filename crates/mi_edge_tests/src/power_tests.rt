@@ -24,6 +24,8 @@ enum Deed {
 /// What a process does, at names of so many bytes.
 struct History {
     lengths: &'static [usize],
+    // What an earlier process has done, to its end.
+    before: &'static [Deed],
     deeds: &'static [Deed],
     trips: &'static [Trip],
     // Behind one of how many stops the power is cut at each call of the next opening of the volume, too.
@@ -34,6 +36,7 @@ struct History {
 /// sync behind one that may have failed.
 const SHORT: History = History {
     lengths: &[6, 200],
+    before: &[],
     deeds: &[
         Deed::At(0, Act::Put("many bytes")),
         Deed::At(1, Act::Put("a")),
@@ -67,6 +70,7 @@ const SHORT: History = History {
 /// A name of eleven parts.
 const LONG: History = History {
     lengths: &[1_005],
+    before: &[],
     deeds: &[
         Deed::At(0, Act::Put("long")),
         Deed::Sync,
@@ -75,6 +79,24 @@ const LONG: History = History {
     ],
     trips: &[Trip::Stop],
     cuts_opening: 7,
+};
+
+/// Names that are held when the process begins, which marks one and takes one away before it lists them.
+const HELD: History = History {
+    lengths: &[6, 200],
+    before: &[
+        Deed::At(0, Act::Put("a")),
+        Deed::At(1, Act::Put("b")),
+        Deed::Sync,
+    ],
+    deeds: &[
+        Deed::At(1, Act::Remove),
+        Deed::At(0, Act::Mark(b'c')),
+        Deed::Sync,
+        Deed::At(0, Act::Mark(b'd')),
+    ],
+    trips: &[Trip::Stop, Trip::Fail(Failure::Broken)],
+    cuts_opening: 3,
 };
 
 /// What the disk may have after the power was cut.
@@ -280,15 +302,20 @@ fn is_opening_cut(history: &History, trip: Option<(usize, Trip)>) -> bool {
     }
 }
 
+/// The disk on which a history begins.
+fn begun(alloc: Global, history: &History, names: &mut Vec<Known>) -> Result<Device, Wrong> {
+    let empty = Device::new(alloc)?;
+    if history.before.is_empty() {
+        return Ok(empty);
+    }
+    changed(alloc, empty, history.before, names)
+}
+
 /// A process whose call of this number goes wrong, and what is found on its disk. How many calls it made.
 fn trial(alloc: Global, history: &History, trip: Option<(usize, Trip)>) -> Result<usize, Wrong> {
     let mut names = names_of(alloc, history)?;
-    let device = changed(
-        alloc,
-        Device::new(alloc)?.again(trip)?,
-        history.deeds,
-        &mut names,
-    )?;
+    let before = begun(alloc, history, &mut names)?;
+    let device = changed(alloc, before.again(trip)?, history.deeds, &mut names)?;
     match trip {
         Some((_, Trip::Fail(_))) => outlives(alloc, &device, &names, &CUTS)?,
         Some((_, Trip::Stop)) | None => {
@@ -379,5 +406,6 @@ fn what_was_synced_outlives_each_stop_and_each_failure(rt: HostRuntime) -> Resul
     assert_eq!(rt; folder_stays(alloc), Ok(true));
     assert_eq!(rt; first_wrong(alloc, &SHORT), Ok(()));
     assert_eq!(rt; first_wrong(alloc, &LONG), Ok(()));
+    assert_eq!(rt; first_wrong(alloc, &HELD), Ok(()));
     Ok(())
 }

@@ -23,14 +23,14 @@ use std::fs::{File, Files};
 pub struct Disk<R: Files> {
     rt: R,
     folder: String,
+    // The path in which all names stand: the folder's and `/`.
+    top: String,
     // Room for the longest path, so that no call has to grow it.
     path: String,
-    // The name whose file stands at `path`, with room for the longest, and the length that the last look found; no bytes
+    // The name whose file stands at `path`, with room for the longest, and the length that the last look found; no text
     // where no look serves any more.
-    looked: Vec<u8>,
+    looked: String,
     length: u64,
-    // Whether the list of names has that length, too.
-    is_listed: bool,
     // The folder itself, open, with its lock.
     lock: Option<R::File>,
 }
@@ -92,10 +92,10 @@ impl<R: Files + Alloc + Clone + Drop> Disk<R> {
         let mut disk = Disk {
             rt,
             folder: String::new(alloc),
+            top: String::new(alloc),
             path: String::new(alloc),
-            looked: Vec::new(alloc),
+            looked: String::new(alloc),
             length: 0,
-            is_listed: false,
             lock: None,
         };
         match disk.take_room(folder) {
@@ -106,8 +106,10 @@ impl<R: Files + Alloc + Clone + Drop> Disk<R> {
 
     fn take_room(&mut self, folder: &str) -> Result<(), Trouble> {
         self.folder.push_str(folder)?;
-        self.path.push_str(folder)?;
-        self.path.reserve(LONGEST_PATH + 1)?;
+        self.top.push_str(folder)?;
+        self.top.push('/')?;
+        self.path.push_str(self.top.as_str())?;
+        self.path.reserve(LONGEST_PATH)?;
         self.looked.reserve(LONGEST_NAME)?;
         Ok(())
     }
@@ -161,14 +163,14 @@ impl<R: Files + Alloc + Clone + Drop> Disk<R> {
     }
 
     // Writes the plain files of names anew.
-    fn renew_all(&mut self, names: &[(String, usize)]) -> Result<(), Trouble> {
-        for (name, _) in names {
-            self.renew_name(name.as_bytes())?;
+    fn renew_all(&mut self, names: &[String]) -> Result<(), Trouble> {
+        for name in names {
+            self.renew_name(name.as_str())?;
         }
         Ok(())
     }
 
-    fn renew_name(&mut self, name: &[u8]) -> Result<(), Trouble> {
+    fn renew_name(&mut self, name: &str) -> Result<(), Trouble> {
         match self.look_at(name)? {
             Found::File(length) => renew_file(&self.rt, self.path.as_str(), length),
             Found::Nothing | Found::Folder | Found::Other => Ok(()),
@@ -178,8 +180,7 @@ impl<R: Files + Alloc + Clone + Drop> Disk<R> {
     fn set_folder(&mut self) -> Result<(), Trouble> {
         self.looked.clear();
         self.path.clear();
-        self.path.push_str(self.folder.as_str())?;
-        self.path.push('/')?;
+        self.path.push_str(self.top.as_str())?;
         Ok(())
     }
 
@@ -239,8 +240,9 @@ impl<R: Files + Alloc + Clone + Drop> Disk<R> {
 
     // Spells a name's path, at which this leaves the path, and does this with each folder in which the name stands, the
     // highest first, up to one that isn't there; whether all are there then.
-    fn do_parts(&mut self, name: &[u8], what: Parts<'_>) -> Result<bool, Trouble> {
+    fn do_parts(&mut self, name: &str, what: Parts<'_>) -> Result<bool, Trouble> {
         self.set_folder()?;
+        let name = name.as_bytes();
         let mut are_there = true;
         let mut bytes = 0usize;
         for part in name.chunks(PART_BYTES) {
@@ -254,7 +256,7 @@ impl<R: Files + Alloc + Clone + Drop> Disk<R> {
     }
 
     // Looks at a name's path, at which this leaves the path.
-    fn look_anew(&mut self, name: &[u8]) -> Result<Found, Trouble> {
+    fn look_anew(&mut self, name: &str) -> Result<Found, Trouble> {
         if self.do_parts(name, Parts::Looked)? {
             look(&self.rt, self.path.as_str())
         } else {
@@ -263,40 +265,25 @@ impl<R: Files + Alloc + Clone + Drop> Disk<R> {
     }
 
     // Whether the last look serves this name.
-    fn serves(&self, name: &[u8]) -> bool {
-        !name.is_empty() && self.looked.as_slice() == name
+    fn serves(&self, name: &str) -> bool {
+        !name.is_empty() && self.looked.as_str() == name
     }
 
     /// What stands at a name's path.
-    pub fn look_at(&mut self, name: &[u8]) -> Result<Found, Trouble> {
+    pub fn look_at(&mut self, name: &str) -> Result<Found, Trouble> {
         if self.serves(name) {
             return Ok(Found::File(self.length));
         }
         let found = self.look_anew(name)?;
         if let Found::File(length) = found {
-            self.looked.extend_from_slice(name)?;
+            self.looked.push_str(name)?;
             self.length = length;
-            self.is_listed = false;
         }
         Ok(found)
     }
 
-    /// Takes down that the list of names has the length that the last look found.
-    pub fn set_listed(&mut self) {
-        self.is_listed = true;
-    }
-
-    /// The length of a name's file, where the last look serves the name and the list of names has its length, too.
-    pub fn listed_length(&self, name: &[u8]) -> Option<u64> {
-        if self.is_listed && self.serves(name) {
-            Some(self.length)
-        } else {
-            None
-        }
-    }
-
     /// The length of a name's file. What stands at its path and isn't a plain file is a failure.
-    pub fn size(&mut self, name: &[u8]) -> Result<Option<u64>, Trouble> {
+    pub fn size(&mut self, name: &str) -> Result<Option<u64>, Trouble> {
         file_length(self.look_at(name)?)
     }
 
@@ -304,7 +291,7 @@ impl<R: Files + Alloc + Clone + Drop> Disk<R> {
     pub fn read(
         &mut self,
         alloc: Global,
-        name: &[u8],
+        name: &str,
         at: u64,
         want: usize,
     ) -> Result<Vec<u8>, Trouble>
@@ -316,23 +303,23 @@ impl<R: Files + Alloc + Clone + Drop> Disk<R> {
 
     // The length of a name's file that is to be changed, at whose path this leaves the path. Where it isn't there, its
     // levels are made.
-    fn begin(&mut self, name: &[u8]) -> Result<Option<u64>, Trouble> {
+    fn begin(&mut self, name: &str) -> Result<Option<u64>, Trouble> {
         let before = self.size(name)?;
         self.looked.clear();
-        if before.is_none() {
+        if before.is_none() && name.len() > PART_BYTES {
             self.do_parts(name, Parts::Made)?;
         }
         Ok(before)
     }
 
     /// Gives a name's file exactly these bytes, in place. Answers the file, open at its end.
-    pub fn put(&mut self, name: &[u8], bytes: &[u8]) -> Result<R::File, Trouble> {
+    pub fn put(&mut self, name: &str, bytes: &[u8]) -> Result<R::File, Trouble> {
         let before = self.begin(name)?;
         put_file(&self.rt, self.path.as_str(), before, bytes)
     }
 
     /// Adds bytes at the end of a name's file, and makes it where it isn't there. Answers the file, open at its end.
-    pub fn append(&mut self, name: &[u8], bytes: &[u8]) -> Result<R::File, Trouble> {
+    pub fn append(&mut self, name: &str, bytes: &[u8]) -> Result<R::File, Trouble> {
         let before = self.begin(name)?;
         append_file(&self.rt, self.path.as_str(), before, bytes)
     }
@@ -344,8 +331,7 @@ impl<R: Files + Alloc + Clone + Drop> Disk<R> {
     }
 
     /// Writes the first byte of a name's file.
-    pub fn mark(&mut self, name: &[u8], byte: u8) -> Result<(), Trouble> {
-        self.is_listed = false;
+    pub fn mark(&mut self, name: &str, byte: u8) -> Result<(), Trouble> {
         match self.size(name)? {
             Some(_) => mark_file(&self.rt, self.path.as_str(), byte),
             None => Err(Trouble::Absent),
@@ -353,7 +339,7 @@ impl<R: Files + Alloc + Clone + Drop> Disk<R> {
     }
 
     /// Takes a name's file away, where it is there.
-    pub fn remove(&mut self, name: &[u8]) -> Result<(), Trouble> {
+    pub fn remove(&mut self, name: &str) -> Result<(), Trouble> {
         match self.size(name)? {
             Some(_) => {
                 self.looked.clear();
@@ -364,7 +350,7 @@ impl<R: Files + Alloc + Clone + Drop> Disk<R> {
     }
 
     /// Syncs a name's file, if it is there.
-    pub fn sync_file(&mut self, name: &[u8]) -> Result<(), Trouble> {
+    pub fn sync_file(&mut self, name: &str) -> Result<(), Trouble> {
         match self.size(name)? {
             Some(_) => sync_path(&self.rt, self.path.as_str()),
             None => Ok(()),
@@ -372,8 +358,12 @@ impl<R: Files + Alloc + Clone + Drop> Disk<R> {
     }
 
     /// Syncs the folders in which a long name stands, without those in which the last one stands too.
-    pub fn sync_parts(&mut self, name: &[u8], last: Option<&[u8]>) -> Result<(), Trouble> {
+    pub fn sync_parts(&mut self, name: &str, last: Option<&str>) -> Result<(), Trouble> {
         if name.len() > PART_BYTES {
+            let last = match last {
+                Some(last) => Some(last.as_bytes()),
+                None => None,
+            };
             self.do_parts(name, Parts::Synced(last))?;
         }
         Ok(())

@@ -53,7 +53,11 @@ struct Names {
 }
 
 impl Visit for Names {
-    fn visit<F: Files>(&mut self, rt: &F, folder: &str, name: &str) -> Result<(), Trouble> {
+    fn visit<F: Files>(&mut self, rt: &F, folder: &str, name: &[u8]) -> Result<(), Trouble> {
+        // A name that isn't text is a file of another program.
+        let Ok(name) = str::from_utf8(name) else {
+            return Ok(());
+        };
         let path = path_in(self.alloc, folder, name)?;
         if let Found::File(_) = look_through(rt, path.as_str())? {
             let text = Text::from_string(String::from_str(self.alloc, name)?);

@@ -14,7 +14,6 @@ use crate::writing::sync_open;
 use mi_text::{Bytes, Name};
 use mi_volume::{Failed, PutFault, VolFault, Volume};
 use std::alloc::Global;
-use std::collections::BTreeSet;
 use std::fs::Files;
 use thiserror::Error;
 
@@ -40,15 +39,11 @@ pub struct FolderVolume<R: Files> {
     // Whether the folder was opened, or why it can't be.
     opened: bool,
     refusal: Option<EdgeFault>,
-    // The names that are held, once they were listed.
+    // The names that are held, once they were listed, and those that were written or taken away since the last good sync.
     held: Option<Held>,
-    // The names that were written since the last good sync.
-    written: BTreeSet<String>,
-    // The one that was written last, and its file, where that is still open, at its end.
+    // The name that was written last, and its file, where that is still open, at its end.
     latest: String,
     file: Option<R::File>,
-    // The listed names that were taken away since the last good sync, with room for all that are held.
-    removed: Vec<String>,
     // Whether something has changed since then.
     changed: bool,
     // Whether a later process would find that something may not be synced.
@@ -72,21 +67,50 @@ fn look_above<R: Files + Alloc + Clone + Drop>(
     let Some((name, place)) = held.next(alloc, after)? else {
         return Ok(None);
     };
-    let found = disk.look_at(name.as_bytes())?;
+    let found = disk.look_at(name.as_str())?;
     if let Found::File(length) = found {
-        held.set_length(place, Some(length));
-        disk.set_listed();
+        held.set_length(place, length);
     }
     Ok(Some((name, found)))
 }
 
-// Adds a name, where it isn't there.
-fn insert_name(alloc: Global, names: &mut BTreeSet<String>, name: &Name) -> Result<(), Trouble> {
-    if names.contains(name.as_str()) {
-        return Ok(());
+// The name that was written last, where its file is still open.
+fn name_if_open<'a, F>(file: &Option<F>, latest: &'a str) -> Option<&'a str> {
+    match file {
+        Some(_) => Some(latest),
+        None => None,
     }
-    let text = String::from_str(alloc, name.as_str())?;
-    names.insert(text)?;
+}
+
+// Syncs the folders of the names that were taken away.
+fn sync_removed<R: Files + Alloc + Clone + Drop>(
+    disk: &mut Disk<R>,
+    held: &Held,
+) -> Result<(), Trouble> {
+    let mut last = None;
+    for place in held.removed() {
+        let name = held.text(*place);
+        disk.sync_parts(name, last)?;
+        last = Some(name);
+    }
+    Ok(())
+}
+
+// Syncs the files that were written, and their folders, but for the file of `latest`, which is synced already.
+fn sync_written<R: Files + Alloc + Clone + Drop>(
+    disk: &mut Disk<R>,
+    held: &Held,
+    latest: Option<&str>,
+) -> Result<(), Trouble> {
+    let mut last = None;
+    for place in held.written() {
+        let name = held.text(*place);
+        if latest != Some(name) {
+            disk.sync_file(name)?;
+        }
+        disk.sync_parts(name, last)?;
+        last = Some(name);
+    }
     Ok(())
 }
 
@@ -116,10 +140,8 @@ where
                 opened: false,
                 refusal: None,
                 held: None,
-                written: BTreeSet::new(alloc),
                 latest: String::new(alloc),
                 file: None,
-                removed: Vec::new(alloc),
                 changed: false,
                 noted: false,
                 placed: false,
@@ -228,7 +250,7 @@ where
         VolFault::Failed
     }
 
-    // Lists the names that are held, once, with room for those that are taken away.
+    // Lists the names that are held, once.
     fn list_held(&mut self, alloc: Global) -> Result<(), Trouble>
         ensures { self.new.faults ≡ self.old.faults }
     {
@@ -237,9 +259,7 @@ where
         }
         let Listed { names, is_whole } = self.disk.list(alloc, Folders::Listed)?;
         let held = Held::of(alloc, names, is_whole)?;
-        let room = self.removed.reserve(held.len());
         self.held = Some(held);
-        room?;
         Ok(())
     }
 
@@ -258,39 +278,23 @@ where
         }
     }
 
-    // Takes a name off the list, and answers it as it stood there.
-    fn take_off(&mut self, name: &Name) -> Option<String>
-        ensures { self.new.faults ≡ self.old.faults }
-    {
-        self.held.as_mut()?.take_off(name)
-    }
-
     // Takes down the length of a listed name, or that it isn't known.
     fn note_length(&mut self, name: &Name, length: Option<u64>)
         ensures { self.new.faults ≡ self.old.faults }
     {
         if let Some(held) = &mut self.held {
-            let _ = held.note_length(name, length);
+            held.note_length(name, length);
         }
     }
 
-    // Takes a name off the list, at which this stands and no plain file. The next one is sought above `after`.
-    fn take_strange_off(
-        &mut self,
-        name: &Name,
-        found: Found,
-        after: Option<&Name>,
-    ) -> Result<(), Trouble>
+    // Takes a name off the list, at which this stands and no plain file.
+    fn take_strange_off(&mut self, name: &Name, found: Found)
         ensures { self.new.faults ≡ self.old.faults }
     {
-        let _ = self.take_off(name);
-        match &mut self.held {
-            None => Ok(()),
-            Some(held) => {
-                if found != Found::Nothing {
-                    held.set_not_whole();
-                }
-                held.go_on(after)
+        if let Some(held) = &mut self.held {
+            held.take_off(name);
+            if found != Found::Nothing {
+                held.set_not_whole();
             }
         }
     }
@@ -307,9 +311,7 @@ where
             if let Found::File(_) = found {
                 return Ok(Some(name));
             }
-            let taken = self.take_strange_off(&name, found, after);
-            drop(name);
-            taken?;
+            self.take_strange_off(&name, found);
         }
         Ok(None)
     }
@@ -325,11 +327,10 @@ where
     }
 
     // The size of a name, where the listing knows it.
-    fn told(&self, name: &Name) -> Option<Option<u64>> {
-        match self.disk.listed_length(name.as_bytes()) {
-            Some(length) => Some(Some(length)),
-            None => self.held.as_ref()?.size(name),
-        }
+    fn told(&mut self, name: &Name) -> Option<Option<u64>>
+        ensures { self.new.faults ≡ self.old.faults }
+    {
+        self.held.as_mut()?.size(name)
     }
 
     fn size_of(&mut self, name: &Name) -> Result<Option<u64>, Trouble>
@@ -339,7 +340,7 @@ where
         if let Some(size) = self.told(name) {
             return Ok(size);
         }
-        let size = self.disk.size(name.as_bytes())?;
+        let size = self.disk.size(name.as_str())?;
         self.note_length(name, size);
         Ok(size)
     }
@@ -355,7 +356,7 @@ where
         ensures stays { self.new.faults ≡ self.old.faults }
     {
         self.open()?;
-        self.disk.read(alloc, name.as_bytes(), at, want)
+        self.disk.read(alloc, name.as_str(), at, want)
     }
 
     // Takes down, before a change, that something may not be synced.
@@ -371,41 +372,63 @@ where
         Ok(())
     }
 
-    // Takes down that a name is written, before it is. Where memory is wanting, the list of names is as it was.
-    fn note_written(&mut self, alloc: Global, name: &Name) -> Result<(), Trouble>
+    // Takes down in the list of names that a name is written, before it is. Where memory is wanting, it is as it was.
+    fn list_written(&mut self, alloc: Global, name: &Name) -> Result<(), Trouble>
         ensures { self.new.faults ≡ self.old.faults }
     {
-        insert_name(alloc, &mut self.written, name)?;
-        if let Some(held) = &mut self.held {
-            self.removed.reserve(held.len().saturating_add(1))?;
-            held.insert(alloc, name)?;
+        self.open()?;
+        self.list_held(alloc)?;
+        match &mut self.held {
+            Some(held) => held.write(alloc, name),
+            None => Err(Trouble::Failed),
         }
-        Ok(())
+    }
+
+    // Takes down that a name is written, before it is, which changes nothing else.
+    fn note_written(&mut self, alloc: Global, name: &Name) -> Result<(), PutFault>
+        ensures failed { IsErrOf result PutFault.Failed → Counts self.old.faults self.new.faults }
+        ensures later { self.old.faults ≤ self.new.faults }
+        ensures never { IsErrOf result PutFault.Full → ⊥ }
+    {
+        match self.list_written(alloc, name) {
+            Ok(()) => Ok(()),
+            Err(Trouble::NoMemory) => Err(PutFault::NoMemory),
+            Err(_) => {
+                self.count();
+                Err(PutFault::Failed)
+            }
+        }
     }
 
     // Takes a name out of the list, and keeps it for the next sync where there is room; false where it isn't kept.
     fn note_removed(&mut self, name: &Name) -> bool
         ensures { self.new.faults ≡ self.old.faults }
     {
-        let Some(text) = self.take_off(name) else {
-            return false;
-        };
-        self.removed.len() < self.removed.capacity() && self.removed.push(text).is_ok()
+        match &mut self.held {
+            Some(held) => held.remove(name),
+            None => false,
+        }
     }
 
-    // Forgets a name that a failed write has left without a file. Where that can't be told, the names are listed anew.
+    // Whether a sync reaches the file of a name.
+    fn is_reached(&mut self, name: &Name) -> bool
+        ensures { self.new.faults ≡ self.old.faults }
+    {
+        match &mut self.held {
+            Some(held) => held.is_written(name),
+            None => false,
+        }
+    }
+
+    // Forgets a name that a failed write has left without a file. Where that can't be told, it stays among the names, and
+    // each look at it tells anew.
     fn forget_absent(&mut self, name: &Name)
         ensures { self.old.faults ≤ self.new.faults }
     {
         match self.size_of(name) {
             Ok(Some(_)) => {}
-            Ok(None) => {
-                let _ = self.take_off(name);
-            }
-            Err(_) => {
-                self.count();
-                self.held = None;
-            }
+            Ok(None) => self.take_strange_off(name, Found::Nothing),
+            Err(_) => self.count(),
         }
     }
 
@@ -446,7 +469,7 @@ where
     {
         self.begin_change()?;
         self.file = None;
-        let file = self.disk.put(name.as_bytes(), bytes)?;
+        let file = self.disk.put(name.as_str(), bytes)?;
         self.keep_open(name, file);
         Ok(())
     }
@@ -469,7 +492,7 @@ where
             return self.append_open(bytes);
         }
         self.file = None;
-        let file = self.disk.append(name.as_bytes(), bytes)?;
+        let file = self.disk.append(name.as_str(), bytes)?;
         self.keep_open(name, file);
         Ok(())
     }
@@ -480,11 +503,11 @@ where
     {
         self.begin_change()?;
         self.note_length(name, None);
-        self.disk.mark(name.as_bytes(), byte)?;
-        if self.written.contains(name.as_str()) {
+        self.disk.mark(name.as_str(), byte)?;
+        if self.is_reached(name) {
             return Ok(());
         }
-        let synced = self.disk.sync_file(name.as_bytes());
+        let synced = self.disk.sync_file(name.as_str());
         self.lost = self.lost || synced.is_err();
         synced
     }
@@ -496,11 +519,11 @@ where
         self.begin_change()?;
         self.note_length(name, None);
         self.file = None;
-        self.disk.remove(name.as_bytes())?;
+        self.disk.remove(name.as_str())?;
         if self.note_removed(name) {
             return Ok(());
         }
-        let synced = self.disk.sync_parts(name.as_bytes(), None);
+        let synced = self.disk.sync_parts(name.as_str(), None);
         self.lost = self.lost || synced.is_err();
         synced
     }
@@ -515,43 +538,27 @@ where
         }
     }
 
-    // Syncs the folders of the names that were taken away.
-    fn sync_removed(&mut self) -> Result<(), Trouble>
-        ensures { self.new.faults ≡ self.old.faults }
-    {
-        self.removed.sort_unstable();
-        let mut last = None;
-        for name in self.removed.iter() {
-            self.disk.sync_parts(name.as_bytes(), last)?;
-            last = Some(name.as_bytes());
-        }
-        Ok(())
-    }
-
-    // Syncs the files that were written, and their folders.
-    fn sync_written(&mut self) -> Result<(), Trouble>
+    // Syncs the files that were written, and the folders of all names that were written or taken away.
+    fn sync_names(&mut self) -> Result<(), Trouble>
         ensures { self.new.faults ≡ self.old.faults }
     {
         if let Some(file) = &self.file {
             sync_open(file)?;
         }
-        let mut last = None;
-        for name in self.written.iter() {
-            if self.file.is_none() || self.latest.as_str() != name.as_str() {
-                self.disk.sync_file(name.as_bytes())?;
-            }
-            self.disk.sync_parts(name.as_bytes(), last)?;
-            last = Some(name.as_bytes());
-        }
-        Ok(())
+        let latest = name_if_open(&self.file, self.latest.as_str());
+        let Some(held) = &mut self.held else {
+            return Ok(());
+        };
+        held.sort_changes();
+        sync_removed(&mut self.disk, held)?;
+        sync_written(&mut self.disk, held, latest)
     }
 
     // Syncs what was written, and each folder in which a file was made or taken away.
     fn sync_changes(&mut self) -> Result<(), Trouble>
         ensures { self.new.faults ≡ self.old.faults }
     {
-        self.sync_removed()?;
-        self.sync_written()?;
+        self.sync_names()?;
         self.disk.sync_folder()?;
         if !self.placed {
             self.disk.sync_levels()?;
@@ -574,9 +581,10 @@ where
         let synced = self.sync_changes();
         self.lost = synced.is_err();
         synced?;
-        self.written.clear();
+        if let Some(held) = &mut self.held {
+            held.set_synced();
+        }
         self.file = None;
-        self.removed.clear();
         self.changed = false;
         Ok(())
     }
@@ -620,17 +628,13 @@ where
     }
 
     fn put(&mut self, alloc: Global, name: &Name, bytes: &[u8]) -> Result<(), PutFault> {
-        if self.note_written(alloc, name).is_err() {
-            return Err(PutFault::NoMemory);
-        }
+        self.note_written(alloc, name)?;
         let put = self.put_file(name, bytes);
         self.written(name, put)
     }
 
     fn append(&mut self, alloc: Global, name: &Name, bytes: &[u8]) -> Result<(), PutFault> {
-        if self.note_written(alloc, name).is_err() {
-            return Err(PutFault::NoMemory);
-        }
+        self.note_written(alloc, name)?;
         let appended = self.append_file(name, bytes);
         self.written(name, appended)
     }

@@ -5,6 +5,7 @@ ghost use Rattle.std.specs.Option.{option_copied};
 ghost use Rattle.mi_volume.specs.Maps.{IsAbove};
 
 use crate::names::LONGEST_NAME;
+use crate::order::sort_names;
 use crate::trouble::Trouble;
 use mi_text::{Name, NameError};
 use std::alloc::Global;
@@ -12,27 +13,40 @@ use std::cmp::Ordering;
 use std::collections::BTreeMap;
 use std::ops::Bound;
 
-/// Names, each with the place of its length among lengths.
-pub type Places = BTreeMap<String, usize>;
+// A name, and what is known of it.
+#[derive(Drop)]
+struct Known {
+    name: String,
+    // Whether it is held.
+    is_held: bool,
+    // The length of its file, where a look has found it since the last change of it.
+    length: Option<u64>,
+    // The round in which it was written last; 0 where it wasn't.
+    written: u64,
+}
 
-/// The most names that are taken ahead at once.
-const MOST_AHEAD: usize = 64;
-
-/// The names that are held, each with the length of its file where a look has found it since the last change of it.
+/// The names that are held, and those that were written or taken away since the last good sync. A name keeps its place as
+/// long as this value lives.
 #[derive(Drop)]
 pub struct Held {
-    places: Places,
-    // The lengths by their places; None where one isn't known.
-    lengths: Vec<Option<u64>>,
+    // The names by their places.
+    known: Vec<Known>,
+    // The places of the listed names, and of those that came later in their order, in byte order.
+    sorted: Vec<usize>,
+    // The places of the names that came later, out of this order.
+    others: BTreeMap<String, usize>,
     // Whether nothing stands at the path of any other name.
     is_whole: bool,
-    // Names directly above `above` with their places, the least last. They are taken ahead, so that going through all
-    // names doesn't seek each.
-    ahead: Vec<(Name, usize)>,
-    // The name that was gone through last, or no bytes; with room for the longest.
+    // Where in `sorted` the name stands that was sought last: the next one that is sought is mostly this one or the next.
+    at: usize,
+    // Room for the longest name.
     above: String,
-    // How many names were taken ahead at once the last time.
-    count: usize,
+    // The places of the names that were written since the last good sync, each once, and of those that were taken away,
+    // with room for all.
+    written: Vec<usize>,
+    removed: Vec<usize>,
+    // How many good syncs there were, and one.
+    round: u64,
 }
 
 // Whether a name stands above another one, or above none.
@@ -54,89 +68,188 @@ fn name_of(alloc: Global, text: &str) -> Result<Name, Trouble> {
     }
 }
 
-// Takes names that are above one ahead, at most so many, the least first.
-fn take_above(
-    alloc: Global,
-    places: &Places,
-    above: &String,
-    ahead: &mut Vec<(Name, usize)>,
-    count: usize,
-) -> Result<(), Trouble> {
+// The name at a place.
+fn text_at(known: &[Known], place: usize) -> &str {
+    match known.get(place) {
+        Some(known) => known.name.as_str(),
+        None => "",
+    }
+}
+
+// Whether the name at a place is held.
+fn is_held(known: &[Known], place: usize) -> bool {
+    match known.get(place) {
+        Some(known) => known.is_held,
+        None => false,
+    }
+}
+
+// The place of the least held name above this one, or of the least one where this has no bytes.
+fn least_above(known: &[Known], places: &BTreeMap<String, usize>, above: &String) -> Option<usize> {
     let from = if above.is_empty() {
         Bound::Unbounded
     } else {
         Bound::Excluded(above)
     };
-    for (text, place) in places.range((from, Bound::Unbounded)).take(count) {
-        ahead.push((name_of(alloc, text.as_str())?, *place))?;
+    for (_, place) in places.range((from, Bound::Unbounded)) {
+        if is_held(known, *place) {
+            return Some(*place);
+        }
     }
-    Ok(())
+    None
+}
+
+// Puts places into the byte order of their names.
+fn sort_places(known: &[Known], places: &mut Vec<usize>) {
+    places.sort_unstable_by(|one, other| text_at(known, *one).cmp(text_at(known, *other)));
 }
 
 impl Held {
     /// These names, of which no length is known. `is_whole` says whether nothing stands at the path of any other name.
-    pub fn of(alloc: Global, names: Vec<(String, usize)>, is_whole: bool) -> Result<Held, Trouble> {
-        let lengths = Vec::from_elem(alloc, None, names.len())?;
-        let mut above = String::new(alloc);
-        above.reserve(LONGEST_NAME)?;
-        let places = BTreeMap::from_iter(alloc, names)?;
-        Ok(Held {
-            places,
-            lengths,
+    pub fn of(alloc: Global, names: Vec<String>, is_whole: bool) -> Result<Held, Trouble> {
+        let mut held = Held {
+            known: Vec::with_capacity(alloc, names.len())?,
+            sorted: Vec::with_capacity(alloc, names.len())?,
+            others: BTreeMap::new(alloc),
             is_whole,
-            ahead: Vec::new(alloc),
-            above,
-            count: 0,
-        })
+            at: 0,
+            above: String::with_capacity(alloc, LONGEST_NAME)?,
+            written: Vec::new(alloc),
+            removed: Vec::with_capacity(alloc, names.len())?,
+            round: 1,
+        };
+        for name in sort_names(alloc, names)? {
+            held.push(name)?;
+        }
+        held.at = 0;
+        Ok(held)
     }
 
-    /// How many names there are.
-    pub fn len(&self) -> usize {
-        self.places.len()
+    // Adds a name that is held, above all others. A folder that another program changes may be listed with a name twice.
+    fn push(&mut self, name: String) -> Result<(), Trouble> {
+        if self.is_at(self.at, name.as_str()) {
+            return Ok(());
+        }
+        self.at = self.known.len();
+        self.sorted.push(self.at)?;
+        self.known.push(Known {
+            name,
+            is_held: true,
+            length: None,
+            written: 0,
+        })?;
+        Ok(())
     }
 
-    // Whether the names that were taken ahead stand above this one.
-    fn goes_on(&self, after: Option<&Name>) -> bool {
-        match after {
-            None => self.above.is_empty(),
-            Some(after) => self.above.as_str() == after.as_str(),
+    /// The name at a place.
+    pub fn text(&self, place: usize) -> &str {
+        text_at(self.known.as_slice(), place)
+    }
+
+    // Whether this name stands there in the byte order.
+    fn is_at(&self, at: usize, name: &str) -> bool {
+        match self.sorted.get(at) {
+            Some(place) => self.text(*place) == name,
+            None => false,
         }
     }
 
-    /// Goes on above this name. It takes no memory.
-    pub fn go_on(&mut self, after: Option<&Name>) -> Result<(), Trouble> {
+    // Whether a name stands above all of `sorted`.
+    fn is_last(&self, name: &str) -> bool {
+        match self.sorted.last() {
+            Some(place) => matches!(self.text(*place).cmp(name), Ordering::Less),
+            None => true,
+        }
+    }
+
+    // Where a name stands in the byte order, or would stand.
+    fn seek(&self, name: &str) -> Result<usize, usize> {
+        if self.is_last(name) {
+            return Err(self.sorted.len());
+        }
+        self.sorted
+            .binary_search_by(|place| self.text(*place).cmp(name))
+    }
+
+    // The place of a name.
+    fn place_of(&mut self, name: &str) -> Option<usize> {
+        let next = self.at.saturating_add(1);
+        if self.is_at(next, name) {
+            self.at = next;
+        } else if !self.is_at(self.at, name) {
+            match self.seek(name) {
+                Ok(at) => self.at = at,
+                Err(_) => return self.others.get(name).copied(),
+            }
+        }
+        self.sorted.get(self.at).copied()
+    }
+
+    // What is known of a name that is held.
+    fn known(&mut self, name: &Name) -> Option<&mut Known> {
+        let place = self.place_of(name.as_str())?;
+        match self.known.get_mut(place) {
+            Some(known) if known.is_held => Some(known),
+            _ => None,
+        }
+    }
+
+    // Where in the byte order the names above this one begin.
+    fn begin_above(&self, after: Option<&Name>) -> usize {
+        let Some(after) = after else {
+            return 0;
+        };
+        if self.is_at(self.at, after.as_str()) {
+            return self.at.saturating_add(1);
+        }
+        match self.seek(after.as_str()) {
+            Ok(at) => at.saturating_add(1),
+            Err(at) => at,
+        }
+    }
+
+    // Where in the byte order the least held name above this one stands, of those that are there.
+    fn sorted_above(&self, after: Option<&Name>) -> Option<usize> {
+        let from = self.begin_above(after);
+        let rest = self.sorted.as_slice().get(from..)?;
+        let passed = rest
+            .iter()
+            .position(|place| is_held(self.known.as_slice(), *place))?;
+        Some(from.saturating_add(passed))
+    }
+
+    // The place of the least held name above this one, of those that came out of order.
+    fn other_above(&mut self, after: Option<&Name>) -> Result<Option<usize>, Trouble> {
+        if self.others.is_empty() {
+            return Ok(None);
+        }
         self.above.clear();
         if let Some(after) = after {
             self.above.push_str(after.as_str())?;
         }
-        Ok(())
+        Ok(least_above(self.known.as_slice(), &self.others, &self.above))
     }
 
-    // Takes names ahead: the more, the longer they are gone through in turn.
-    fn take_ahead(&mut self, alloc: Global, after: Option<&Name>) -> Result<(), Trouble> {
-        self.count = if self.goes_on(after) {
-            self.count.saturating_mul(2).clamp(1, MOST_AHEAD)
-        } else {
-            1
+    // The place of the least held name above this one.
+    fn place_above(&mut self, after: Option<&Name>) -> Result<Option<usize>, Trouble> {
+        let other = self.other_above(after)?;
+        let Some(at) = self.sorted_above(after) else {
+            return Ok(other);
         };
-        self.ahead.clear();
-        self.go_on(after)?;
-        let taken = take_above(
-            alloc,
-            &self.places,
-            &self.above,
-            &mut self.ahead,
-            self.count,
-        );
-        if taken.is_err() {
-            self.ahead.clear();
+        let place = self.sorted.get(at).copied();
+        match (place, other) {
+            (Some(place), Some(other))
+                if matches!(self.text(other).cmp(self.text(place)), Ordering::Less) => {
+                Ok(Some(other))
+            }
+            _ => {
+                self.at = at;
+                Ok(place)
+            }
         }
-        self.ahead.reverse();
-        taken
     }
 
-    /// The least name above `after`, with the place of its length. The next one is sought above it, unless `go_on` says
-    /// otherwise.
+    /// The least name above `after`, with its place. That it is above is looked at: names out of order are a failure.
     pub fn next(
         &mut self,
         alloc: Global,
@@ -144,68 +257,138 @@ impl Held {
     ) -> Result<Option<(Name, usize)>, Trouble>
         ensures { IfOk result (λ found. IfSome found (λ f. IsAbove (option_copied after.entry) f.0)) }
     {
-        if self.ahead.is_empty() || !self.goes_on(after) {
-            self.take_ahead(alloc, after)?;
-        }
-        match self.ahead.pop() {
-            Some((name, place)) if is_above(after, &name) => {
-                self.go_on(Some(&name))?;
-                Ok(Some((name, place)))
-            }
-            _ => Ok(None),
+        let Some(place) = self.place_above(after)? else {
+            return Ok(None);
+        };
+        let name = name_of(alloc, self.text(place))?;
+        if is_above(after, &name) {
+            Ok(Some((name, place)))
+        } else {
+            Err(Trouble::Failed)
         }
     }
 
     /// What is known of a name's size, where it is: None where nothing stands at its path.
-    pub fn size(&self, name: &Name) -> Option<Option<u64>> {
-        match self.places.get(name.as_str()) {
-            Some(place) => match self.lengths.get(*place) {
-                Some(Some(length)) => Some(Some(*length)),
-                _ => None,
-            },
-            None if self.is_whole => Some(None),
+    pub fn size(&mut self, name: &Name) -> Option<Option<u64>> {
+        let is_whole = self.is_whole;
+        match self.known(name) {
+            Some(known) => known.length.map(Some),
+            None if is_whole => Some(None),
             None => None,
         }
     }
 
-    /// Takes down the length at a place, or that it isn't known.
-    pub fn set_length(&mut self, place: usize, length: Option<u64>) {
-        if let Some(known) = self.lengths.get_mut(place) {
-            *known = length;
+    /// Takes down the length at a place.
+    pub fn set_length(&mut self, place: usize, length: u64) {
+        if let Some(known) = self.known.get_mut(place) {
+            known.length = Some(length);
         }
     }
 
-    /// Takes down the length of a name, or that it isn't known; false where it isn't one of these.
-    pub fn note_length(&mut self, name: &Name, length: Option<u64>) -> bool {
-        let Some(place) = self.places.get(name.as_str()) else {
-            return false;
-        };
-        let place = *place;
-        self.set_length(place, length);
-        true
+    /// Takes down the length of a name, or that it isn't known.
+    pub fn note_length(&mut self, name: &Name, length: Option<u64>) {
+        if let Some(known) = self.known(name) {
+            known.length = length;
+        }
     }
 
-    /// Adds a name whose length isn't known, or forgets its length. After an error the names are as they were.
-    pub fn insert(&mut self, alloc: Global, name: &Name) -> Result<(), Trouble> {
-        if self.note_length(name, None) {
+    // Adds a name that isn't known yet, and answers its place. After an error the names are as they were.
+    fn add(&mut self, alloc: Global, name: &str) -> Result<usize, Trouble> {
+        let place = self.known.len();
+        self.known.reserve(1)?;
+        let text = String::from_str(alloc, name)?;
+        if self.is_last(name) {
+            self.sorted.push(place)?;
+            self.at = self.sorted.len().saturating_sub(1);
+        } else {
+            let text = String::from_str(alloc, name)?;
+            self.others.insert(text, place)?;
+        }
+        self.known.push(Known {
+            name: text,
+            is_held: false,
+            length: None,
+            written: 0,
+        })?;
+        Ok(place)
+    }
+
+    // Takes down that the name at a place is written. There is room for it.
+    fn write_at(&mut self, place: usize) -> Result<(), Trouble> {
+        let Some(known) = self.known.get_mut(place) else {
             return Ok(());
+        };
+        known.is_held = true;
+        known.length = None;
+        if known.written != self.round {
+            known.written = self.round;
+            self.written.push(place)?;
         }
-        let place = self.lengths.len();
-        self.lengths.push(None)?;
-        self.ahead.clear();
-        let text = String::from_str(alloc, name.as_str())?;
-        self.places.insert(text, place)?;
         Ok(())
     }
 
-    /// Takes a name off, and answers it as it stood there.
-    pub fn take_off(&mut self, name: &Name) -> Option<String> {
-        let (text, _) = self.places.remove_entry(name.as_str())?;
-        Some(text)
+    /// Takes down that a name is written: it is held, and its length isn't known. After an error the names are as they
+    /// were.
+    pub fn write(&mut self, alloc: Global, name: &Name) -> Result<(), Trouble> {
+        self.written.reserve(1)?;
+        self.removed.reserve(self.known.len().saturating_add(1))?;
+        let place = match self.place_of(name.as_str()) {
+            Some(place) => place,
+            None => self.add(alloc, name.as_str())?,
+        };
+        self.write_at(place)
+    }
+
+    /// Whether a name was written since the last good sync.
+    pub fn is_written(&mut self, name: &Name) -> bool {
+        let round = self.round;
+        match self.known(name) {
+            Some(known) => known.written == round,
+            None => false,
+        }
+    }
+
+    /// Takes a name off.
+    pub fn take_off(&mut self, name: &Name) {
+        if let Some(known) = self.known(name) {
+            known.is_held = false;
+        }
+    }
+
+    /// Takes a name off, and keeps it among those that were taken away where there is room; false where it isn't kept.
+    pub fn remove(&mut self, name: &Name) -> bool {
+        let Some(place) = self.place_of(name.as_str()) else {
+            return false;
+        };
+        self.take_off(name);
+        self.removed.len() < self.removed.capacity() && self.removed.push(place).is_ok()
     }
 
     /// Takes down that something may stand at the path of another name.
     pub fn set_not_whole(&mut self) {
         self.is_whole = false;
+    }
+
+    /// Puts the names that were written and those that were taken away into byte order.
+    pub fn sort_changes(&mut self) {
+        sort_places(self.known.as_slice(), &mut self.written);
+        sort_places(self.known.as_slice(), &mut self.removed);
+    }
+
+    /// The places of the names that were written since the last good sync.
+    pub fn written(&self) -> &[usize] {
+        self.written.as_slice()
+    }
+
+    /// The places of the names that were taken away since the last good sync.
+    pub fn removed(&self) -> &[usize] {
+        self.removed.as_slice()
+    }
+
+    /// Takes down that all is synced.
+    pub fn set_synced(&mut self) {
+        self.written.clear();
+        self.removed.clear();
+        self.round = self.round.saturating_add(1);
     }
 }

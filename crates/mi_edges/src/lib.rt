@@ -11,6 +11,7 @@ mod held;
 mod levels;
 mod listing;
 mod names;
+mod order;
 mod reading;
 mod std_sink;
 mod trouble;

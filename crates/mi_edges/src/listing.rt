@@ -21,8 +21,8 @@ pub enum Folders {
 #[derive(Drop)]
 pub struct Listed {
     /// The names whose path is that of a file, whatever stands there, but for those below a level that is no plain folder;
-    /// in no order, each with its place.
-    pub names: Vec<(String, usize)>,
+    /// in no order.
+    pub names: Vec<String>,
     /// Whether there was no such level: then nothing stands at the path of any other name.
     pub is_whole: bool,
 }
@@ -44,7 +44,7 @@ struct Lists {
 }
 
 // The bytes of the part with those of a file or folder in it; None where its name spells none.
-fn spelled(alloc: Global, front: &[u8], digits: &str) -> Result<Option<Vec<u8>>, Trouble> {
+fn spelled(alloc: Global, front: &[u8], digits: &[u8]) -> Result<Option<Vec<u8>>, Trouble> {
     let length = front.len().saturating_add(digits.len() / 2);
     if digits.len() > 2 * PART_BYTES || length > LONGEST_NAME {
         return Ok(None);
@@ -68,19 +68,18 @@ impl Lists {
     }
 
     // Takes down the name that a file's path spells, whatever stands there.
-    fn add_name(&mut self, digits: &str) -> Result<(), Trouble> {
+    fn add_name(&mut self, digits: &[u8]) -> Result<(), Trouble> {
         if let Some(bytes) = spelled(self.alloc, self.front.as_slice(), digits)? {
             // A path whose bytes aren't UTF-8 is no name of the volume.
             if let Ok(name) = String::from_utf8(bytes) {
-                let place = self.listed.names.len();
-                self.listed.names.push((name, place))?;
+                self.listed.names.push(name)?;
             }
         }
         Ok(())
     }
 
     // Takes down a folder of long names.
-    fn add_folder(&mut self, path: String, digits: &str) -> Result<(), Trouble> {
+    fn add_folder(&mut self, path: String, digits: &[u8]) -> Result<(), Trouble> {
         if let Some(bytes) = spelled(self.alloc, self.front.as_slice(), digits)? {
             self.parts.push(Part { path, bytes })?;
         }
@@ -92,9 +91,13 @@ impl Lists {
         &mut self,
         rt: &F,
         folder: &str,
-        name: &str,
-        digits: &str,
+        name: &[u8],
+        digits: &[u8],
     ) -> Result<(), Trouble> {
+        // A name that isn't text is a folder of another program: the digits are text.
+        let Ok(name) = str::from_utf8(name) else {
+            return Ok(());
+        };
         let path = path_in(self.alloc, folder, name)?;
         if look(rt, path.as_str())? == Found::Folder {
             return self.add_folder(path, digits);
@@ -105,11 +108,13 @@ impl Lists {
 }
 
 impl Visit for Lists {
-    fn visit<F: Files>(&mut self, rt: &F, folder: &str, name: &str) -> Result<(), Trouble> {
-        match name.strip_suffix("+") {
-            None => self.add_name(name),
-            Some(digits) if digits.len() != 2 * PART_BYTES => Ok(()),
-            Some(digits) => self.add_level(rt, folder, name, digits),
+    fn visit<F: Files>(&mut self, rt: &F, folder: &str, name: &[u8]) -> Result<(), Trouble> {
+        match name.split_last() {
+            Some((b'+', digits)) if digits.len() == 2 * PART_BYTES => {
+                self.add_level(rt, folder, name, digits)
+            }
+            Some((b'+', _)) => Ok(()),
+            _ => self.add_name(name),
         }
     }
 }

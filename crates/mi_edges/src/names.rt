@@ -57,27 +57,30 @@ fn value_of(digit: u8) -> u8
     }
 }
 
-// The byte that two digits spell.
-fn byte_of(digits: &[u8]) -> Option<u8> {
-    let [high, low] = digits else {
-        return None;
-    };
-    let high = value_of(*high);
-    let low = value_of(*low);
-    if high < 16 && low < 16 {
-        Some((high << 4) | low)
-    } else {
-        None
+// Puts the bytes that pairs of digits spell side by side; false where one spells none.
+fn put_bytes(bytes: &mut [u8; PART_BYTES], digits: &[u8]) -> bool
+    requires { length digits.now ≤ PART_DIGITS }
+{
+    for at in 0..digits.len() / 2 {
+        let high = value_of(digits[2 * at]);
+        let low = value_of(digits[2 * at + 1]);
+        if high == 16 || low == 16 {
+            return false;
+        }
+        bytes[at] = (high << 4) | low;
     }
+    true
 }
 
 /// Adds the bytes that the digits of a part spell; false where they spell none.
-pub fn push_bytes(name: &mut Vec<u8>, digits: &str) -> Result<bool, AllocError> {
-    for pair in digits.as_bytes().chunks(2) {
-        match byte_of(pair) {
-            Some(byte) => name.push(byte)?,
-            None => return Ok(false),
-        }
+pub fn push_bytes(name: &mut Vec<u8>, digits: &[u8]) -> Result<bool, AllocError> {
+    if digits.is_empty() || digits.len() % 2 == 1 || digits.len() > PART_DIGITS {
+        return Ok(false);
     }
-    Ok(!digits.is_empty())
+    let mut bytes = [0u8; PART_BYTES];
+    if !put_bytes(&mut bytes, digits) {
+        return Ok(false);
+    }
+    name.extend_from_slice(&bytes[..digits.len() / 2])?;
+    Ok(true)
 }

@@ -7,8 +7,8 @@ use std::io::Read;
 
 /// What is done with what stands in a folder.
 pub trait Visit {
-    /// Takes down what stands there by its name in the folder, whose path ends in `/`.
-    fn visit<F: Files>(&mut self, rt: &F, folder: &str, name: &str) -> Result<(), Trouble>;
+    /// Takes down what stands there by the bytes of its name in the folder, whose path ends in `/`.
+    fn visit<F: Files>(&mut self, rt: &F, folder: &str, name: &[u8]) -> Result<(), Trouble>;
 }
 
 /// The bytes of names that are read at once.
@@ -21,6 +21,29 @@ pub fn path_in(alloc: Global, folder: &str, name: &str) -> Result<String, AllocE
     Ok(path)
 }
 
+// Where the name that begins there ends, before its NUL.
+fn end_of(names: &[u8], from: usize) -> usize {
+    for at in from..names.len() {
+        if names[at] == 0 {
+            return at;
+        }
+    }
+    names.len()
+}
+
+// Visits what has this name.
+fn visit_name<F: Files, V: Visit>(
+    rt: &F,
+    visitor: &mut V,
+    folder: &str,
+    name: &[u8],
+) -> Result<(), Trouble> {
+    if matches!(name, b"" | b"." | b"..") {
+        return Ok(());
+    }
+    visitor.visit(rt, folder, name)
+}
+
 // Visits what has these names, each of which ends in a NUL.
 fn visit_named<F: Files, V: Visit>(
     rt: &F,
@@ -28,12 +51,15 @@ fn visit_named<F: Files, V: Visit>(
     folder: &str,
     names: &[u8],
 ) -> Result<(), Trouble> {
-    for name in names.split(|byte| *byte == 0) {
-        // A name that isn't text is a file of another program: no name here isn't text.
-        if let Ok(name) = str::from_utf8(name) {
-            if !matches!(name, "" | "." | "..") {
-                visitor.visit(rt, folder, name)?;
-            }
+    let mut from = 0usize;
+    for _ in 0..names.len() {
+        let end = end_of(names, from);
+        if let Some(name) = names.get(from..end) {
+            visit_name(rt, visitor, folder, name)?;
+        }
+        from = end.saturating_add(1);
+        if from >= names.len() {
+            break;
         }
     }
     Ok(())
