@@ -1,6 +1,5 @@
 pub mod Basics
 pub mod LineLemmas
-pub mod Counts
 pub mod Numbers
 pub mod HeadLemmas
 pub mod NameLemmas

@@ -1,23 +1,25 @@
 -- Lines, their fields and UTF-8.
-use Rattle.std.proofs.Common.{◌≡◌, ◌+◌, ℕ, true, false, List, [], ◌∷◌, ◌++◌, length, eqb, map, refl, sym, ap, subst, ◌∙◌, arith, inl, inr, Bor, ◌<◌, take, drop, set, get_or, append-nil, append_assoc, Bool, Option, Some, None, is_some}
+use Rattle.std.proofs.Common.{◌≡◌, ◌+◌, ℕ, true, false, List, [], ◌∷◌, ◌++◌, length, eqb, map, refl, sym, ap, subst, ◌∙◌, arith, inl, inr, Bor, ◌<◌, ◌≤◌, ◌-◌, take, drop, set, get_or, append-nil, append_assoc, Bool, Option, Some, None, is_some, length-append, eq-eqb, eqb-true, ltb, ltb-true}
 use Rattle.std.specs.Bool.{then_some}
 use Rattle.std.specs.Str.Lines.{lines, lines_of_parts, strip_carriage_return}
 use Rattle.std.specs.List.{All, count_by, slice_split}
 use Rattle.std.specs.Str.{IsUtf8, is_utf8}
-use Rattle.std.proofs.lemmas.Bool.{cases_Bool, false_from_ne_true}
+use Rattle.std.proofs.lemmas.Bool.{cases_Bool, eqb-false, ne_eqb, false_from_ne_true}
 use Rattle.std.proofs.lemmas.Bool.Decides.{nat_tests}
-use Rattle.std.proofs.lemmas.List.{take_more, take_more_set, drop_more, drop-set-lt, drop-map, drop_at, length-map, length-take-le, get_or-take, take-append-drop, map-append}
+use Rattle.std.proofs.lemmas.List.{take_more, take_more_set, drop_more, drop-set-lt, drop-map, drop_at, length-map, length-drop, length-take-le, get_or-take, get_or-drop, drop-drop, take-append-drop, map-append}
 use Rattle.std.proofs.lemmas.List.Elements.{All-from_get_or}
 use Rattle.std.proofs.lemmas.List.Splits.{length-slice_split, slice_split_at, slice_split_none}
-use Rattle.std.proofs.lemmas.Str.{IsUtf8-from_is_utf8, is_utf8-from_IsUtf8}
+use Rattle.std.specs.Str.{IsAscii}
+use Rattle.std.proofs.lemmas.Str.{IsUtf8-from_is_utf8, is_utf8-from_IsUtf8, IsUtf8-from_ascii}
+use Rattle.std.proofs.lemmas.Str.Ascii.{IsAscii-cons, IsAscii-nil}
 use Rattle.memchr.specs.Find.{IsFirstByte, is_byte}
 use Rattle.mi_text.specs.declared.answers.IdtFault.{IdtFault}
-use Rattle.mi_text.specs.declared.answers.IdtFault.TheVariants.{NotUtf8}
+use Rattle.mi_text.specs.declared.answers.IdtFault.TheVariants.{NotUtf8, ColumnCount}
 use Rattle.mi_idt.specs.Cells.{ColumnValue}
 use Rattle.mi_idt.specs.Fault.{text_fault}
-use Rattle.mi_idt.specs.Fields.{fields_of}
+use Rattle.mi_idt.specs.Fields.{fields_of, is_ascii}
 use Rattle.mi_idt.specs.Rows.{is_in_page, is_line, fields_fault, line_fault}
-use Rattle.mi_idt.proofs.Basics.{shown}
+use Rattle.mi_idt.proofs.Basics.{shown, and_true}
 
 pub length_fields : (line : List ℕ) → length (fields_of line) ≡ count_by (λ b. eqb b 9) line + 1
 length_fields line = length-slice_split (λ b. eqb b 9) line
@@ -30,6 +32,21 @@ utf8_line page line valid = rw (is_utf8-from_IsUtf8 line valid) refl
 
 pub no_line : (page : Option ℕ) (line : List ℕ) → ¬ (IsUtf8 line) → false ≡ is_line page line
 no_line page line none = rw (no_utf8 line none) refl
+
+-- bytes below 128 are text, in any page
+pub ascii_text : (line : List ℕ) → is_ascii line ≡ true → IsUtf8 line
+ascii_text line low = IsUtf8-from_ascii line (all_low line low) where
+  all_low : (bs : List ℕ) → is_ascii bs ≡ true → IsAscii bs
+  all_low [] low = IsAscii-nil
+  all_low (b ∷ bs) low =
+      let parts = and_true (ltb b 128) (is_ascii bs) low in
+      IsAscii-cons b bs (ltb-true b 128 parts.0) (all_low bs parts.1)
+
+pub ascii_line : (page : Option ℕ) (line : List ℕ) → is_ascii line ≡ true → true ≡ is_line page line
+ascii_line page line low = in_page page line low ∙ utf8_line page line (ascii_text line low) where
+  in_page : (page : Option ℕ) (line : List ℕ) → is_ascii line ≡ true → true ≡ is_in_page page line
+  in_page None line low = refl
+  in_page (Some n) line low = elim (cases_Bool (eqb n 1252)) [ inl t ↦ rw (t, low) refl | inr f ↦ rw f refl ]
 
 pub some_if : {A : Type 0} (b : Bool) (x : A) → is_some (then_some b x) ≡ b
 some_if true x = refl
@@ -72,6 +89,14 @@ dropped_more lines before after i line h k front back is dropped =
 pub behind : (old new : List (Bor (List ℕ))) (added : List (List ℕ)) (start : ℕ) → shown new ≡ shown old ++ added → start ≡ length old → shown (drop start new) ≡ added
 behind old new added start is before =
     sym (drop-map (λ (b : Bor (List ℕ)). b.now) start new) ∙ ap (drop start) is ∙ drop_at (shown old) added start (length-map old (λ (b : Bor (List ℕ)). b.now) ∙ sym before)
+
+pub grown : (old new : List (Bor (List ℕ))) (added : List (List ℕ)) → shown new ≡ shown old ++ added → length new ≡ length old + length added
+grown old new added is =
+    sym (length-map new (λ (b : Bor (List ℕ)). b.now)) ∙ ap length is ∙ length-append (shown old) added ∙ ap (λ n. n + length added) (length-map old (λ (b : Bor (List ℕ)). b.now))
+
+-- a line of fewer or more fields
+pub other_fields : (page : Option ℕ) (cs : List ColumnValue) (row : ℕ) (line : List ℕ) → is_line page line ≡ true → (length (fields_of line) ≡ length cs → ⊥) → line_fault page cs row line ≡ Some (ColumnCount (row + 3))
+other_fields page cs row line is other = rw (is, ne_eqb (length (fields_of line)) (length cs) other) refl
 
 -- a line of as many fields as there are columns has the fault of its fields
 pub line_fields : (page : Option ℕ) (cs : List ColumnValue) (row : ℕ) (line : List ℕ) (fault : Option IdtFault) → is_line page line ≡ true → length (fields_of line) ≡ length cs → fault ≡ fields_fault row 1 cs (fields_of line) → line_fault page cs row line ≡ fault
@@ -119,3 +144,25 @@ module _ (mark : ℕ) where
       ∙ ap (λ (l : List (List ℕ)). l ++ slice_split (λ b. eqb b mark) rest) (map-append (λ (b : Bor (List ℕ)). b.now) old (part ∷ []))
       ∙ append_assoc (shown old) (part.now ∷ []) (slice_split (λ b. eqb b mark) rest)
       ∙ ap (λ (l : List (List ℕ)). shown old ++ l) ((λ i. is i ∷ slice_split (λ b. eqb b mark) (left i)) ∙ sym (parts_at line at h found none))
+
+  -- the part from a place up to the next mark joins those before
+  pub part_cut : (old new : List (Bor (List ℕ))) (part : Bor (List ℕ)) (line : List ℕ) (start i : ℕ) → start ≤ i → i < length line → get_or line i 0 ≡ mark → ((k : ℕ) → start ≤ k → k < i → get_or line k 0 ≡ mark → ⊥)
+      → new ≡ old ++ part ∷ [] → part.now ≡ take (i - start) (drop start line) → shown new ++ slice_split (λ b. eqb b mark) (drop (i + 1) line) ≡ shown old ++ slice_split (λ b. eqb b mark) (drop start line)
+  part_cut old new part line start i le lt found none pushed is =
+      let back : start + (i - start) ≡ i = omega (arith, le) in
+      let on : start + (i - start + 1) ≡ i + 1 = omega (arith, le) in
+      part_joins old new part (drop start line) (drop (i + 1) line) (i - start) (omega (arith, le, lt, length-drop start line)) (eq-eqb _ _ (get_or-drop start line (i - start) 0 ∙ ap (λ n. get_or line n 0) back ∙ found))
+      (λ k below is. none (start + k) (omega arith) (omega (arith, le, below)) (sym (get_or-drop start line k 0) ∙ eqb-true _ _ is)) pushed is (sym (drop-drop (i - start + 1) start line ∙ ap (λ n. drop n line) on))
+
+  pub none_more : (line : List ℕ) (start i : ℕ) → ((k : ℕ) → start ≤ k → k < i → get_or line k 0 ≡ mark → ⊥) → (get_or line i 0 ≡ mark → ⊥) → (k : ℕ) → start ≤ k → k < i + 1 → get_or line k 0 ≡ mark → ⊥
+  none_more line start i none here k from below is = elim (cases_Bool (eqb k i)) [
+    | inl same ↦ here (ap (λ n. get_or line n 0) (sym (eqb-true k i same)) ∙ is)
+    | inr other ↦ none k from (omega (arith, below, eqb-false k i other)) is
+  ]
+
+  -- the last part
+  pub part_last : (old new : List (Bor (List ℕ))) (part : Bor (List ℕ)) (line : List ℕ) (start : ℕ) → ((k : ℕ) → start ≤ k → k < length line → get_or line k 0 ≡ mark → ⊥)
+      → new ≡ old ++ part ∷ [] → part.now ≡ drop start line → shown new ≡ shown old ++ slice_split (λ b. eqb b mark) (drop start line)
+  part_last old new part line start none pushed is =
+      ap shown pushed ∙ map-append (λ (b : Bor (List ℕ)). b.now) old (part ∷ [])
+      ∙ ap (λ (l : List (List ℕ)). shown old ++ l) (ap (λ (l : List ℕ). l ∷ []) is ∙ sym (part_alone (drop start line) (λ k below is. none (start + k) (omega arith) (omega (arith, below, length-drop start line)) (sym (get_or-drop start line k 0) ∙ eqb-true _ _ is))))

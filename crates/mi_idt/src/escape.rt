@@ -46,7 +46,9 @@ fn escaped(byte: u8) -> u8
 fn is_plain(field: &[u8]) -> bool
     ensures { result ≡ list_all (λ b. unescaped b == b) field.now }
 {
-    field.iter().all(|byte| unescaped(*byte) == *byte)
+    field
+        .iter()
+        .all(|byte| *byte > 27 || unescaped(*byte) == *byte)
 }
 
 fn unescaped_bytes(alloc: Global, field: &[u8]) -> Result<Vec<u8>, AllocError>

@@ -18,6 +18,7 @@ mod table;
 mod write;
 
 pub use laws::spells_one;
+pub use number::integer_within;
 pub use read::read_table;
 pub use table::{Column, IdtError, Row, Table};
 pub use write::write_table;

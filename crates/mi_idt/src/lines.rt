@@ -5,14 +5,14 @@ ghost use Rattle.std.specs.List.{slice_split};
 ghost use Rattle.std.specs.Str.Lines.{lines, strip_carriage_return};
 ghost use Rattle.mi_idt.specs.Fields.{fields_of, is_ascii};
 
-use memchr::{memchr, memchr_iter};
+use memchr::memchr;
 use std::alloc::{AllocError, Global};
 
-/// The parts between the bytes that equal `mark`.
-pub fn parts(alloc: Global, bytes: &[u8], mark: u8) -> Result<Vec<&[u8]>, AllocError>
+/// The parts between the bytes that equal `mark`, with room for `room` of them.
+pub fn parts(alloc: Global, bytes: &[u8], mark: u8, room: usize) -> Result<Vec<&[u8]>, AllocError>
     ensures { IfOk result (λ v. map (λ b. b.now) v.items ≡ slice_split (λ b. b == mark) bytes.now) }
 {
-    let mut parts = Vec::with_capacity(alloc, count(bytes, mark) + 1)?;
+    let mut parts = Vec::with_capacity(alloc, room)?;
     let mut rest = bytes;
     while let Some(at) = memchr(mark, rest) {
         let (part, behind) = rest.split_at(at);
@@ -27,12 +27,14 @@ pub fn parts(alloc: Global, bytes: &[u8], mark: u8) -> Result<Vec<&[u8]>, AllocE
 pub fn push_fields<'a>(fields: &mut Vec<&'a str>, line: &'a str) -> Result<(), AllocError>
     ensures { OnOk result (map (λ b. b.now) fields.new.items ≡ map (λ b. b.now) fields.old.items ++ fields_of line.now) }
 {
-    let mut rest = line;
-    while let Some(at) = memchr(b'\t', rest.as_bytes()) {
-        fields.push(&rest[..at])?;
-        rest = &rest[at + 1..];
+    let mut start = 0;
+    for (i, byte) in line.as_bytes().iter().enumerate() {
+        if *byte == b'\t' {
+            fields.push(&line[start..i])?;
+            start = i + 1;
+        }
     }
-    fields.push(rest)?;
+    fields.push(&line[start..])?;
     Ok(())
 }
 
@@ -49,7 +51,7 @@ pub fn text_fields(alloc: Global, line: &str, count: usize) -> Result<Vec<&str>,
 pub fn count(bytes: &[u8], mark: u8) -> usize
     ensures { result ≡ count_by (λ b. b == mark) bytes.now }
 {
-    memchr_iter(mark, bytes).count()
+    bytes.iter().filter(|byte| **byte == mark).count()
 }
 
 /// How many fields a line has.
@@ -63,7 +65,11 @@ pub fn count_fields(line: &[u8]) -> usize
 pub fn all_ascii(line: &[u8]) -> bool
     ensures { result ≡ is_ascii line.now }
 {
-    line.iter().all(|byte| *byte < 128)
+    let mut ascii = true;
+    for byte in line {
+        ascii &= *byte < 128;
+    }
+    ascii
 }
 
 fn without_return(line: &[u8]) -> &[u8]
@@ -83,11 +89,11 @@ fn drop_returns(lines: &mut Vec<&[u8]>)
     }
 }
 
-/// The lines: LF ends a line, a CR just before it is dropped, and the last end may be missing.
-pub fn lines_of(alloc: Global, bytes: &[u8]) -> Result<Vec<&[u8]>, AllocError>
+/// The lines: LF ends a line, a CR just before it is dropped, and the last end may be missing. There is room for `room`.
+pub fn lines_of(alloc: Global, bytes: &[u8], room: usize) -> Result<Vec<&[u8]>, AllocError>
     ensures { IfOk result (λ v. map (λ b. b.now) v.items ≡ lines bytes.now) }
 {
-    let mut lines = parts(alloc, bytes, b'\n')?;
+    let mut lines = parts(alloc, bytes, b'\n', room)?;
     let Some(last) = lines.pop() else {
         return Ok(lines);
     };

@@ -140,9 +140,10 @@ pub fn read_table<'a>(alloc: Global, bytes: &'a [u8]) -> Result<Table<'a>, IdtEr
     if bytes.len() > MAX_BYTES {
         return Err(IdtError::Fault(IdtFault::TooLarge));
     }
-    if count(bytes, b'\n') > MAX_ROWS + 3 {
+    let ends = count(bytes, b'\n');
+    if ends > MAX_ROWS + 3 {
         return Err(IdtError::Fault(IdtFault::TooLarge));
     }
-    let lines = lines_of(alloc, bytes)?;
+    let lines = lines_of(alloc, bytes, ends + 1)?;
     read_lines(alloc, &lines)
 }

@@ -7,7 +7,7 @@ ghost use Rattle.mi_idt.specs.Read.{AreRead};
 ghost use Rattle.mi_idt.specs.Rows.{is_in_page, is_line, field_fault, fields_fault, line_fault, rows_fault};
 ghost use Rattle.mi_idt.specs.Steps.{ReadsPart, fault_of};
 
-use crate::lines::{all_ascii, count_fields, push_fields};
+use crate::lines::{all_ascii, push_fields};
 use crate::number::integer_within;
 use crate::table::{Column, IdtError, Row};
 use mi_text::IdtFault;
@@ -28,6 +28,10 @@ fn line_text(page: Option<u32>, line: &[u8]) -> Option<&str>
     ensures read { IfSome result (λ text. text.now ≡ line.now) }
     ensures is { is_some result ≡ is_line page line.now }
 {
+    if all_ascii(line) {
+        // SAFETY: bytes below 128 are text.
+        return Some(unsafe { str::from_utf8_unchecked(line) });
+    }
     match str::from_utf8(line) {
         Ok(text) => is_in_page(page, line).then_some(text),
         Err(_) => None,
@@ -76,11 +80,11 @@ fn read_row<'a>(
     let Some(text) = line_text(page, line) else {
         return Err(IdtError::Fault(IdtFault::NotUtf8(row + 3)));
     };
-    if count_fields(line) != columns.len() {
-        return Err(IdtError::Fault(IdtFault::ColumnCount(row + 3)));
-    }
     let start = fields.len();
     push_fields(fields, text)?;
+    if fields.len() - start != columns.len() {
+        return Err(IdtError::Fault(IdtFault::ColumnCount(row + 3)));
+    }
     match check_fields(columns, &fields[start..], row) {
         Ok(()) => Ok(Row { line: text }),
         Err(fault) => Err(IdtError::Fault(fault)),

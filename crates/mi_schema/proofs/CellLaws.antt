@@ -8,8 +8,8 @@ use Rattle.mi_text.specs.Maps.{Name}
 use Rattle.mi_base.specs.declared.answers.Fault.{Fault}
 use Rattle.mi_idt.specs.Cells as raw
 use Rattle.mi_cond.specs.Tree.{Tree}
-use Rattle.mi_schema.specs.declared.cell.Cell.{Cell}
-use Rattle.mi_schema.specs.declared.cell.Cell.TheVariants as cell
+use Rattle.mi_schema.specs.Cells.{Cell}
+use Rattle.mi_schema.specs.Cells as cell
 use Rattle.mi_schema.specs.declared.known.Known.{Known}
 use Rattle.mi_schema.specs.declared.known.Known.TheVariants as known
 use Rattle.mi_schema.specs.declared.column.Kind.{Kind}
@@ -91,7 +91,7 @@ stands_at t rows are n i d there lt = elim (faultless t rows are) [
 
 -- ---- a value suits its column
 
-suit_at : (cs : List Column) (row : Row) → all_suit cs row ≡ true → (i : ℕ) (d : Column) → i < length cs → (suits (get_or cs i d) (get_or row i None) ≡ true) × (i < length row)
+pub suit_at : (cs : List Column) (row : Row) → all_suit cs row ≡ true → (i : ℕ) (d : Column) → i < length cs → (suits (get_or cs i d) (get_or row i None) ≡ true) × (i < length row)
 suit_at [] row on i d lt = absurd (omega arith)
 suit_at (c ∷ cs) [] on i d lt = cc
 suit_at (c ∷ cs) (x ∷ xs) on zero d lt = (front (suits c x) (all_suit cs xs) on, omega arith)

@@ -10,8 +10,8 @@ use Rattle.mi_cond.specs.Place.{IsPlace}
 use Rattle.mi_cond.specs.Tree.{Tree}
 use Rattle.mi_idt.specs.Cells as raw
 use Rattle.mi_idt.specs.Fault.{idt_fault}
-use Rattle.mi_schema.specs.declared.cell.Bad.{Bad}
-use Rattle.mi_schema.specs.declared.cell.Bad.TheVariants as bad
+use Rattle.mi_schema.specs.declared.field.Bad.{Bad}
+use Rattle.mi_schema.specs.declared.field.Bad.TheVariants as bad
 use Rattle.mi_schema.specs.declared.column.Kind.{Kind}
 use Rattle.mi_schema.specs.declared.column.Kind.TheVariants as kind
 use Rattle.mi_schema.specs.Texts.{condition_of}

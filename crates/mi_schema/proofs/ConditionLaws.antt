@@ -7,8 +7,7 @@ use Rattle.mi_cond.specs.declared.error.CondFault.{CondFault}
 use Rattle.mi_cond.specs.declared.error.CondFault.TheVariants.{Syntax, TooDeep}
 use Rattle.mi_cond.specs.Answer as answer
 use Rattle.mi_cond.proofs.AnswerLaws.{answer_is}
-use Rattle.mi_schema.specs.declared.cell.Cell.TheVariants.{Condition}
-use Rattle.mi_schema.specs.declared.cell.Bad.TheVariants as bad
+use Rattle.mi_schema.specs.declared.field.Bad.TheVariants as bad
 use Rattle.mi_schema.specs.Values.{place_of_fault, tree_of}
 use Rattle.mi_schema.specs.Texts.{condition_of, place_in, placed}
 use Rattle.mi_schema.proofs.Words.{IsCondition}
@@ -55,8 +54,8 @@ unfolding condition_of
 condition_refused text f is = ap placed is
 
 -- what reading a condition answers
-pub read_as : (text : List ℕ) (t : Tree) → answer.condition_of text ≡ Ok t → (place_of_fault (condition_of text) ≡ None) × (Condition text t ≡ Condition text (tree_of (condition_of text)))
-read_as text t reads = let is = condition_read text t reads in (ap place_of_fault is, sym (ap (λ (r : Result Tree ℕ). Condition text (tree_of r)) is))
+pub read_as : (text : List ℕ) (t : Tree) → answer.condition_of text ≡ Ok t → (place_of_fault (condition_of text) ≡ None) × (Some t ≡ Some (tree_of (condition_of text)))
+read_as text t reads = let is = condition_read text t reads in (ap place_of_fault is, sym (ap (λ (r : Result Tree ℕ). Some (tree_of r)) is))
 
 pub refused_as : (text : List ℕ) (f : CondFault) → answer.condition_of text ≡ Err f → place_of_fault (condition_of text) ≡ Some (bad.Condition (place_in f))
 refused_as text f fault = ap place_of_fault (condition_refused text f fault)

@@ -8,8 +8,8 @@ use Rattle.std.proofs.lemmas.List.Elements.{All-head, All-tail}
 use Rattle.std.proofs.lemmas.Slice.Eq.{bytes_eq-Decides}
 use Rattle.mi_idt.specs.Cells as raw
 use Rattle.mi_idt.proofs.Pairs.{AllPairs-head, AllPairs-tail}
-use Rattle.mi_schema.specs.declared.cell.Cell.{Cell}
-use Rattle.mi_schema.specs.declared.cell.Cell.TheVariants.{Text, Integer}
+use Rattle.mi_schema.specs.Cells.{Cell}
+use Rattle.mi_schema.specs.Cells.{Text, Integer}
 use Rattle.mi_schema.specs.declared.column.Kind.{Kind}
 use Rattle.mi_schema.specs.declared.column.Kind.TheVariants as kind
 use Rattle.mi_schema.specs.Reads.{FitsKind}

@@ -1,6 +1,5 @@
 -- The fields of a table that has the columns of a layout fit their kinds.
-use Rattle.std.proofs.Common.{◌≡◌, ℕ, zero, suc, ◌<◌, ◌≤◌, Bool, true, false, ◌&&◌, List, [], ◌∷◌, length, map, refl, sym, ap, ◌∙◌, arith, Option, Some, None}
-use Rattle.std.specs.Prelude.{unwrap_or}
+use Rattle.std.proofs.Common.{◌≡◌, ℕ, zero, suc, ◌<◌, ◌≤◌, Bool, true, false, ◌&&◌, List, [], ◌∷◌, length, map, refl, ap, ◌∙◌, arith}
 use Rattle.std.specs.List.{slice_index_or, AllZip}
 use Rattle.std.proofs.lemmas.Slice.Zip.{AllZip-long}
 use Rattle.std.proofs.lemmas.Bool.Decides.{nat_tests}
@@ -10,16 +9,16 @@ use Rattle.mi_idt.specs.declared.table.Table.{Table}
 use Rattle.mi_idt.specs.Cells.{Cell, Nothing, Text, Number, ColumnValue}
 use Rattle.mi_idt.specs.Columns.{is_text, is_int}
 use Rattle.mi_idt.specs.Fields.{fields_of}
-use Rattle.mi_idt.specs.Means.{Shows, IsSpelled, meaning, column_value, raw_row as raw_fields}
+use Rattle.mi_idt.specs.Means.{IsSpelled, meaning, column_value, raw_row as raw_fields}
 use Rattle.mi_idt.specs.Rows.{cells_of}
 use Rattle.mi_idt.specs.Spells.{SpellsField, SpellsFields}
 use Rattle.mi_schema.specs.declared.column.Kind.{Kind}
 use Rattle.mi_schema.specs.declared.column.Kind.TheVariants as kind
 use Rattle.mi_schema.specs.declared.column.Column.{Column as Listed}
 use Rattle.mi_schema.specs.Tables.{column_as, Column}
-use Rattle.mi_schema.specs.Values.{value_of, row_of, text_in, text_at}
+use Rattle.mi_schema.specs.Values.{row_of, text_at}
 use Rattle.mi_schema.specs.Rows.{begins_with, is_of_class}
-use Rattle.mi_schema.specs.Reads.{FitsKind, raw_row, has_text}
+use Rattle.mi_schema.specs.Reads.{FitsKind, raw_row}
 
 -- each cell fits the kind of its column
 abbrev pub AllFit : List Column → List Cell → Type 0
@@ -111,49 +110,6 @@ fit_at [] row fit j d lt = absurd (omega arith)
 fit_at (k ∷ known) [] fit j d lt = absurd fit
 fit_at (k ∷ known) (x ∷ row) fit zero d lt = (fit.0, omega arith)
 fit_at (k ∷ known) (x ∷ row) fit (suc j) d lt = let later = fit_at known row fit.1 j d (omega arith) in (later.0, omega (arith, later.1))
-
--- the text of a key is what is shown of it
-pub key_shown : (k : Kind) (x : Cell) (shown : Option (List ℕ)) → has_text k ≡ true → Shows shown x → FitsKind k x → unwrap_or shown [] ≡ unwrap_or (text_in (value_of k x)) []
-key_shown k Nothing None has shows fits = refl
-key_shown k Nothing (Some text) has shows fits = absurd shows
-key_shown k (Number z) None has shows fits = absurd shows
-key_shown k (Text t) None has shows fits = absurd shows
-key_shown kind.Integer x (Some text) has shows fits = cc
-key_shown kind.Code x (Some text) has shows fits = cc
-key_shown kind.Text (Text t) (Some text) has shows fits = shows
-key_shown kind.Text (Number z) (Some text) has shows fits = absurd fits
-key_shown kind.Name (Text t) (Some text) has shows fits = shows
-key_shown kind.Name (Number z) (Some text) has shows fits = absurd fits
-key_shown kind.Pattern (Text t) (Some text) has shows fits = shows
-key_shown kind.Pattern (Number z) (Some text) has shows fits = absurd fits
-key_shown kind.Formatted (Text t) (Some text) has shows fits = shows
-key_shown kind.Formatted (Number z) (Some text) has shows fits = absurd fits
-key_shown kind.Condition (Text t) (Some text) has shows fits = shows
-key_shown kind.Condition (Number z) (Some text) has shows fits = absurd fits
-
--- a key that has no text
-pub key_without : (k : Kind) (x : Cell) → has_text k ≡ false → FitsKind k x → [] ≡ unwrap_or (text_in (value_of k x)) []
-key_without k Nothing has fits = refl
-key_without k (Number z) has fits = refl
-key_without kind.Code (Text t) has fits = refl
-key_without kind.Integer (Text t) has fits = absurd fits
-key_without kind.Text (Text t) has fits = cc
-key_without kind.Name (Text t) has fits = cc
-key_without kind.Pattern (Text t) has fits = cc
-key_without kind.Formatted (Text t) has fits = cc
-key_without kind.Condition (Text t) has fits = cc
-
--- the text of the first column
-pub key_of_text : (listed : List Listed) (d : Listed) (cells : List Cell) (shown : Option (List ℕ)) (b : Bool) → 1 ≤ length listed → AllFit (map column_as listed) cells → b ≡ has_text (slice_index_or listed 0 d).kind → b ≡ true → Shows shown (slice_index_or cells 0 Nothing)
-    → unwrap_or shown [] ≡ text_at (row_of (map column_as listed) cells) 0
-key_of_text [] d cells shown b some fit is on shows = absurd (omega arith)
-key_of_text (k ∷ ks) d [] shown b some fit is on shows = absurd fit
-key_of_text (k ∷ ks) d (x ∷ xs) shown b some fit is on shows = key_shown k.kind x shown (sym is ∙ on) shows fit.0
-
-pub key_of_none : (listed : List Listed) (d : Listed) (cells : List Cell) (b : Bool) → 1 ≤ length listed → AllFit (map column_as listed) cells → b ≡ has_text (slice_index_or listed 0 d).kind → b ≡ false → [] ≡ text_at (row_of (map column_as listed) cells) 0
-key_of_none [] d cells b some fit is off = absurd (omega arith)
-key_of_none (k ∷ ks) d [] b some fit is off = absurd fit
-key_of_none (k ∷ ks) d (x ∷ xs) b some fit is off = key_without k.kind x (sym is ∙ off) fit.0
 
 -- without columns
 pub key_of_nothing : (listed : List Listed) (cells : List Cell) → length listed < 1 → [] ≡ text_at (row_of (map column_as listed) cells) 0

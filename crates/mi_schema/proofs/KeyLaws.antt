@@ -5,11 +5,11 @@ use Rattle.std.specs.Option.{option_eq}
 use Rattle.std.specs.Ordering.{int_eq}
 use Rattle.std.specs.Cmp.Lexicographic.{pointwise, bytes_decides}
 use Rattle.std.proofs.lemmas.Bool.Decides.{Decides-int_eq}
-use Rattle.mi_schema.specs.declared.cell.Cell.{Cell}
-use Rattle.mi_schema.specs.declared.cell.Cell.TheVariants.{Text, Integer, Code, Condition}
+use Rattle.mi_schema.specs.Cells.{Cell}
+use Rattle.mi_schema.specs.Cells.{Text, Integer, Code, Condition}
 use Rattle.mi_schema.specs.declared.column.Kind.{Kind}
 use Rattle.mi_schema.specs.declared.column.Kind.TheVariants as kind
-use Rattle.mi_schema.specs.Reads.{has_text}
+use Rattle.mi_schema.proofs.Words.{has_text}
 use Rattle.mi_schema.specs.Values.{suits, suits_kind, all_suit, key_cell, key_cells, KeysTell, Row, cell_at, text_in, text_at, number_in}
 use Rattle.mi_schema.specs.Tables.{Column}
 use Rattle.mi_schema.specs.TypedRows.{text_key, number_key, texts_key, text_number_key, upgrade_key}

@@ -11,7 +11,7 @@ use Rattle.mi_base.specs.declared.answers.Fault.TheVariants.{Columns}
 use Rattle.mi_idt.specs.Cells as raw
 use Rattle.mi_idt.specs.declared.table.Table.{Table as Spelled}
 use Rattle.mi_idt.specs.Means.{IsSpelled, meaning}
-use Rattle.mi_schema.specs.declared.cell.Cell.{Cell}
+use Rattle.mi_schema.specs.Cells.{Cell}
 use Rattle.mi_schema.specs.declared.column.Column.{Column as Listed}
 use Rattle.mi_schema.specs.declared.known.Known.{Known}
 use Rattle.mi_schema.specs.declared.known.Known.TheVariants as known

@@ -7,6 +7,7 @@ pub mod ConditionFaults
 pub mod ConditionLaws
 pub mod Dangling
 pub mod DifferLemmas
+pub mod FieldLemmas
 pub mod FitLemmas
 pub mod FolderLemmas
 pub mod KeyLaws

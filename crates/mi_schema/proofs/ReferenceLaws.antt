@@ -8,7 +8,7 @@ use Rattle.std.proofs.lemmas.List.{length-map}
 use Rattle.std.proofs.Common.{inl, inr}
 use Rattle.mi_text.specs.Maps.{Name, same_name}
 use Rattle.mi_text.proofs.MapLemmas.{from_same}
-use Rattle.mi_schema.specs.declared.cell.Cell.{Cell}
+use Rattle.mi_schema.specs.Cells.{Cell}
 use Rattle.mi_schema.specs.declared.column.Kind.TheVariants as kind
 use Rattle.mi_schema.specs.declared.column.Rule.TheVariants as rule
 use Rattle.mi_base.specs.declared.answers.Fault.TheVariants.{Reference}

@@ -8,15 +8,15 @@ use Rattle.mi_text.specs.Maps.{Name}
 use Rattle.mi_schema.proofs.ListLemmas.{map_next}
 use Rattle.mi_base.specs.declared.answers.Fault.{Fault}
 use Rattle.mi_idt.specs.Cells as raw
-use Rattle.mi_schema.specs.declared.cell.Bad.{Bad}
-use Rattle.mi_schema.specs.declared.cell.Cell.{Cell}
+use Rattle.mi_schema.specs.declared.field.Bad.{Bad}
+use Rattle.mi_schema.specs.Cells.{Cell}
 use Rattle.mi_schema.specs.declared.column.Column.{Column as Listed}
 use Rattle.mi_schema.specs.Tables.{column_as, Column, Table}
 use Rattle.mi_schema.specs.declared.error.LoadError.{LoadError}
 use Rattle.mi_schema.specs.declared.error.LoadError.TheVariants.{NoMemory, Source, Table as TableFault}
 use Rattle.mi_schema.specs.Reads.{Fails, Refuses, RefusesAs, IsBad}
-use Rattle.mi_schema.specs.declared.cell.CellError.{CellError}
-use Rattle.mi_schema.specs.declared.cell.CellError.TheVariants.{NoMemory as NoCellMemory, Bad as BadCell}
+use Rattle.mi_schema.specs.declared.field.FieldError.{FieldError}
+use Rattle.mi_schema.specs.declared.field.FieldError.TheVariants.{NoMemory as NoCellMemory, Bad as BadCell}
 use Rattle.mi_schema.specs.Values.{Row, value_of, row_of, text_at}
 use Rattle.mi_schema.specs.Rows.{◌or_else◌, cell_fault, cells_fault, fault_at, row_fault, rows_fault, keys_of}
 
@@ -88,7 +88,7 @@ refused_at failed NoMemory f o is at = tt
 refused_at failed Source f o is at = absurd is
 refused_at failed (TableFault g) f o is at = at ∙ ap Some (sym is)
 
-pub refused_as : (fault : Option Bad) (at : Bad → Fault) (o : Option Fault) → ((b : Bad) → fault ≡ Some b → o ≡ Some (at b)) → (error : CellError) (e : LoadError) → RefusesAs error at e → IsBad fault error → Fails ⊥ o e
+pub refused_as : (fault : Option Bad) (at : Bad → Fault) (o : Option Fault) → ((b : Bad) → fault ≡ Some b → o ≡ Some (at b)) → (error : FieldError) (e : LoadError) → RefusesAs error at e → IsBad fault error → Fails ⊥ o e
 refused_as fault at o h NoCellMemory e refuses bad = subst (Fails ⊥ o) (sym refuses) tt
 refused_as fault at o h (BadCell b) e refuses bad = refused_at ⊥ e (at b) o refuses (h b bad)
 

@@ -11,8 +11,8 @@ use Rattle.mi_text.specs.Path.{is_part}
 use Rattle.mi_idt.specs.Cells as raw
 use Rattle.mi_idt.specs.Fields.{fields_of, unescaped}
 use Rattle.mi_idt.specs.Spells.{SpellsFields, SpellsRow}
-use Rattle.mi_schema.specs.declared.cell.Cell.{Cell}
-use Rattle.mi_schema.specs.declared.cell.Cell.TheVariants as cell
+use Rattle.mi_schema.specs.Cells.{Cell}
+use Rattle.mi_schema.specs.Cells as cell
 use Rattle.mi_schema.specs.declared.column.Kind.{Kind}
 use Rattle.mi_schema.specs.declared.column.Kind.TheVariants as kind
 use Rattle.mi_schema.specs.declared.known.Known.TheVariants as known

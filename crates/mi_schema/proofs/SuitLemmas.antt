@@ -11,7 +11,7 @@ use Rattle.mi_idt.specs.Fault.{idt_fault}
 use Rattle.mi_idt.specs.Fields.{fields_of}
 use Rattle.mi_idt.specs.Spells.{Spells, SpellsRow}
 use Rattle.mi_idt.proofs.TableLaws.{bytes_spell}
-use Rattle.mi_schema.specs.declared.cell.Cell.TheVariants.{Integer}
+use Rattle.mi_schema.specs.Cells.{Integer}
 use Rattle.mi_schema.specs.declared.column.Kind.{Kind}
 use Rattle.mi_schema.specs.declared.column.Kind.TheVariants as kind
 use Rattle.mi_schema.specs.Reads.{FitsKind}

@@ -7,13 +7,13 @@ use Rattle.std.proofs.lemmas.Bool.Decides.{nat_tests}
 use Rattle.std.proofs.lemmas.Int.{ints}
 use Rattle.mi_text.specs.FileNames.{is_file_name, is_file_pattern}
 use Rattle.mi_text.specs.declared.guid.Guid.{Guid}
-use Rattle.mi_schema.specs.declared.cell.Cell.{Cell}
-use Rattle.mi_schema.specs.declared.cell.Cell.TheVariants as cell
+use Rattle.mi_schema.specs.Cells.{Cell}
+use Rattle.mi_schema.specs.Cells as cell
 use Rattle.mi_schema.specs.declared.column.Kind.{Kind}
 use Rattle.mi_schema.specs.declared.column.Kind.TheVariants as kind
 use Rattle.mi_schema.specs.Laws.{IsWithin, HasOtherCode}
 use Rattle.mi_schema.specs.RowsOf.{keyed}
-use Rattle.mi_schema.specs.Reads.{has_text}
+use Rattle.mi_schema.proofs.Words.{has_text}
 use Rattle.mi_schema.specs.Values.{suits, suits_kind, Row, cell_at, text_in, text_at, number_in, is_root, has_code, code_in, same_code, is_new_code}
 use Rattle.mi_schema.specs.Tables.{Column}
 use Rattle.mi_schema.specs.TypedRows.{some_number_in, some_code_in}

@@ -58,3 +58,9 @@ pub record ReadSoFar (told : Type 0) (old new : Files) (before now : ℕ) (path 
   pub front : told → bytes ≡ take (length bytes) (bytes_or_none (get old path))
   pub same : new ≡ old
   pub counts : before ≤ now
+
+-- values of this kind have a text
+abbrev pub has_text : Kind → Bool
+has_text kind.Integer = false
+has_text kind.Code = false
+has_text other = true

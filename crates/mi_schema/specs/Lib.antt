@@ -1,4 +1,6 @@
+pub mod Cells
 pub mod Checks
+pub mod Fields
 pub mod Lawful
 pub mod Laws
 pub mod Loaded

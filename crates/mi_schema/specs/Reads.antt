@@ -1,31 +1,32 @@
 -- What reading a package, a table and a field answers, and what the program holds of a table while it reads its rows.
 use Rattle.std.specs.Prelude.{◌≡◌, ℕ, Bool, true, false, if◌then◌else◌, List, [], String, Option, Some, None, Result, Ok, Err}
-use Rattle.std.specs.BTreeMap.{BTreeMap, get_by_text}
+use Rattle.std.specs.HashSet.{HashSet, contains_text}
 use Rattle.std.specs.BTreeSet.{contains}
 use Rattle.std.specs.List.{list_any, slice_index_or}
 use Rattle.std.specs.Ordering.{nat_cmp}
 use Rattle.std.specs.declared.alloc.Global.{Global}
-use Rattle.mi_text.specs.Maps.{Name, same_name}
+use Rattle.mi_text.specs.Maps.{Name}
 use Rattle.mi_base.specs.declared.answers.Fault.{Fault}
-use Rattle.mi_dirs.specs.Places.{first_row}
 use Rattle.mi_source.specs.declared.fault.SrcFault.{SrcFault}
 use Rattle.mi_source.specs.declared.fault.SrcFault.TheVariants as source
 use Rattle.mi_idt.specs.Cells as raw
 use Rattle.mi_idt.specs.Means.{meaning}
 use Rattle.mi_idt.specs.declared.table.Table.{Table as Spelled}
-use Rattle.mi_schema.specs.declared.cell.Bad.{Bad}
-use Rattle.mi_schema.specs.declared.cell.CellError.{CellError}
-use Rattle.mi_schema.specs.declared.cell.CellError.TheVariants as error
+use Rattle.mi_schema.specs.declared.field.Bad.{Bad}
+use Rattle.mi_schema.specs.declared.field.FieldError.{FieldError}
+use Rattle.mi_schema.specs.declared.field.FieldError.TheVariants as error
 use Rattle.mi_schema.specs.declared.column.Kind.{Kind}
 use Rattle.mi_schema.specs.declared.column.Kind.TheVariants as kind
 use Rattle.mi_schema.specs.declared.column.Rule.{Rule}
 use Rattle.mi_schema.specs.declared.column.Rule.TheVariants.{VersionOrKey}
 use Rattle.mi_schema.specs.declared.error.LoadError.{LoadError}
 use Rattle.mi_schema.specs.declared.error.LoadError.TheVariants.{NoMemory, Source, Table as TableFault}
+use Rattle.mi_schema.specs.declared.row.Draft.{Draft}
 use Rattle.mi_schema.specs.declared.rule.Seen.{Seen}
+use Rattle.mi_schema.specs.Fields.{values_of, last_condition}
 use Rattle.mi_schema.specs.Rows.{keys_of, rows_in}
 use Rattle.mi_schema.specs.Tables.{Table}
-use Rattle.mi_schema.specs.Values.{Row, is_root, has_code}
+use Rattle.mi_schema.specs.Values.{Row, is_key_in, is_root, has_code}
 
 -- ---- answers of a package and a table
 
@@ -52,12 +53,12 @@ IsCounted failed other = Unit {0}
 -- ---- answers of a field
 
 -- why there is no value; want of memory may come at any time
-abbrev pub IsBad : Option Bad → CellError → Type 0
+abbrev pub IsBad : Option Bad → FieldError → Type 0
 IsBad fault error.NoMemory = Unit {0}
 IsBad fault (error.Bad b) = fault ≡ Some b
 
 -- this value, where nothing is wrong with it, or what is wrong
-abbrev pub ReadsAs : {X : Type 0} → Option Bad → X → Result X CellError → Type 0
+abbrev pub ReadsAs : {X : Type 0} → Option Bad → X → Result X FieldError → Type 0
 ReadsAs fault value (Ok x) = (fault ≡ None) × (x ≡ value)
 ReadsAs fault value (Err e) = IsBad fault e
 
@@ -76,7 +77,7 @@ Refuses Source fault = ⊥
 Refuses (TableFault f) fault = f ≡ fault
 
 -- the error of a value, whose fault is given by what is wrong with it
-abbrev pub RefusesAs : CellError → (Bad → Fault) → LoadError → Type 0
+abbrev pub RefusesAs : FieldError → (Bad → Fault) → LoadError → Type 0
 RefusesAs error.NoMemory at e = e ≡ NoMemory
 RefusesAs (error.Bad b) at e = Refuses e (at b)
 
@@ -86,14 +87,9 @@ RefusesAs (error.Bad b) at e = Refuses e (at b)
 abbrev pub raw_row : Spelled → ℕ → List raw.Cell
 raw_row t number = slice_index_or (meaning t).rows number []
 
-abbrev pub has_text : Kind → Bool
-has_text kind.Integer = false
-has_text kind.Code = false
-has_text other = true
-
--- the place of the first row of each key
-abbrev pub KnowsKeys : BTreeMap (String Global) ℕ → List Name → Type 0
-KnowsKeys index keys = (q : Name) → get_by_text index q ≡ first_row (same_name q) keys
+-- the texts are the keys
+abbrev pub KnowsKeys : {S : Type 0} → HashSet (String Global) S → List Name → Type 0
+KnowsKeys texts keys = (q : Name) → contains_text texts q ≡ is_key_in keys q
 
 -- the rule asks whether a text is a key of its table
 abbrev pub asks_key : Rule → Bool
@@ -103,6 +99,12 @@ asks_key other = false
 -- the keys of a table where a column asks for them, and none elsewhere
 abbrev pub keys_asked : Table → raw.TableValue → List Name
 keys_asked t v = if list_any (λ c. asks_key c.rule) t.columns then keys_of (rows_in t v) else []
+
+-- the fields that are judged are these values, the condition among them is kept, and no memory was wanting
+pub record IsDraft (d : Draft) (row : Row) : Type 0 where
+  pub values : values_of d.fields.items ≡ row
+  pub condition : d.take.condition ≡ last_condition row
+  pub memory : d.take.failed ≡ false
 
 -- of the rows before
 pub record IsSeen (seen : Seen) (before : List Row) : Type 0 where

@@ -11,8 +11,8 @@ use Rattle.mi_idt.specs.Cells as raw
 use Rattle.mi_idt.specs.Columns.{is_text, is_int}
 use Rattle.mi_idt.specs.Fault.{idt_fault}
 use Rattle.mi_idt.specs.Raw as spelled
-use Rattle.mi_schema.specs.declared.cell.Bad.{Bad}
-use Rattle.mi_schema.specs.declared.cell.Bad.TheVariants as bad
+use Rattle.mi_schema.specs.declared.field.Bad.{Bad}
+use Rattle.mi_schema.specs.declared.field.Bad.TheVariants as bad
 use Rattle.mi_schema.specs.declared.column.Kind.{Kind}
 use Rattle.mi_schema.specs.declared.column.Kind.TheVariants.{Integer}
 use Rattle.mi_schema.specs.Tables.{Column, Table}

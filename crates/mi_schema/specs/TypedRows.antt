@@ -3,8 +3,8 @@ use Rattle.std.specs.Prelude.{ℕ, ℤ, pos, List, Option, Some, None, unwrap_or
 use Rattle.mi_text.specs.declared.guid.Guid.{Guid}
 use Rattle.mi_cond.specs.Tree.{Tree, Alone}
 use Rattle.mi_cond.specs.declared.node.Value.TheVariants as value
-use Rattle.mi_schema.specs.declared.cell.Cell.{Cell}
-use Rattle.mi_schema.specs.declared.cell.Cell.TheVariants.{Integer, Code, Condition}
+use Rattle.mi_schema.specs.Cells.{Cell}
+use Rattle.mi_schema.specs.Cells.{Integer, Code, Condition}
 use Rattle.mi_schema.specs.Values.{Row, cell_at, text_at, some_text_at, number_at}
 pub use Rattle.mi_schema.specs.declared.typed_rows.ComponentRow.{ComponentRow}
 pub use Rattle.mi_schema.specs.declared.typed_rows.ConditionRow.{ConditionRow}

@@ -14,10 +14,10 @@ use Rattle.mi_text.specs.declared.guid.Guid.{Guid}
 use Rattle.mi_idt.specs.Cells as raw
 use Rattle.mi_cond.specs.Tree.{Tree, Alone}
 use Rattle.mi_cond.specs.declared.node.Value.TheVariants as value
-use Rattle.mi_schema.specs.declared.cell.Cell.{Cell}
-use Rattle.mi_schema.specs.declared.cell.Cell.TheVariants.{Text, Integer, Code, Condition}
-use Rattle.mi_schema.specs.declared.cell.Bad.{Bad}
-use Rattle.mi_schema.specs.declared.cell.Bad.TheVariants as bad
+use Rattle.mi_schema.specs.Cells.{Cell}
+use Rattle.mi_schema.specs.Cells.{Text, Integer, Code, Condition}
+use Rattle.mi_schema.specs.declared.field.Bad.{Bad}
+use Rattle.mi_schema.specs.declared.field.Bad.TheVariants as bad
 use Rattle.mi_schema.specs.declared.column.Kind.{Kind}
 use Rattle.mi_schema.specs.declared.column.Kind.TheVariants as kind
 use Rattle.mi_schema.specs.declared.column.Rule.{Rule}

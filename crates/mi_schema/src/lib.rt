@@ -1,11 +1,11 @@
 //! The tables of a package, loaded from a folder and checked (Database Tables).
 #![tactic(auto)]
 
-mod cell;
 mod chain;
 mod check;
 mod column;
 mod error;
+mod field;
 mod known;
 mod laws;
 mod load;
@@ -16,6 +16,7 @@ mod row;
 mod rule;
 mod table;
 mod table_row;
+mod take;
 mod text;
 mod typed_rows;
 

@@ -1,37 +1,38 @@
-//! The rows of a table as values.
+//! The rows of a table as structs.
 
-ghost use Rattle.std.specs.Prelude.{◌≡◌, ◌+◌, ◌<◌, ◌≤◌, ◌++◌, ◌∷◌, List, [], true, false, None, IfOk, OnOk, option_map, vec_len};
+ghost use Rattle.std.specs.Prelude.{◌≡◌, ◌+◌, ◌<◌, ◌++◌, ◌∷◌, List, [], true, false, None, Some, option_map, vec_len, IfOk, OnOk};
 ghost use Rattle.std.specs.Cow.{cow_str_bytes};
-ghost use Rattle.std.specs.List.{slice_index_or, list_any};
-ghost use Rattle.std.specs.Option.{option_copied};
+ghost use Rattle.std.specs.List.{list_any};
 ghost use Rattle.mi_text.specs.Maps.{Name};
-ghost use Rattle.mi_base.specs.declared.answers.Fault.{Fault};
 ghost use Rattle.mi_idt.specs.Cells as raw;
-ghost use Rattle.mi_idt.specs.Means.{Shows, IsSpelled, meaning, cell_at};
-ghost use Rattle.mi_schema.specs.Reads.{Answers, KnowsKeys, asks_key, keys_asked, IsSeen, ReadsAs, RefusesAs, FitsKind, raw_row, has_text};
+ghost use Rattle.mi_idt.specs.Means.{Shows, IsSpelled, meaning};
+ghost use Rattle.mi_schema.specs.Fields.{field_value, values_of, last_condition};
+ghost use Rattle.mi_schema.specs.Reads.{Answers, KnowsKeys, asks_key, keys_asked, IsSeen, IsDraft, ReadsAs, RefusesAs, FitsKind, raw_row};
 ghost use Rattle.mi_schema.specs.Tables.{column_as, table_as, layout_of};
+ghost use Rattle.mi_schema.specs.TypedRows.{some_condition_in};
 ghost use Rattle.mi_schema.specs.RowsOf.{keyed};
-ghost use Rattle.mi_schema.specs.Values.{KeysTell, Row, row_of, value_of, text_at};
-ghost use Rattle.mi_schema.specs.Rows.{cell_fault, cells_fault, row_fault, rows_fault, rows_in, keys_of, begins_with, has_columns, fault_at};
+ghost use Rattle.mi_schema.specs.Values.{KeysTell, Row, row_of, text_at, all_suit};
+ghost use Rattle.mi_schema.specs.Rows.{◌or_else◌, cell_fault, row_fault, rows_fault, rows_in, keys_of, begins_with, has_columns, fault_at};
 
-use crate::cell::{Bad, Cell, CellError, Row};
-use crate::column::{Column, Kind, Layout, Rule};
+use crate::column::{Column, Layout, Rule};
 use crate::error::LoadError;
-use crate::read::read_field;
+use crate::field::{Bad, Field, FieldError, some_text};
+use crate::read::read_kind;
 use crate::rule::{Seen, meets};
 use crate::table_row::{Key, TableRow};
+use crate::take::Take;
 use indexmap::IndexMap;
 use mi_base::{Fault, NoMemory, Text};
+use mi_cond::Cond;
 use mi_idt::Table;
 use std::alloc::Global;
-use std::borrow::CowStr;
-use std::collections::BTreeMap;
+use std::collections::HashSet;
 
 /// The error of a value in this row and column, from 1.
-fn error_at(alloc: Global, table: &str, row: u32, column: u32, error: CellError) -> LoadError
+fn error_at(alloc: Global, table: &str, row: u32, column: u32, error: FieldError) -> LoadError
     ensures { RefusesAs error (fault_at table.now row column) result }
 {
-    let CellError::Bad(bad) = error else {
+    let FieldError::Bad(bad) = error else {
         return LoadError::NoMemory;
     };
     match Text::copy_of(alloc, table) {
@@ -43,128 +44,100 @@ fn error_at(alloc: Global, table: &str, row: u32, column: u32, error: CellError)
     }
 }
 
-/// The text that a field shows.
-fn shown_in<'a>(field: &'a Option<CowStr<'_>>) -> Option<&'a str>
-    ensures { option_copied result ≡ option_map cow_str_bytes field.now }
-{
-    match field {
-        Some(text) => Some(text.as_str()),
-        None => None,
-    }
-}
-
-/// The value of a field, by its kind and its rule.
-fn read_value(
+/// Why a field isn't a value of its column, by its kind and its rule, or the condition that it is, where it is one.
+fn read_field(
     alloc: Global,
     column: &Column,
-    field: &Option<CowStr<'_>>,
-    index: &BTreeMap<String, usize>,
+    field: &Field,
     seen: &Seen,
-    front: &[Option<Cell>],
-) -> Result<Option<Cell>, CellError>
-    ensures { (x : raw.Cell) → Shows (option_map cow_str_bytes field.now) x → FitsKind column.now.kind x → (keys : List Name) (before : List Row) → KnowsKeys index.now keys → IsSeen seen.now before
-        → ReadsAs (cell_fault (column_as column.now) keys before front.now x) (value_of column.now.kind x) result }
+    front: &[Field],
+) -> Result<Option<Cond>, FieldError>
+    requires kind { field.now.kind ≡ column.now.kind }
+    ensures { (x : raw.Cell) → Shows (option_map cow_str_bytes field.now.text) x → FitsKind column.now.kind x → (keys : List Name) (before : List Row) → KnowsKeys seen.now.keys keys → IsSeen seen.now before
+        → ReadsAs (cell_fault (column_as column.now) keys before (values_of front.now) x) (some_condition_in (field_value field.now)) result }
 {
-    let cell = read_field(alloc, column, shown_in(field))?;
-    if meets(column.rule, index, seen, front, &cell) {
-        Ok(cell)
+    let condition = read_kind(alloc, field, column.nullable)?;
+    if meets(column.rule, seen, front, field) {
+        Ok(condition)
     } else {
-        Err(CellError::Bad(Bad::Value))
+        Err(FieldError::Bad(Bad::Value))
     }
 }
 
-/// The values of a row, or the first fault among them. Rows count from 0 here.
-fn read_row(
+/// A row while it is read: the fields that are judged, and what takes their values.
+#[derive(Drop)]
+struct Draft<'a> {
+    fields: Vec<Field<'a>>,
+    take: Take,
+}
+
+impl<'a> Draft<'a> {
+    /// A row that has begun.
+    fn clear(&mut self)
+        ensures { self.old.take.failed ≡ false → IsDraft self.new [] }
+    {
+        self.fields.clear();
+        self.take.condition = None;
+    }
+
+    /// One field more, and the condition that it is, where it is one.
+    fn add(&mut self, field: Field<'a>, condition: Option<Cond>) -> Result<(), NoMemory>
+        requires condition { condition ≡ some_condition_in (field_value field) }
+        ensures { OnOk result ((row : Row) → IsDraft self.old row → IsDraft self.new (row ++ field_value field.entry ∷ [])) }
+    {
+        self.take.keep(condition);
+        self.fields.push(field)?;
+        Ok(())
+    }
+}
+
+/// Reads a row, or refuses with the first fault among its values. Rows count from 0 here.
+fn read_row<'a>(
     alloc: Global,
     layout: &Layout,
-    table: &Table,
+    table: &Table<'a>,
     number: usize,
-    index: &BTreeMap<String, usize>,
     seen: &Seen,
-) -> Result<Row, LoadError>
+    draft: &mut Draft<'a>,
+) -> Result<(), LoadError>
     requires spelled { IsSpelled table.now }
     requires columns { begins_with (table_as layout.now).columns (meaning table.now).columns ≡ true }
     requires in_range { number < vec_len table.now.rows }
-    ensures { (keys : List Name) (before : List Row) → KnowsKeys index.now keys → IsSeen seen.now before
-        → Answers ⊥ (row_fault (table_as layout.now) (number + 1) keys before (raw_row table.now number)) (λ row. row.items ≡ row_of (table_as layout.now).columns (raw_row table.now number)) result }
+    requires knows { (keys : List Name) × KnowsKeys seen.now.keys keys }
+    requires seen { (before : List Row) × IsSeen seen.now before }
+    requires memory { draft.old.take.failed ≡ false }
+    ensures { (keys : List Name) (before : List Row) → KnowsKeys seen.now.keys keys → IsSeen seen.now before
+        → Answers ⊥ (row_fault (table_as layout.now) (number + 1) keys before (raw_row table.now number)) (λ _. IsDraft draft.new (row_of (table_as layout.now).columns (raw_row table.now number))) result }
 {
-    let mut row = Vec::with_capacity(alloc, layout.columns.len())?;
+    draft.clear();
     for (i, column) in layout.columns.iter().enumerate() {
-        let field = table.field(alloc, number, i)?;
-        match read_value(alloc, column, &field, index, seen, row.as_slice()) {
-            Ok(cell) => row.push(cell)?,
+        let text = table.field(alloc, number, i)?;
+        let kind = column.kind;
+        let field = Field { kind, text };
+        match read_field(alloc, column, &field, seen, draft.fields.as_slice()) {
+            Ok(condition) => draft.add(field, condition)?,
             Err(error) => {
                 let number = number as u32 + 1;
                 return Err(error_at(alloc, layout.name, number, i as u32 + 1, error));
             }
         }
     }
-    Ok(row)
+    Ok(())
 }
 
-/// Whether the values of this kind have a text.
-fn has_text(kind: Kind) -> bool
-    ensures { result ≡ has_text kind }
+/// The key and the struct of a row that is judged.
+fn take_row<K: Key, R: TableRow<K>>(draft: &mut Draft) -> Result<(K, R), NoMemory>
+    requires draft { (row : Row) × IsDraft draft.old row × (all_suit (layout_of R.known).columns row ≡ true) }
+    ensures memory { OnOk result (draft.new.take.failed ≡ false) }
+    ensures values { IfOk result (λ e. e ≡ (K.key (values_of draft.old.fields.items), R.value (values_of draft.old.fields.items))) }
 {
-    !matches!(kind, Kind::Integer | Kind::Code)
-}
-
-/// The text of a field, or nothing where it is null. Rows and columns count from 0 here.
-fn shown_at(
-    alloc: Global,
-    table: &Table,
-    number: usize,
-    column: usize,
-) -> Result<Option<Text>, NoMemory>
-    requires spelled { IsSpelled table.now }
-    requires row_in_range { number < vec_len table.now.rows }
-    requires column_in_range { column < vec_len table.now.columns }
-    ensures { IfOk result (λ shown. Shows shown (cell_at (meaning table.now) number column)) }
-{
-    let Some(text) = table.field(alloc, number, column)? else {
-        return Ok(None);
-    };
-    let string = text.into_owned(alloc)?;
-    Ok(Some(Text::from_string(string)))
-}
-
-/// The text in the first column of a row, from 0; empty where it has none.
-fn key_of(alloc: Global, layout: &Layout, table: &Table, number: usize) -> Result<Text, NoMemory>
-    requires spelled { IsSpelled table.now }
-    requires columns { begins_with (table_as layout.now).columns (meaning table.now).columns ≡ true }
-    requires in_range { number < vec_len table.now.rows }
-    ensures { IfOk result (λ key. key ≡ text_at (row_of (table_as layout.now).columns (raw_row table.now number)) 0) }
-{
-    let [first, ..] = layout.columns else {
-        return Ok(Text::new(alloc));
-    };
-    if !has_text(first.kind) {
-        return Ok(Text::new(alloc));
+    let row = draft.fields.as_slice();
+    let key = K::of_row(&mut draft.take, row);
+    let value = R::read(&mut draft.take, row);
+    if draft.take.failed {
+        return Err(NoMemory);
     }
-    match shown_at(alloc, table, number, 0)? {
-        Some(key) => Ok(key),
-        None => Ok(Text::new(alloc)),
-    }
-}
-
-/// The place of the first row of each key, from 0.
-fn index_all(
-    alloc: Global,
-    layout: &Layout,
-    table: &Table,
-) -> Result<BTreeMap<String, usize>, NoMemory>
-    requires spelled { IsSpelled table.now }
-    requires columns { begins_with (table_as layout.now).columns (meaning table.now).columns ≡ true }
-    ensures { IfOk result (λ index. KnowsKeys index (keys_of (rows_in (table_as layout.now) (meaning table.now)))) }
-{
-    let mut index = BTreeMap::new(alloc);
-    for number in 0..table.rows.len() {
-        let key = key_of(alloc, layout, table, number)?;
-        if !index.contains_key(key.as_str()) {
-            index.insert(key.into_string(), number)?;
-        }
-    }
-    Ok(index)
+    Ok((key, value))
 }
 
 /// Whether a rule asks for the keys of its table.
@@ -181,48 +154,68 @@ fn asks_keys(columns: &[Column]) -> bool
     columns.iter().any(|column| asks_key(column.rule))
 }
 
-/// The place of the first row of each key, from 0, where a column asks for them; none elsewhere.
-fn index_of(
-    alloc: Global,
-    layout: &Layout,
-    table: &Table,
-) -> Result<BTreeMap<String, usize>, NoMemory>
+/// The text in the first column of a row, from 0; empty where it has none.
+fn key_of(alloc: Global, layout: &Layout, table: &Table, number: usize) -> Result<Text, NoMemory>
     requires spelled { IsSpelled table.now }
     requires columns { begins_with (table_as layout.now).columns (meaning table.now).columns ≡ true }
-    ensures { IfOk result (λ index. KnowsKeys index (keys_asked (table_as layout.now) (meaning table.now))) }
+    requires in_range { number < vec_len table.now.rows }
+    ensures { IfOk result (λ key. key ≡ text_at (row_of (table_as layout.now).columns (raw_row table.now number)) 0) }
 {
-    if asks_keys(layout.columns) {
-        index_all(alloc, layout, table)
-    } else {
-        Ok(BTreeMap::new(alloc))
+    let [first, ..] = layout.columns else {
+        return Ok(Text::new(alloc));
+    };
+    let text = table.field(alloc, number, 0)?;
+    let kind = first.kind;
+    let field = Field { kind, text };
+    match some_text(&field) {
+        Some(text) => Text::copy_of(alloc, text),
+        None => Ok(Text::new(alloc)),
     }
 }
 
+/// The keys of a table, where a column asks for them; none elsewhere.
+fn keys_asked(alloc: Global, layout: &Layout, table: &Table) -> Result<HashSet<String>, NoMemory>
+    requires spelled { IsSpelled table.now }
+    requires columns { begins_with (table_as layout.now).columns (meaning table.now).columns ≡ true }
+    ensures { IfOk result (λ keys. KnowsKeys keys (keys_asked (table_as layout.now) (meaning table.now))) }
+{
+    if !asks_keys(layout.columns) {
+        return Ok(HashSet::new(alloc));
+    }
+    let mut keys = HashSet::with_capacity(alloc, table.rows.len())?;
+    for number in 0..table.rows.len() {
+        let key = key_of(alloc, layout, table, number)?;
+        keys.insert(key.into_string())?;
+    }
+    Ok(keys)
+}
+
 /// The key and the struct of a row, or the first fault among its values. Rows count from 0 here.
-fn read_typed<K: Key, R: TableRow<K>>(
+fn read_typed<'a, K: Key, R: TableRow<K>>(
     alloc: Global,
     layout: &Layout,
-    table: &Table,
+    table: &Table<'a>,
     number: usize,
-    index: &BTreeMap<String, usize>,
     seen: &mut Seen,
+    draft: &mut Draft<'a>,
 ) -> Result<(K, R), LoadError>
     requires is { table_as layout.now ≡ layout_of R.known }
     requires spelled { IsSpelled table.now }
     requires columns { begins_with (table_as layout.now).columns (meaning table.now).columns ≡ true }
     requires in_range { number < vec_len table.now.rows }
-    requires knows { (keys : List Name) × KnowsKeys index.now keys }
+    requires knows { (keys : List Name) × KnowsKeys seen.old.keys keys }
     requires seen { (before : List Row) × IsSeen seen.old before }
-    ensures read { (keys : List Name) (before : List Row) → KnowsKeys index.now keys → IsSeen seen.old before
+    requires memory { draft.old.take.failed ≡ false }
+    ensures read { (keys : List Name) (before : List Row) → KnowsKeys seen.old.keys keys → IsSeen seen.old before
         → let row = row_of (table_as layout.now).columns (raw_row table.now number) in
         Answers ⊥ (row_fault (table_as layout.now) (number + 1) keys before (raw_row table.now number)) (λ e. e ≡ (K.key row, R.value row)) result }
     ensures seen { OnOk result ((before : List Row) → IsSeen seen.old before → IsSeen seen.new (before ++ row_of (table_as layout.now).columns (raw_row table.now number) ∷ [])) }
+    ensures keys { OnOk result (seen.new.keys ≡ seen.old.keys) }
+    ensures memory { OnOk result (draft.new.take.failed ≡ false) }
 {
-    let row = read_row(alloc, layout, table, number, index, seen)?;
-    let values = row.as_slice();
-    seen.add(values)?;
-    let key = K::of_row(alloc, values)?;
-    Ok((key, R::read(alloc, row)))
+    read_row(alloc, layout, table, number, seen, draft)?;
+    seen.add(draft.fields.as_slice())?;
+    Ok(take_row(draft)?)
 }
 
 /// The rows of a table that has the columns of its layout, by their keys, or the first fault among them.
@@ -238,11 +231,15 @@ pub fn read_rows<K: Key, R: TableRow<K>>(
     ensures { let rows = rows_in (table_as layout.now) (meaning table.now) in
         Answers ⊥ (rows_fault (table_as layout.now) (keys_of rows) [] 1 (meaning table.now).rows) (λ held. held.entries ≡ keyed K.key R.value rows) result }
 {
-    let index = index_of(alloc, layout, table)?;
-    let mut seen = Seen::new(alloc);
+    let keys = keys_asked(alloc, layout, table)?;
+    let mut seen = Seen::new(alloc, keys);
+    let mut draft = Draft {
+        fields: Vec::with_capacity(alloc, layout.columns.len())?,
+        take: Take::new(alloc),
+    };
     let mut rows = IndexMap::with_capacity(alloc, table.rows.len())?;
     for number in 0..table.rows.len() {
-        let (key, row) = read_typed(alloc, layout, table, number, &index, &mut seen)?;
+        let (key, row) = read_typed(alloc, layout, table, number, &mut seen, &mut draft)?;
         rows.insert(key, row)?;
     }
     Ok(rows)

@@ -7,16 +7,19 @@ ghost use Rattle.mi_text.specs.FileNames.{is_default_dir};
 ghost use Rattle.mi_text.specs.Maps.{Name};
 ghost use Rattle.mi_text.specs.PropertyNames.{is_property_name};
 ghost use Rattle.mi_text.specs.Version.{version_of};
+ghost use Rattle.mi_schema.specs.Fields.{field_value, values_of};
 ghost use Rattle.mi_schema.specs.Texts.{are_languages, is_decimal, is_value_of};
 ghost use Rattle.mi_schema.specs.Reads.{KnowsKeys, IsSeen};
 ghost use Rattle.mi_schema.specs.Values.{Row, cell_at, code_at, text_in, number_in, is_new_code, is_root_below, is_root, lacks, meets, if_text, is_key_in};
 
-use crate::cell::{Cell, number_at, number_in, some_text_at, text_at, text_in};
 use crate::column::Rule;
+use crate::field::{
+    Field, number_at, some_code, some_code_at, some_number, some_text, some_text_at, text_at,
+};
 use crate::text::{are_languages, is_decimal, is_value_of, is_version};
 use mi_base::{NoMemory, is_default_dir, is_property_name};
 use std::alloc::Global;
-use std::collections::{BTreeMap, BTreeSet};
+use std::collections::{BTreeSet, HashSet};
 
 /// Whether a row of Directory is a root row, by its key and its parent.
 pub fn is_root_below(own: &str, parent: Option<&str>) -> bool
@@ -26,8 +29,8 @@ pub fn is_root_below(own: &str, parent: Option<&str>) -> bool
 }
 
 /// Whether a row of Directory is a root row: its parent is null or its own key (Directory table).
-pub fn is_root(row: &[Option<Cell>]) -> bool
-    ensures { result ≡ is_root row.now }
+pub fn is_root(row: &[Field]) -> bool
+    ensures { result ≡ is_root (values_of row.now) }
 {
     is_root_below(text_at(row, 0), some_text_at(row, 1))
 }
@@ -39,107 +42,101 @@ pub fn lacks(bits: u32, number: i32) -> bool
     number.cast_unsigned() & bits == 0
 }
 
-/// Whether a text is a key of the table.
-pub fn is_key(index: &BTreeMap<String, usize>, text: &str) -> bool
-    ensures { (keys : List Name) → KnowsKeys index.now keys → result ≡ is_key_in keys text.now }
+fn is_within(low: i32, high: i32, field: &Field) -> bool
+    ensures { result ≡ (is_none (field_value field.now) || (int_le low (number_in (field_value field.now)) && int_le (number_in (field_value field.now)) high)) }
 {
-    index.contains_key(text)
+    if field.text.is_none() {
+        return true;
+    }
+    let number = some_number(field).unwrap_or(0);
+    low <= number && number <= high
 }
 
-fn is_within(low: i32, high: i32, cell: &Option<Cell>) -> bool
-    ensures { result ≡ (is_none cell.now || (int_le low (number_in cell.now) && int_le (number_in cell.now) high)) }
-{
-    let number = number_in(cell);
-    cell.is_none() || (low <= number && number <= high)
-}
-
-fn counts_words(front: &[Option<Cell>], cell: &Option<Cell>) -> bool
-    ensures { result ≡ (not (int_eq (number_in (cell_at front.now 0)) (pos 15)) || is_decimal (unwrap_or (text_in cell.now) [])) }
+fn counts_words(front: &[Field], field: &Field) -> bool
+    ensures { result ≡ (not (int_eq (number_in (cell_at (values_of front.now) 0)) (pos 15)) || is_decimal (unwrap_or (text_in (field_value field.now)) [])) }
 {
     if number_at(front, 0) != 15 {
         return true;
     }
-    match text_in(cell) {
+    match some_text(field) {
         Some(text) => is_decimal(text),
         None => false,
     }
 }
 
-/// Whether a value meets a rule. `index` knows the keys of the table, `seen` the rows before this one, and `front` is
-/// what stands before the value in its row.
-pub fn meets(
-    rule: Rule,
-    index: &BTreeMap<String, usize>,
-    seen: &Seen,
-    front: &[Option<Cell>],
-    cell: &Option<Cell>,
-) -> bool
-    ensures { (keys : List Name) (before : List Row) → KnowsKeys index.now keys → IsSeen seen.now before → result ≡ meets rule keys before front.now cell.now }
+/// Whether a value meets a rule. `seen` knows the keys of the table and the rows before this one, and `front` is what
+/// stands before the value in its row.
+pub fn meets(rule: Rule, seen: &Seen, front: &[Field], field: &Field) -> bool
+    ensures { (keys : List Name) (before : List Row) → KnowsKeys seen.now.keys keys → IsSeen seen.now before → result ≡ meets rule keys before (values_of front.now) (field_value field.now) }
 {
-    let own = text_at(front, 0);
-    let text = text_in(cell);
+    let text = some_text(field);
     match rule {
         Rule::PropertyName => text.is_none_or(|text| is_property_name(text)),
-        Rule::PropertyValue => text.is_none_or(|text| is_value_of(own, text)),
-        Rule::OneRoot => !(is_root_below(own, text) && seen.root),
+        Rule::PropertyValue => {
+            let own = text_at(front, 0);
+            text.is_none_or(|text| is_value_of(own, text))
+        }
+        Rule::OneRoot => !(is_root_below(text_at(front, 0), text) && seen.root),
         Rule::DefaultDir => is_root(front) || text.is_none_or(|text| is_default_dir(text)),
-        Rule::NewCode => seen.is_new(cell),
-        Rule::Without(bits) => lacks(bits, number_in(cell)),
-        Rule::Within(low, high) => is_within(low, high, cell),
-        Rule::VersionOrKey => text.is_none_or(|text| is_version(text) || is_key(index, text)),
+        Rule::NewCode => seen.is_new(field),
+        Rule::Without(bits) => lacks(bits, some_number(field).unwrap_or(0)),
+        Rule::Within(low, high) => is_within(low, high, field),
+        Rule::VersionOrKey => text.is_none_or(|text| is_version(text) || seen.is_key(text)),
         Rule::Languages => text.is_none_or(|text| are_languages(text)),
-        Rule::WordCount => counts_words(front, cell),
+        Rule::WordCount => counts_words(front, field),
         Rule::Free => true,
     }
 }
 
-/// Of rows: whether there is a root row of Directory among them, and the ids of Component among them.
+/// The keys of a table; and of the rows before one: whether there is a root row of Directory among them, and the ids of
+/// Component among them.
 #[derive(Drop)]
 pub struct Seen {
+    pub keys: HashSet<String>,
     pub root: bool,
     codes: BTreeSet<u128>,
 }
 
-/// The code in the second column.
-fn code_of(row: &[Option<Cell>]) -> Option<u128>
-    ensures { result ≡ code_at row.now }
-{
-    match row.get(1) {
-        Some(Some(Cell::Code(code))) => Some(code.number),
-        _ => None,
-    }
-}
-
 impl Seen {
     /// No rows.
-    pub fn new(alloc: Global) -> Seen
-        ensures { IsSeen result [] }
+    pub fn new(alloc: Global, keys: HashSet<String>) -> Seen
+        ensures rows { IsSeen result [] }
+        ensures keys { result.keys ≡ keys }
     {
         Seen {
+            keys,
             root: false,
             codes: BTreeSet::new(alloc),
         }
     }
 
-    /// Whether no row has this code.
-    pub fn is_new(&self, cell: &Option<Cell>) -> bool
-        ensures { (before : List Row) → IsSeen self.now before → result ≡ is_new_code before cell.now }
+    /// Whether a text is a key of the table.
+    pub fn is_key(&self, text: &str) -> bool
+        ensures { (keys : List Name) → KnowsKeys self.now.keys keys → result ≡ is_key_in keys text.now }
     {
-        match cell {
-            Some(Cell::Code(code)) => !self.codes.contains(&code.number),
-            _ => true,
+        self.keys.contains(text)
+    }
+
+    /// Whether no row has this code.
+    pub fn is_new(&self, field: &Field) -> bool
+        ensures { (before : List Row) → IsSeen self.now before → result ≡ is_new_code before (field_value field.now) }
+    {
+        match some_code(field) {
+            Some(code) => !self.codes.contains(&code.number),
+            None => true,
         }
     }
 
     /// One row more.
-    pub fn add(&mut self, row: &[Option<Cell>]) -> Result<(), NoMemory>
-        ensures { OnOk result ((before : List Row) → IsSeen self.old before → IsSeen self.new (before ++ row.now ∷ [])) }
+    pub fn add(&mut self, row: &[Field]) -> Result<(), NoMemory>
+        ensures rows { OnOk result ((before : List Row) → IsSeen self.old before → IsSeen self.new (before ++ values_of row.now ∷ [])) }
+        ensures keys { OnOk result (self.new.keys ≡ self.old.keys) }
     {
-        if is_root(row) {
-            self.root = true;
+        if !self.root {
+            self.root = is_root(row);
         }
-        if let Some(code) = code_of(row) {
-            self.codes.insert(code)?;
+        if let Some(code) = some_code_at(row, 1) {
+            self.codes.insert(code.number)?;
         }
         Ok(())
     }

@@ -4,15 +4,13 @@
 ghost use Rattle.mi_schema.specs.declared.known.Known.TheVariants as of;
 ghost use Rattle.mi_schema.specs.TypedRows.{property_row, directory_row, component_row, feature_row, feature_components_row, condition_row, file_row, msi_file_hash_row, remove_file_row, create_folder_row, duplicate_file_row, registry_row, remove_registry_row, environment_row, shortcut_row, launch_condition_row, custom_action_row, install_execute_sequence_row, upgrade_row, summary_information_row};
 
-use crate::cell::{
-    Row, cells, condition_of, number, some_code, some_condition, some_number, some_text, text,
-};
 use crate::column::{Column, Kind, Layout, Rule};
+use crate::field::{Field, number_at, some_code_at, some_number_at};
 use crate::package::UpgradeKey;
 use crate::table_row::TableRow;
+use crate::take::Take;
 use mi_base::{Guid, Text};
 use mi_cond::Cond;
-use std::alloc::Global;
 
 macro_rules! is_key {
     (key) => { true };
@@ -47,17 +45,21 @@ macro_rules! layout {
     };
 }
 
+// How a value is made of the field of a column.
 macro_rules! field {
-    (text, $alloc:ident, $cell:ident) => { text($alloc, $cell) };
-    ($how:ident, $alloc:ident, $cell:ident) => { $how($cell) };
+    (text, $take:ident, $row:ident, $column:literal) => { $take.text($row, $column) };
+    (some_text, $take:ident, $row:ident, $column:literal) => { $take.some_text($row, $column) };
+    (number, $take:ident, $row:ident, $column:literal) => { number_at($row, $column) };
+    (some_number, $take:ident, $row:ident, $column:literal) => { some_number_at($row, $column) };
+    (some_code, $take:ident, $row:ident, $column:literal) => { some_code_at($row, $column) };
+    ($condition:ident, $take:ident, $row:ident, $column:literal) => { $take.$condition() };
 }
 
-// The struct of a row: how many fields it has, and how each is read, in the order of the columns.
+// The struct of a row: each field, how its value is made, and its column, from 0.
 macro_rules! read {
-    ($alloc:ident, $row:ident => $of:ident of $count:literal: $($how:ident $field:ident),*) => {{
-        let [$($field),*] = cells::<$count>($row);
-        $of { $($field: field!($how, $alloc, $field)),* }
-    }};
+    ($take:ident, $row:ident => $of:ident: $($column:literal $how:ident $field:ident),*) => {
+        $of { $($field: field!($how, $take, $row, $column)),* }
+    };
 }
 
 /// A row of Property (Property table).
@@ -75,8 +77,8 @@ impl TableRow<Text> for PropertyRow {
 
     ghost value = { property_row };
 
-    fn read(alloc: Global, row: Row) -> PropertyRow {
-        read!(alloc, row => PropertyRow of 2: text property, text value)
+    fn read(take: &mut Take, row: &[Field]) -> PropertyRow {
+        read!(take, row => PropertyRow: 0 text property, 1 text value)
     }
 }
 
@@ -98,9 +100,9 @@ impl TableRow<Text> for DirectoryRow {
 
     ghost value = { directory_row };
 
-    fn read(alloc: Global, row: Row) -> DirectoryRow {
-        read!(alloc, row => DirectoryRow of 3: text directory, some_text directory_parent,
-            text default_dir)
+    fn read(take: &mut Take, row: &[Field]) -> DirectoryRow {
+        read!(take, row => DirectoryRow: 0 text directory, 1 some_text directory_parent,
+            2 text default_dir)
     }
 }
 
@@ -127,9 +129,9 @@ impl TableRow<Text> for ComponentRow {
 
     ghost value = { component_row };
 
-    fn read(alloc: Global, row: Row) -> ComponentRow {
-        read!(alloc, row => ComponentRow of 6: text component, some_code component_id,
-            text directory, number attributes, some_condition condition, some_text key_path)
+    fn read(take: &mut Take, row: &[Field]) -> ComponentRow {
+        read!(take, row => ComponentRow: 0 text component, 1 some_code component_id,
+            2 text directory, 3 number attributes, 4 some_condition condition, 5 some_text key_path)
     }
 }
 
@@ -156,10 +158,10 @@ impl TableRow<Text> for FeatureRow {
 
     ghost value = { feature_row };
 
-    fn read(alloc: Global, row: Row) -> FeatureRow {
-        read!(alloc, row => FeatureRow of 8: text feature, some_text feature_parent,
-            some_text title, some_text description, some_number display, number level,
-            some_text directory, number attributes)
+    fn read(take: &mut Take, row: &[Field]) -> FeatureRow {
+        read!(take, row => FeatureRow: 0 text feature, 1 some_text feature_parent,
+            2 some_text title, 3 some_text description, 4 some_number display, 5 number level,
+            6 some_text directory, 7 number attributes)
     }
 }
 
@@ -180,8 +182,8 @@ impl TableRow<(Text, Text)> for FeatureComponentsRow {
 
     ghost value = { feature_components_row };
 
-    fn read(alloc: Global, row: Row) -> FeatureComponentsRow {
-        read!(alloc, row => FeatureComponentsRow of 2: text feature, text component)
+    fn read(take: &mut Take, row: &[Field]) -> FeatureComponentsRow {
+        read!(take, row => FeatureComponentsRow: 0 text feature, 1 text component)
     }
 }
 
@@ -202,8 +204,8 @@ impl TableRow<(Text, i32)> for ConditionRow {
 
     ghost value = { condition_row };
 
-    fn read(alloc: Global, row: Row) -> ConditionRow {
-        read!(alloc, row => ConditionRow of 3: text feature, number level, some_condition condition)
+    fn read(take: &mut Take, row: &[Field]) -> ConditionRow {
+        read!(take, row => ConditionRow: 0 text feature, 1 number level, 2 some_condition condition)
     }
 }
 
@@ -234,10 +236,10 @@ impl TableRow<Text> for FileRow {
 
     ghost value = { file_row };
 
-    fn read(alloc: Global, row: Row) -> FileRow {
-        read!(alloc, row => FileRow of 8: text file, text component, text file_name,
-            number file_size, some_text version, some_text language, some_number attributes,
-            number sequence)
+    fn read(take: &mut Take, row: &[Field]) -> FileRow {
+        read!(take, row => FileRow: 0 text file, 1 text component, 2 text file_name,
+            3 number file_size, 4 some_text version, 5 some_text language, 6 some_number attributes,
+            7 number sequence)
     }
 }
 
@@ -262,9 +264,9 @@ impl TableRow<Text> for MsiFileHashRow {
 
     ghost value = { msi_file_hash_row };
 
-    fn read(alloc: Global, row: Row) -> MsiFileHashRow {
-        read!(alloc, row => MsiFileHashRow of 6: text file, number options, number hash_part1,
-            number hash_part2, number hash_part3, number hash_part4)
+    fn read(take: &mut Take, row: &[Field]) -> MsiFileHashRow {
+        read!(take, row => MsiFileHashRow: 0 text file, 1 number options, 2 number hash_part1,
+            3 number hash_part2, 4 number hash_part3, 5 number hash_part4)
     }
 }
 
@@ -289,9 +291,9 @@ impl TableRow<Text> for RemoveFileRow {
 
     ghost value = { remove_file_row };
 
-    fn read(alloc: Global, row: Row) -> RemoveFileRow {
-        read!(alloc, row => RemoveFileRow of 5: text file_key, text component, some_text file_name,
-            text dir_property, number install_mode)
+    fn read(take: &mut Take, row: &[Field]) -> RemoveFileRow {
+        read!(take, row => RemoveFileRow: 0 text file_key, 1 text component, 2 some_text file_name,
+            3 text dir_property, 4 number install_mode)
     }
 }
 
@@ -311,8 +313,8 @@ impl TableRow<(Text, Text)> for CreateFolderRow {
 
     ghost value = { create_folder_row };
 
-    fn read(alloc: Global, row: Row) -> CreateFolderRow {
-        read!(alloc, row => CreateFolderRow of 2: text directory, text component)
+    fn read(take: &mut Take, row: &[Field]) -> CreateFolderRow {
+        read!(take, row => CreateFolderRow: 0 text directory, 1 text component)
     }
 }
 
@@ -337,9 +339,9 @@ impl TableRow<Text> for DuplicateFileRow {
 
     ghost value = { duplicate_file_row };
 
-    fn read(alloc: Global, row: Row) -> DuplicateFileRow {
-        read!(alloc, row => DuplicateFileRow of 5: text file_key, text component, text file,
-            some_text dest_name, some_text dest_folder)
+    fn read(take: &mut Take, row: &[Field]) -> DuplicateFileRow {
+        read!(take, row => DuplicateFileRow: 0 text file_key, 1 text component, 2 text file,
+            3 some_text dest_name, 4 some_text dest_folder)
     }
 }
 
@@ -365,9 +367,9 @@ impl TableRow<Text> for RegistryRow {
 
     ghost value = { registry_row };
 
-    fn read(alloc: Global, row: Row) -> RegistryRow {
-        read!(alloc, row => RegistryRow of 6: text registry, number root, text key, some_text name,
-            some_text value, text component)
+    fn read(take: &mut Take, row: &[Field]) -> RegistryRow {
+        read!(take, row => RegistryRow: 0 text registry, 1 number root, 2 text key,
+            3 some_text name, 4 some_text value, 5 text component)
     }
 }
 
@@ -392,9 +394,9 @@ impl TableRow<Text> for RemoveRegistryRow {
 
     ghost value = { remove_registry_row };
 
-    fn read(alloc: Global, row: Row) -> RemoveRegistryRow {
-        read!(alloc, row => RemoveRegistryRow of 5: text remove_registry, number root, text key,
-            some_text name, text component)
+    fn read(take: &mut Take, row: &[Field]) -> RemoveRegistryRow {
+        read!(take, row => RemoveRegistryRow: 0 text remove_registry, 1 number root, 2 text key,
+            3 some_text name, 4 text component)
     }
 }
 
@@ -417,9 +419,9 @@ impl TableRow<Text> for EnvironmentRow {
 
     ghost value = { environment_row };
 
-    fn read(alloc: Global, row: Row) -> EnvironmentRow {
-        read!(alloc, row => EnvironmentRow of 4: text environment, text name, some_text value,
-            text component)
+    fn read(take: &mut Take, row: &[Field]) -> EnvironmentRow {
+        read!(take, row => EnvironmentRow: 0 text environment, 1 text name, 2 some_text value,
+            3 text component)
     }
 }
 
@@ -457,11 +459,11 @@ impl TableRow<Text> for ShortcutRow {
 
     ghost value = { shortcut_row };
 
-    fn read(alloc: Global, row: Row) -> ShortcutRow {
-        read!(alloc, row => ShortcutRow of 12: text shortcut, text directory, text name,
-            text component, text target, some_text arguments, some_text description,
-            some_number hotkey, some_text icon, some_number icon_index, some_number show_cmd,
-            some_text wk_dir)
+    fn read(take: &mut Take, row: &[Field]) -> ShortcutRow {
+        read!(take, row => ShortcutRow: 0 text shortcut, 1 text directory, 2 text name,
+            3 text component, 4 text target, 5 some_text arguments, 6 some_text description,
+            7 some_number hotkey, 8 some_text icon, 9 some_number icon_index,
+            10 some_number show_cmd, 11 some_text wk_dir)
     }
 }
 
@@ -480,8 +482,8 @@ impl TableRow<Text> for LaunchConditionRow {
 
     ghost value = { launch_condition_row };
 
-    fn read(alloc: Global, row: Row) -> LaunchConditionRow {
-        read!(alloc, row => LaunchConditionRow of 2: condition_of condition, text description)
+    fn read(take: &mut Take, row: &[Field]) -> LaunchConditionRow {
+        read!(take, row => LaunchConditionRow: 0 condition condition, 1 text description)
     }
 }
 
@@ -504,9 +506,9 @@ impl TableRow<Text> for CustomActionRow {
 
     ghost value = { custom_action_row };
 
-    fn read(alloc: Global, row: Row) -> CustomActionRow {
-        read!(alloc, row => CustomActionRow of 4: text action, number kind, some_text source,
-            some_text target)
+    fn read(take: &mut Take, row: &[Field]) -> CustomActionRow {
+        read!(take, row => CustomActionRow: 0 text action, 1 number kind, 2 some_text source,
+            3 some_text target)
     }
 }
 
@@ -526,9 +528,9 @@ impl TableRow<Text> for InstallExecuteSequenceRow {
 
     ghost value = { install_execute_sequence_row };
 
-    fn read(alloc: Global, row: Row) -> InstallExecuteSequenceRow {
-        read!(alloc, row => InstallExecuteSequenceRow of 3: text action, some_condition condition,
-            some_number sequence)
+    fn read(take: &mut Take, row: &[Field]) -> InstallExecuteSequenceRow {
+        read!(take, row => InstallExecuteSequenceRow: 0 text action, 1 some_condition condition,
+            2 some_number sequence)
     }
 }
 
@@ -553,10 +555,10 @@ impl TableRow<UpgradeKey> for UpgradeRow {
 
     ghost value = { upgrade_row };
 
-    fn read(alloc: Global, row: Row) -> UpgradeRow {
-        read!(alloc, row => UpgradeRow of 7: text upgrade_code, some_text version_min,
-            some_text version_max, some_text language, number attributes, some_text remove,
-            text action_property)
+    fn read(take: &mut Take, row: &[Field]) -> UpgradeRow {
+        read!(take, row => UpgradeRow: 0 text upgrade_code, 1 some_text version_min,
+            2 some_text version_max, 3 some_text language, 4 number attributes, 5 some_text remove,
+            6 text action_property)
     }
 }
 
@@ -576,7 +578,7 @@ impl TableRow<i32> for SummaryInformationRow {
 
     ghost value = { summary_information_row };
 
-    fn read(alloc: Global, row: Row) -> SummaryInformationRow {
-        read!(alloc, row => SummaryInformationRow of 2: number property_id, some_text value)
+    fn read(take: &mut Take, row: &[Field]) -> SummaryInformationRow {
+        read!(take, row => SummaryInformationRow: 0 number property_id, 1 some_text value)
     }
 }

@@ -11,11 +11,11 @@ returns-then-bytes-gt-MAX_BYTES-clause-reads c = many_bytes c.args.bytes.now c.i
 pub returns-then-bytes-gt-MAX_BYTES-clause-exact : goal.returns-then-bytes-gt-MAX_BYTES-clause-exact
 returns-then-bytes-gt-MAX_BYTES-clause-exact c = spells_exactly c.args.bytes.now
 
-pub returns-then-count-clause-reads : goal.returns-then-count-clause-reads
-returns-then-count-clause-reads c = many_ends c.args.bytes.now (le-ltb _ _ c.if-bytes-gt-MAX_BYTES.false) (omega (arith, c.count.ensures, c.if-count.true))
+pub returns-then-ends-clause-reads : goal.returns-then-ends-clause-reads
+returns-then-ends-clause-reads c = many_ends c.args.bytes.now (le-ltb _ _ c.if-bytes-gt-MAX_BYTES.false) (omega (arith, c.count-ends.ensures, c.if-ends.true))
 
-pub returns-then-count-clause-exact : goal.returns-then-count-clause-exact
-returns-then-count-clause-exact c = spells_exactly c.args.bytes.now
+pub returns-then-ends-clause-exact : goal.returns-then-ends-clause-exact
+returns-then-ends-clause-exact c = spells_exactly c.args.bytes.now
 
 pub returns-in_err-lines-clause-exact : goal.returns-in_err-lines-clause-exact
 returns-in_err-lines-clause-exact c = spells_exactly c.args.bytes.now

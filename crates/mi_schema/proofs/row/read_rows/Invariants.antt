@@ -1,7 +1,7 @@
-use Rattle.std.proofs.Common.{◌≡◌, true, map, take}
+use Rattle.std.proofs.Common.{◌≡◌, true, false, map, take}
 use Rattle.mi_idt.specs.Means.{meaning}
 use Rattle.mi_schema.specs.Tables.{table_as}
-use Rattle.mi_schema.specs.Reads.{keys_asked, IsSeen}
+use Rattle.mi_schema.specs.Reads.{KnowsKeys, keys_asked, IsSeen}
 use Rattle.mi_schema.specs.RowsOf.{keyed}
 use Rattle.mi_schema.specs.Values.{row_of}
 use Rattle.mi_schema.proofs.RowLemmas.{SameRows}
@@ -13,5 +13,7 @@ invariant-loop-number g l = record {
   rows : l.rows.entries ≡ keyed g.K.Key.key g.R.TableRow.value (map (row_of (table_as l.layout).columns) (take l.number (meaning l.table).rows));
   suit : each_suits (table_as l.layout).columns (map (row_of (table_as l.layout).columns) (take l.number (meaning l.table).rows)) ≡ true;
   seen : IsSeen l.seen (map (row_of (table_as l.layout).columns) (take l.number (meaning l.table).rows));
+  knows : KnowsKeys l.seen.keys (keys_asked (table_as l.layout) (meaning l.table));
+  memory : l.draft.take.failed ≡ false;
   fault : SameRows (table_as l.layout) (keys_asked (table_as l.layout) (meaning l.table)) (meaning l.table).rows l.number;
 }

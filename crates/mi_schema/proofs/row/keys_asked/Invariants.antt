@@ -4,7 +4,7 @@ use Rattle.mi_schema.specs.Tables.{table_as}
 use Rattle.mi_schema.specs.Reads.{KnowsKeys}
 use Rattle.mi_schema.specs.Rows.{keys_of}
 use Rattle.mi_schema.specs.Values.{row_of}
-use Rattle.mi_schema.proofs.row.index_all.Given as goal
+use Rattle.mi_schema.proofs.row.keys_asked.Given as goal
 
 abbrev pub invariant-loop-number : goal.invariant-loop-number
-invariant-loop-number l = KnowsKeys l.index (keys_of (map (row_of (table_as l.layout).columns) (take l.number (meaning l.table).rows)))
+invariant-loop-number l = KnowsKeys l.keys (keys_of (map (row_of (table_as l.layout).columns) (take l.number (meaning l.table).rows)))
