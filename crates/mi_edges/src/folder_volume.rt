@@ -105,7 +105,8 @@ fn sync_written<R: Files + Alloc + Clone + Drop>(
     let mut last = None;
     for place in held.written() {
         let name = held.text(*place);
-        if latest != Some(name) {
+        // A name that was taken away in between has a second place.
+        if latest != Some(name) && last != Some(name) {
             disk.sync_file(name)?;
         }
         disk.sync_parts(name, last)?;

@@ -11,7 +11,7 @@ use mi_text::{Name, NameError};
 use std::alloc::Global;
 use std::cmp::Ordering;
 use std::collections::BTreeMap;
-use std::ops::Bound;
+use std::ops::{Bound, Range};
 
 // A name, and what is known of it.
 #[derive(Drop)]
@@ -25,8 +25,8 @@ struct Known {
     written: u64,
 }
 
-/// The names that are held, and those that were written or taken away since the last good sync. A name keeps its place as
-/// long as this value lives.
+/// The names that are held, and those that were written or taken away since the last good sync. A place is that of one name
+/// as long as this value lives.
 #[derive(Drop)]
 pub struct Held {
     // The names by their places.
@@ -39,6 +39,9 @@ pub struct Held {
     is_whole: bool,
     // Where in `sorted` the name stands that was sought last: the next one that is sought is mostly this one or the next.
     at: usize,
+    // Where in `sorted` the names were passed over last, from one to before another, since none is held: where many were
+    // taken away, the next search above them doesn't pass over each again.
+    gap: Range<usize>,
     // Room for the longest name.
     above: String,
     // The places of the names that were written since the last good sync, each once, and of those that were taken away,
@@ -113,6 +116,7 @@ impl Held {
             others: BTreeMap::new(alloc),
             is_whole,
             at: 0,
+            gap: 0..0,
             above: String::with_capacity(alloc, LONGEST_NAME)?,
             written: Vec::new(alloc),
             removed: Vec::with_capacity(alloc, names.len())?,
@@ -209,13 +213,18 @@ impl Held {
     }
 
     // Where in the byte order the least held name above this one stands, of those that are there.
-    fn sorted_above(&self, after: Option<&Name>) -> Option<usize> {
-        let from = self.begin_above(after);
+    fn sorted_above(&mut self, after: Option<&Name>) -> Option<usize> {
+        let mut from = self.begin_above(after);
+        if self.gap.contains(&from) {
+            from = self.gap.end;
+        } else {
+            self.gap.start = from;
+        }
         let rest = self.sorted.as_slice().get(from..)?;
-        let passed = rest
-            .iter()
-            .position(|place| is_held(self.known.as_slice(), *place))?;
-        Some(from.saturating_add(passed))
+        let known = self.known.as_slice();
+        let passed = rest.iter().position(|place| is_held(known, *place));
+        self.gap.end = from.saturating_add(passed.unwrap_or(rest.len()));
+        passed.map(|_| self.gap.end)
     }
 
     // The place of the least held name above this one, of those that came out of order.
@@ -313,6 +322,13 @@ impl Held {
         Ok(place)
     }
 
+    // Ends the gap before the name that was sought last, which is held from now on.
+    fn end_gap(&mut self) {
+        if self.gap.contains(&self.at) {
+            self.gap.end = self.at;
+        }
+    }
+
     // Takes down that the name at a place is written. There is room for it.
     fn write_at(&mut self, place: usize) -> Result<(), Trouble> {
         let Some(known) = self.known.get_mut(place) else {
@@ -336,6 +352,7 @@ impl Held {
             Some(place) => place,
             None => self.add(alloc, name.as_str())?,
         };
+        self.end_gap();
         self.write_at(place)
     }
 
@@ -348,10 +365,13 @@ impl Held {
         }
     }
 
-    /// Takes a name off.
+    /// Takes a name off. One that came out of order loses its place, so that no search passes over it.
     pub fn take_off(&mut self, name: &Name) {
         if let Some(known) = self.known(name) {
             known.is_held = false;
+        }
+        if !self.others.is_empty() {
+            let _ = self.others.remove(name.as_str());
         }
     }
 
