@@ -81,7 +81,8 @@ const LONG: History = History {
     cuts_opening: 7,
 };
 
-/// Names that are held when the process begins, which marks one and takes one away before it lists them.
+/// Names that are held when the process begins, which takes one away before it lists them, and marks one before and behind
+/// that.
 const HELD: History = History {
     lengths: &[6, 200],
     before: &[
@@ -93,7 +94,10 @@ const HELD: History = History {
         Deed::At(1, Act::Remove),
         Deed::At(0, Act::Mark(b'c')),
         Deed::Sync,
+        Deed::List,
         Deed::At(0, Act::Mark(b'd')),
+        Deed::Sync,
+        Deed::At(1, Act::Put("x")),
     ],
     trips: &[Trip::Stop, Trip::Fail(Failure::Broken)],
     cuts_opening: 3,
