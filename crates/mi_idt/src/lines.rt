@@ -51,7 +51,11 @@ pub fn text_fields(alloc: Global, line: &str, count: usize) -> Result<Vec<&str>,
 pub fn count(bytes: &[u8], mark: u8) -> usize
     ensures { result ≡ count_by (λ b. b == mark) bytes.now }
 {
-    bytes.iter().filter(|byte| **byte == mark).count()
+    let mut found = 0;
+    for byte in bytes {
+        found += usize::from(*byte == mark);
+    }
+    found
 }
 
 /// How many fields a line has.
