@@ -51,11 +51,7 @@ pub fn text_fields(alloc: Global, line: &str, count: usize) -> Result<Vec<&str>,
 pub fn count(bytes: &[u8], mark: u8) -> usize
     ensures { result ≡ count_by (λ b. b == mark) bytes.now }
 {
-    let mut found = 0;
-    for byte in bytes {
-        found += usize::from(*byte == mark);
-    }
-    found
+    bytes.iter().filter(|byte| **byte == mark).count()
 }
 
 /// How many fields a line has.
