@@ -1,5 +1,5 @@
 -- Lines, their fields and UTF-8.
-use Rattle.std.proofs.Common.{◌≡◌, ◌+◌, ℕ, true, false, List, [], ◌∷◌, ◌++◌, length, eqb, map, refl, sym, ap, subst, ◌∙◌, arith, inl, inr, Bor, ◌<◌, ◌≤◌, ◌-◌, take, drop, set, get_or, append-nil, append_assoc, Bool, Option, Some, None, is_some, length-append, eq-eqb, eqb-true, ltb, ltb-true}
+use Rattle.std.proofs.Common.{◌≡◌, ◌+◌, ℕ, true, false, List, [], ◌∷◌, ◌++◌, length, eqb, map, refl, sym, ap, subst, ◌∙◌, arith, inl, inr, Bor, ◌<◌, ◌≤◌, ◌-◌, take, drop, set, get_or, append-nil, append_assoc, Bool, Option, Some, None, is_some, length-append, eq-eqb, eqb-true}
 use Rattle.std.specs.Bool.{then_some}
 use Rattle.std.specs.Str.Lines.{lines, lines_of_parts, strip_carriage_return}
 use Rattle.std.specs.List.{All, count_by, slice_split}
@@ -9,17 +9,15 @@ use Rattle.std.proofs.lemmas.Bool.Decides.{nat_tests}
 use Rattle.std.proofs.lemmas.List.{take_more, take_more_set, drop_more, drop-set-lt, drop-map, drop_at, length-map, length-drop, length-take-le, get_or-take, get_or-drop, drop-drop, take-append-drop, map-append}
 use Rattle.std.proofs.lemmas.List.Elements.{All-from_get_or}
 use Rattle.std.proofs.lemmas.List.Splits.{length-slice_split, slice_split_at, slice_split_none}
-use Rattle.std.specs.Str.{IsAscii}
-use Rattle.std.proofs.lemmas.Str.{IsUtf8-from_is_utf8, is_utf8-from_IsUtf8, IsUtf8-from_ascii}
-use Rattle.std.proofs.lemmas.Str.Ascii.{IsAscii-cons, IsAscii-nil}
+use Rattle.std.proofs.lemmas.Str.{IsUtf8-from_is_utf8, is_utf8-from_IsUtf8}
 use Rattle.memchr.specs.Find.{IsFirstByte, is_byte}
 use Rattle.mi_text.specs.declared.answers.IdtFault.{IdtFault}
 use Rattle.mi_text.specs.declared.answers.IdtFault.TheVariants.{NotUtf8, ColumnCount}
 use Rattle.mi_idt.specs.Cells.{ColumnValue}
 use Rattle.mi_idt.specs.Fault.{text_fault}
-use Rattle.mi_idt.specs.Fields.{fields_of, is_ascii}
+use Rattle.mi_idt.specs.Fields.{fields_of}
 use Rattle.mi_idt.specs.Rows.{is_in_page, is_line, fields_fault, line_fault}
-use Rattle.mi_idt.proofs.Basics.{shown, and_true}
+use Rattle.mi_idt.proofs.Basics.{shown}
 
 pub length_fields : (line : List ℕ) → length (fields_of line) ≡ count_by (λ b. eqb b 9) line + 1
 length_fields line = length-slice_split (λ b. eqb b 9) line
@@ -32,21 +30,6 @@ utf8_line page line valid = rw (is_utf8-from_IsUtf8 line valid) refl
 
 pub no_line : (page : Option ℕ) (line : List ℕ) → ¬ (IsUtf8 line) → false ≡ is_line page line
 no_line page line none = rw (no_utf8 line none) refl
-
--- bytes below 128 are text, in any page
-pub ascii_text : (line : List ℕ) → is_ascii line ≡ true → IsUtf8 line
-ascii_text line low = IsUtf8-from_ascii line (all_low line low) where
-  all_low : (bs : List ℕ) → is_ascii bs ≡ true → IsAscii bs
-  all_low [] low = IsAscii-nil
-  all_low (b ∷ bs) low =
-      let parts = and_true (ltb b 128) (is_ascii bs) low in
-      IsAscii-cons b bs (ltb-true b 128 parts.0) (all_low bs parts.1)
-
-pub ascii_line : (page : Option ℕ) (line : List ℕ) → is_ascii line ≡ true → true ≡ is_line page line
-ascii_line page line low = in_page page line low ∙ utf8_line page line (ascii_text line low) where
-  in_page : (page : Option ℕ) (line : List ℕ) → is_ascii line ≡ true → true ≡ is_in_page page line
-  in_page None line low = refl
-  in_page (Some n) line low = elim (cases_Bool (eqb n 1252)) [ inl t ↦ rw (t, low) refl | inr f ↦ rw f refl ]
 
 pub some_if : {A : Type 0} (b : Bool) (x : A) → is_some (then_some b x) ≡ b
 some_if true x = refl

@@ -28,10 +28,6 @@ fn line_text(page: Option<u32>, line: &[u8]) -> Option<&str>
     ensures read { IfSome result (λ text. text.now ≡ line.now) }
     ensures is { is_some result ≡ is_line page line.now }
 {
-    if all_ascii(line) {
-        // SAFETY: bytes below 128 are text.
-        return Some(unsafe { str::from_utf8_unchecked(line) });
-    }
     match str::from_utf8(line) {
         Ok(text) => is_in_page(page, line).then_some(text),
         Err(_) => None,

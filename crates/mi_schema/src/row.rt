@@ -218,6 +218,34 @@ fn read_typed<'a, K: Key, R: TableRow<K>>(
     Ok(take_row(draft)?)
 }
 
+/// Reads the rows of a table that has the columns of its layout into a map without rows, or refuses with the first fault
+/// among them. `seen` knows the keys that are asked for, and no rows.
+fn fill_rows<'a, K: Key, R: TableRow<K>>(
+    alloc: Global,
+    layout: &Layout,
+    table: &Table<'a>,
+    seen: &mut Seen,
+    draft: &mut Draft<'a>,
+    rows: &mut IndexMap<K, R>,
+) -> Result<(), LoadError>
+    requires is { table_as layout.now ≡ layout_of R.known }
+    requires spelled { IsSpelled table.now }
+    requires columns { has_columns (table_as layout.now).columns (meaning table.now) ≡ true }
+    requires apart { KeysTell K.eq K.key (layout_of R.known).columns }
+    requires knows { KnowsKeys seen.old.keys (keys_asked (table_as layout.now) (meaning table.now)) }
+    requires seen { IsSeen seen.old [] }
+    requires memory { draft.old.take.failed ≡ false }
+    requires none { rows.old.entries ≡ [] }
+    ensures { let read = rows_in (table_as layout.now) (meaning table.now) in
+        Answers ⊥ (rows_fault (table_as layout.now) (keys_of read) [] 1 (meaning table.now).rows) (λ _. rows.new.entries ≡ keyed K.key R.value read) result }
+{
+    for number in 0..table.rows.len() {
+        let (key, row) = read_typed(alloc, layout, table, number, seen, draft)?;
+        rows.insert(key, row)?;
+    }
+    Ok(())
+}
+
 /// The rows of a table that has the columns of its layout, by their keys, or the first fault among them.
 pub fn read_rows<K: Key, R: TableRow<K>>(
     alloc: Global,
@@ -232,15 +260,12 @@ pub fn read_rows<K: Key, R: TableRow<K>>(
         Answers ⊥ (rows_fault (table_as layout.now) (keys_of rows) [] 1 (meaning table.now).rows) (λ held. held.entries ≡ keyed K.key R.value rows) result }
 {
     let keys = keys_asked(alloc, layout, table)?;
+    let mut rows = IndexMap::with_capacity(alloc, table.rows.len())?;
     let mut seen = Seen::new(alloc, keys);
     let mut draft = Draft {
-        fields: Vec::with_capacity(alloc, layout.columns.len())?,
+        fields: Vec::new(alloc),
         take: Take::new(alloc),
     };
-    let mut rows = IndexMap::with_capacity(alloc, table.rows.len())?;
-    for number in 0..table.rows.len() {
-        let (key, row) = read_typed(alloc, layout, table, number, &mut seen, &mut draft)?;
-        rows.insert(key, row)?;
-    }
+    fill_rows(alloc, layout, table, &mut seen, &mut draft, &mut rows)?;
     Ok(rows)
 }

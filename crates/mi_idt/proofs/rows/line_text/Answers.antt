@@ -1,12 +1,6 @@
-use Rattle.std.proofs.Common.{◌∙◌, ap, sym, is_some}
-use Rattle.mi_idt.proofs.LineLemmas.{ascii_text, ascii_line, some_if, utf8_line, no_line}
+use Rattle.std.proofs.Common.{◌∙◌, ap, is_some}
+use Rattle.mi_idt.proofs.LineLemmas.{some_if, utf8_line, no_line}
 use Rattle.mi_idt.proofs.rows.line_text.Goals as goal
-
-pub from_utf8_unchecked-requires : goal.from_utf8_unchecked-requires
-from_utf8_unchecked-requires c = ascii_text c.args.line.now (sym c.all_ascii.ensures ∙ c.if-all_ascii.true)
-
-pub returns-then-all_ascii-clause-is : goal.returns-then-all_ascii-clause-is
-returns-then-all_ascii-clause-is c = ascii_line c.args.page c.args.line.now (sym c.all_ascii.ensures ∙ c.if-all_ascii.true)
 
 pub returns-in-Ok-clause-is : goal.returns-in-Ok-clause-is
 returns-in-Ok-clause-is c = ap is_some c.then_some.ensures ∙ some_if c.is_in_page.result c.in-Ok.text ∙ c.is_in_page.ensures ∙ utf8_line c.args.page c.args.line.now c.in-Ok.ensures.cases.1

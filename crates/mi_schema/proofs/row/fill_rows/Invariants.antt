@@ -6,7 +6,7 @@ use Rattle.mi_schema.specs.RowsOf.{keyed}
 use Rattle.mi_schema.specs.Values.{row_of}
 use Rattle.mi_schema.proofs.RowLemmas.{SameRows}
 use Rattle.mi_schema.proofs.Words.{each_suits}
-use Rattle.mi_schema.proofs.row.read_rows.Given as goal
+use Rattle.mi_schema.proofs.row.fill_rows.Given as goal
 
 abbrev pub invariant-loop-number : goal.invariant-loop-number
 invariant-loop-number g l = record {
