@@ -38,7 +38,7 @@ pub use guards::guarded_values;
 pub use key_path::{lacks, recorded_path};
 pub use keys::{make_keys, name_of, put_entry};
 pub use less::copy_key;
-pub use meaning::{RegistryMeaning, registry_meaning, registry_place, removal_place};
+pub use meaning::registry_place;
 pub use named::kept_keys;
 pub use order::{Row, in_key_order};
 pub use parts::lacks_zero;

@@ -3,7 +3,7 @@
 ghost use Rattle.std.specs.Prelude.{◌≡◌, ℕ, List, codes, pos, negsuc, Ok};
 ghost use Rattle.mi_model.specs.RegistryRows.{registry_place, removal_place, registry_meaning};
 ghost use Rattle.mi_records.specs.Meaning.{numbered, whole};
-ghost use Rattle.mi_records.specs.Stops.{Answers, AnswersBy, Tells, TellsBy};
+ghost use Rattle.mi_records.specs.Stops.{Answers, AnswersBy, Tells};
 ghost use Rattle.mi_schema.specs.Laws.{IsWithin};
 
 use crate::error::PlanError;
@@ -94,38 +94,6 @@ pub fn registry_place<E: BoundedEnv>(
 {
     match place_of(alloc, env, row) {
         Ok(place) => Ok(place),
-        Err(stop) => Err(stop.error(alloc, "Registry", number)),
-    }
-}
-
-/// What a row of RemoveRegistry names, as `registry_place` (RemoveRegistry table, columns Root, Key and Name).
-pub fn removal_place<E: BoundedEnv>(
-    alloc: Global,
-    env: &E,
-    number: u32,
-    row: &RemoveRegistryRow,
-) -> Result<RegistryPlace, PlanError>
-    requires { IsWithin (negsuc 0) (pos 3) row.now.root }
-    ensures { Tells (removal_place (E.lookups env.now) (numbered number row.now)) result }
-{
-    match removed_place(alloc, env, row) {
-        Ok(place) => Ok(place),
-        Err(stop) => Err(stop.error(alloc, "RemoveRegistry", number)),
-    }
-}
-
-/// What a row of Registry means, as `registry_place`; then the Value may be refused with `TooDeep` (Registry table).
-pub fn registry_meaning<E: BoundedEnv>(
-    alloc: Global,
-    env: &E,
-    number: u32,
-    row: &RegistryRow,
-) -> Result<RegistryMeaning, PlanError>
-    requires { IsWithin (negsuc 0) (pos 3) row.now.root }
-    ensures { TellsBy whole (registry_meaning (E.lookups env.now) (numbered number row.now)) result }
-{
-    match meaning_of(alloc, env, row) {
-        Ok(meaning) => Ok(meaning),
         Err(stop) => Err(stop.error(alloc, "Registry", number)),
     }
 }

@@ -1,4 +1,3 @@
-pub mod ApplyLemmas
 pub mod FileLemmas
 pub mod FollowLemmas
 pub mod PlaceLemmas

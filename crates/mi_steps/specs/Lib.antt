@@ -1,4 +1,3 @@
-pub mod Applied
 pub mod Follows
 pub mod Makes
 pub mod Rows

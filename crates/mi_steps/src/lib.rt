@@ -1,7 +1,6 @@
 //! Single steps of a plan: each changes the machine as it will be, and adds the record that carries the change out.
 #![tactic(auto)]
 
-mod applying;
 mod files;
 mod heads;
 mod laws;
@@ -12,7 +11,6 @@ mod records;
 mod seats;
 mod steps;
 
-pub use applying::apply;
 pub use laws::{
     a_refused_row_refuses, a_row_joins, rows_are_planned, steps_join, steps_make_the_machine,
 };
