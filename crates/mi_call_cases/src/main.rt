@@ -4,6 +4,7 @@
 mod answers;
 mod causes;
 mod conditions;
+mod differences;
 mod directories;
 mod given;
 mod images;
@@ -69,6 +70,8 @@ impl Caller for Given {
     fn call(&self, name: &str, call: &mut Call<'_>) {
         if name == "scan" || name.starts_with("image-") || name.ends_with("s-text") {
             images::call(self, name, call);
+        } else if name == "differs" {
+            differences::say_differences(&self.volume, call);
         } else {
             call_given(self, name, call);
         }
