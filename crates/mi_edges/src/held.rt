@@ -69,7 +69,7 @@ fn is_above(after: Option<&Name>, name: &Name) -> bool
 {
     match after {
         None => true,
-        Some(after) => matches!(after.as_bytes().cmp(name.as_bytes()), Ordering::Less),
+        Some(after) => matches!(after.as_str().cmp(name.as_str()), Ordering::Less),
     }
 }
 
