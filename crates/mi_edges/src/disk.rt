@@ -17,8 +17,9 @@ use std::fs::{File, Files};
 
 /// A folder whose files are names of a volume. Once it is opened, it is locked against other processes for as long as
 /// this value lives. Its calls take no memory but where they are passed an allocator. Before a file or a level of a long
-/// name is opened, written or taken away, one look says that it is a plain file or a plain folder. A look serves the
-/// calls that follow it at the same name, up to the first that changes something.
+/// name is opened, written or taken away, one look says that it is a plain file or a plain folder, or else it is made, which
+/// the system refuses where anything stands. A look serves the calls that follow it at the same name, up to the first that
+/// changes something.
 #[derive(Drop)]
 pub struct Disk<R: Files> {
     rt: R,
@@ -302,8 +303,13 @@ impl<R: Files + Alloc + Clone + Drop> Disk<R> {
     }
 
     // The length of a name's file that is to be changed, at whose path this leaves the path. Where it isn't there, its
-    // levels are made.
-    fn begin(&mut self, name: &str) -> Result<Option<u64>, Trouble> {
+    // levels are made. `is_new` says that nothing stood there when the names were listed: then no look is needed, but for
+    // levels, since a file is made only where nothing stands.
+    fn begin(&mut self, name: &str, is_new: bool) -> Result<Option<u64>, Trouble> {
+        if is_new && name.len() <= PART_BYTES {
+            self.do_parts(name, Parts::Looked)?;
+            return Ok(None);
+        }
         let before = self.size(name)?;
         self.looked.clear();
         if before.is_none() && name.len() > PART_BYTES {
@@ -312,15 +318,17 @@ impl<R: Files + Alloc + Clone + Drop> Disk<R> {
         Ok(before)
     }
 
-    /// Gives a name's file exactly these bytes, in place. Answers the file, open at its end.
-    pub fn put(&mut self, name: &str, bytes: &[u8]) -> Result<R::File, Trouble> {
-        let before = self.begin(name)?;
+    /// Gives a name's file exactly these bytes, in place. `is_new` says that nothing stood at its path when the names were
+    /// listed. Answers the file, open at its end.
+    pub fn put(&mut self, name: &str, bytes: &[u8], is_new: bool) -> Result<R::File, Trouble> {
+        let before = self.begin(name, is_new)?;
         put_file(&self.rt, self.path.as_str(), before, bytes)
     }
 
-    /// Adds bytes at the end of a name's file, and makes it where it isn't there. Answers the file, open at its end.
-    pub fn append(&mut self, name: &str, bytes: &[u8]) -> Result<R::File, Trouble> {
-        let before = self.begin(name)?;
+    /// Adds bytes at the end of a name's file, and makes it where it isn't there. `is_new` is as for `put`. Answers the file,
+    /// open at its end.
+    pub fn append(&mut self, name: &str, bytes: &[u8], is_new: bool) -> Result<R::File, Trouble> {
+        let before = self.begin(name, is_new)?;
         append_file(&self.rt, self.path.as_str(), before, bytes)
     }
 

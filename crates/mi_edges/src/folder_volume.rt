@@ -74,6 +74,22 @@ fn look_above<R: Files + Alloc + Clone + Drop>(
     Ok(Some((name, found)))
 }
 
+// A copy of the bytes of the file of the name at a place from `at`, at most `want` of them, where they are kept.
+fn copy_kept(
+    alloc: Global,
+    held: &Held,
+    place: usize,
+    at: u64,
+    want: usize,
+) -> Result<Option<Vec<u8>>, Trouble>
+    ensures { IfOk result (λ copied. IfSome copied (λ bytes. vec_len bytes ≤ want)) }
+{
+    match held.kept(place, at, want) {
+        Some(bytes) => Ok(Some(Vec::from_slice(alloc, bytes)?)),
+        None => Ok(None),
+    }
+}
+
 // The name that was written last, where its file is still open.
 fn name_if_open<'a, F>(file: &Option<F>, latest: &'a str) -> Option<&'a str> {
     match file {
@@ -346,6 +362,46 @@ where
         Ok(size)
     }
 
+    // The place of a listed name.
+    fn place_of(&mut self, name: &Name) -> Option<usize>
+        ensures { self.new.faults ≡ self.old.faults }
+    {
+        self.held.as_mut()?.held_place(name)
+    }
+
+    // The bytes of the file of the name at a place from `at`, at most `want` of them, where it was read before and not
+    // changed since. Behind a sync that failed each file is read anew.
+    fn kept_at(
+        &self,
+        alloc: Global,
+        place: Option<usize>,
+        at: u64,
+        want: usize,
+    ) -> Result<Option<Vec<u8>>, Trouble>
+        ensures { IfOk result (λ copied. IfSome copied (λ bytes. vec_len bytes ≤ want)) }
+    {
+        let Some(place) = place else {
+            return Ok(None);
+        };
+        match &self.held {
+            Some(held) if !self.lost => copy_kept(alloc, held, place, at, want),
+            _ => Ok(None),
+        }
+    }
+
+    // Keeps bytes that were read of the file of the name at a place from `at`, where these are all of its bytes.
+    fn keep_at(&mut self, place: Option<usize>, at: u64, bytes: &[u8])
+        ensures { self.new.faults ≡ self.old.faults }
+    {
+        let Some(place) = place else {
+            return;
+        };
+        match &mut self.held {
+            Some(held) if at == 0 => held.keep(place, bytes),
+            _ => {}
+        }
+    }
+
     fn bytes_of(
         &mut self,
         alloc: Global,
@@ -357,7 +413,13 @@ where
         ensures stays { self.new.faults ≡ self.old.faults }
     {
         self.open()?;
-        self.disk.read(alloc, name.as_str(), at, want)
+        let place = self.place_of(name);
+        if let Some(bytes) = self.kept_at(alloc, place, at, want)? {
+            return Ok(bytes);
+        }
+        let bytes = self.disk.read(alloc, name.as_str(), at, want)?;
+        self.keep_at(place, at, bytes.as_slice());
+        Ok(bytes)
     }
 
     // Takes down, before a change, that something may not be synced.
@@ -373,8 +435,9 @@ where
         Ok(())
     }
 
-    // Takes down in the list of names that a name is written, before it is. Where memory is wanting, it is as it was.
-    fn list_written(&mut self, alloc: Global, name: &Name) -> Result<(), Trouble>
+    // Takes down in the list of names that a name is written, before it is; whether nothing stands at its path yet, as the
+    // listing tells. Where memory is wanting, it is as it was.
+    fn list_written(&mut self, alloc: Global, name: &Name) -> Result<bool, Trouble>
         ensures { self.new.faults ≡ self.old.faults }
     {
         self.open()?;
@@ -385,14 +448,15 @@ where
         }
     }
 
-    // Takes down that a name is written, before it is, which changes nothing else.
-    fn note_written(&mut self, alloc: Global, name: &Name) -> Result<(), PutFault>
+    // Takes down that a name is written, before it is, which changes nothing else; whether nothing stands at its path yet, as
+    // the listing tells.
+    fn note_written(&mut self, alloc: Global, name: &Name) -> Result<bool, PutFault>
         ensures failed { IsErrOf result PutFault.Failed → Counts self.old.faults self.new.faults }
         ensures later { self.old.faults ≤ self.new.faults }
         ensures never { IsErrOf result PutFault.Full → ⊥ }
     {
         match self.list_written(alloc, name) {
-            Ok(()) => Ok(()),
+            Ok(is_new) => Ok(is_new),
             Err(Trouble::NoMemory) => Err(PutFault::NoMemory),
             Err(_) => {
                 self.count();
@@ -465,12 +529,12 @@ where
         self.file.is_some() && self.latest.as_str() == name
     }
 
-    fn put_file(&mut self, name: &Name, bytes: &[u8]) -> Result<(), Trouble>
+    fn put_file(&mut self, name: &Name, bytes: &[u8], is_new: bool) -> Result<(), Trouble>
         ensures { self.new.faults ≡ self.old.faults }
     {
         self.begin_change()?;
         self.file = None;
-        let file = self.disk.put(name.as_str(), bytes)?;
+        let file = self.disk.put(name.as_str(), bytes, is_new)?;
         self.keep_open(name, file);
         Ok(())
     }
@@ -485,7 +549,7 @@ where
         }
     }
 
-    fn append_file(&mut self, name: &Name, bytes: &[u8]) -> Result<(), Trouble>
+    fn append_file(&mut self, name: &Name, bytes: &[u8], is_new: bool) -> Result<(), Trouble>
         ensures { self.new.faults ≡ self.old.faults }
     {
         self.begin_change()?;
@@ -493,7 +557,7 @@ where
             return self.append_open(bytes);
         }
         self.file = None;
-        let file = self.disk.append(name.as_str(), bytes)?;
+        let file = self.disk.append(name.as_str(), bytes, is_new)?;
         self.keep_open(name, file);
         Ok(())
     }
@@ -629,14 +693,14 @@ where
     }
 
     fn put(&mut self, alloc: Global, name: &Name, bytes: &[u8]) -> Result<(), PutFault> {
-        self.note_written(alloc, name)?;
-        let put = self.put_file(name, bytes);
+        let is_new = self.note_written(alloc, name)?;
+        let put = self.put_file(name, bytes, is_new);
         self.written(name, put)
     }
 
     fn append(&mut self, alloc: Global, name: &Name, bytes: &[u8]) -> Result<(), PutFault> {
-        self.note_written(alloc, name)?;
-        let appended = self.append_file(name, bytes);
+        let is_new = self.note_written(alloc, name)?;
+        let appended = self.append_file(name, bytes, is_new);
         self.written(name, appended)
     }
 

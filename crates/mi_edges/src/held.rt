@@ -1,6 +1,6 @@
 //! The names that a folder holds, as its listing and the changes since tell them.
 
-ghost use Rattle.std.specs.Prelude.{IfOk, IfSome, IsTrue};
+ghost use Rattle.std.specs.Prelude.{◌≤◌, IfOk, IfSome, IsTrue, length};
 ghost use Rattle.std.specs.Option.{option_copied};
 ghost use Rattle.mi_volume.specs.Maps.{IsAbove};
 
@@ -13,6 +13,12 @@ use std::cmp::Ordering;
 use std::collections::BTreeMap;
 use std::ops::{Bound, Range};
 
+/// The bytes of the longest file that is kept.
+const LONGEST_KEPT: usize = 4_096;
+
+/// The bytes of all files that are kept.
+const MOST_KEPT: usize = 4_194_304;
+
 // A name, and what is known of it.
 #[derive(Drop)]
 struct Known {
@@ -21,6 +27,9 @@ struct Known {
     is_held: bool,
     // The length of its file, where a look has found it since the last change of it.
     length: Option<u64>,
+    // Where the bytes of its file begin among those that are kept, where they are kept, of which there are as many as its
+    // length says.
+    kept: Option<usize>,
     // The round in which it was written last; 0 where it wasn't.
     written: u64,
 }
@@ -42,6 +51,8 @@ pub struct Held {
     // Where in `sorted` the names were passed over last, from one to before another, since none is held: where many were
     // taken away, the next search above them doesn't pass over each again.
     gap: Range<usize>,
+    // What files hold, one behind another, as it was read; bytes of files that were changed since stand there too.
+    bytes: Vec<u8>,
     // Room for the longest name.
     above: String,
     // The places of the names that were written since the last good sync, each once, and of those that were taken away,
@@ -58,7 +69,7 @@ fn is_above(after: Option<&Name>, name: &Name) -> bool
 {
     match after {
         None => true,
-        Some(after) => matches!(after.as_bytes().cmp(name.as_bytes()), Ordering::Less),
+        Some(after) => matches!(after.as_str().cmp(name.as_str()), Ordering::Less),
     }
 }
 
@@ -102,6 +113,31 @@ fn least_above(known: &[Known], places: &BTreeMap<String, usize>, above: &String
     None
 }
 
+impl Known {
+    // Takes down the length of its file, or that it isn't known. What was kept of a file of another length isn't kept any
+    // more.
+    fn set_length(&mut self, length: Option<u64>) {
+        if self.length != length {
+            self.kept = None;
+        }
+        self.length = length;
+    }
+
+    // Whether a file of so many bytes may be kept whole.
+    fn may_keep(&self, count: usize) -> bool {
+        self.is_held && self.kept.is_none() && self.length == Some(count as u64)
+    }
+}
+
+// The bytes from `at` on, at most `want` of them.
+fn part_of(bytes: &[u8], at: u64, want: usize) -> &[u8]
+    ensures { length result.now ≤ want }
+{
+    let from = at.min(bytes.len() as u64) as usize;
+    let rest = &bytes[from..];
+    &rest[..want.min(rest.len())]
+}
+
 // Puts places into the byte order of their names.
 fn sort_places(known: &[Known], places: &mut Vec<usize>) {
     places.sort_unstable_by(|one, other| text_at(known, *one).cmp(text_at(known, *other)));
@@ -117,6 +153,7 @@ impl Held {
             is_whole,
             at: 0,
             gap: 0..0,
+            bytes: Vec::new(alloc),
             above: String::with_capacity(alloc, LONGEST_NAME)?,
             written: Vec::new(alloc),
             removed: Vec::with_capacity(alloc, names.len())?,
@@ -140,6 +177,7 @@ impl Held {
             name,
             is_held: true,
             length: None,
+            kept: None,
             written: 0,
         })?;
         Ok(())
@@ -175,15 +213,22 @@ impl Held {
             .binary_search_by(|place| self.text(*place).cmp(name))
     }
 
-    // The place of a name.
-    fn place_of(&mut self, name: &str) -> Option<usize> {
+    // Where a name stands in the byte order, which is mostly behind the one that was sought last.
+    fn seek_on(&self, name: &str) -> Option<usize> {
         let next = self.at.saturating_add(1);
         if self.is_at(next, name) {
-            self.at = next;
-        } else if !self.is_at(self.at, name) {
-            match self.seek(name) {
-                Ok(at) => self.at = at,
-                Err(_) => return self.others.get(name).copied(),
+            Some(next)
+        } else {
+            self.seek(name).ok()
+        }
+    }
+
+    // The place of a name.
+    fn place_of(&mut self, name: &str) -> Option<usize> {
+        if !self.is_at(self.at, name) {
+            match self.seek_on(name) {
+                Some(at) => self.at = at,
+                None => return self.others.get(name).copied(),
             }
         }
         self.sorted.get(self.at).copied()
@@ -290,15 +335,51 @@ impl Held {
     /// Takes down the length at a place.
     pub fn set_length(&mut self, place: usize, length: u64) {
         if let Some(known) = self.known.get_mut(place) {
-            known.length = Some(length);
+            known.set_length(Some(length));
         }
     }
 
     /// Takes down the length of a name, or that it isn't known.
     pub fn note_length(&mut self, name: &Name, length: Option<u64>) {
         if let Some(known) = self.known(name) {
-            known.length = length;
+            known.set_length(length);
         }
+    }
+
+    /// The place of a name that is held.
+    pub fn held_place(&mut self, name: &Name) -> Option<usize> {
+        let place = self.place_of(name.as_str())?;
+        if is_held(self.known.as_slice(), place) {
+            Some(place)
+        } else {
+            None
+        }
+    }
+
+    /// Keeps what the file of the name at a place holds, where these are all of its bytes and there is room, so that it isn't
+    /// read again as long as nothing changes it.
+    pub fn keep(&mut self, place: usize, bytes: &[u8]) {
+        let from = self.bytes.len();
+        if bytes.len() > LONGEST_KEPT.min(MOST_KEPT.saturating_sub(from)) {
+            return;
+        }
+        let Some(known) = self.known.get_mut(place) else {
+            return;
+        };
+        if known.may_keep(bytes.len()) && self.bytes.extend_from_slice(bytes).is_ok() {
+            known.kept = Some(from);
+        }
+    }
+
+    /// The bytes of the file of the name at a place from `at`, at most `want` of them, where they are kept.
+    pub fn kept(&self, place: usize, at: u64, want: usize) -> Option<&[u8]>
+        ensures { IfSome result (λ bytes. length bytes.now ≤ want) }
+    {
+        let known = self.known.get(place)?;
+        let (from, length) = (known.kept?, known.length?);
+        let to = from.saturating_add(length as usize);
+        let bytes = self.bytes.as_slice().get(from..to)?;
+        Some(part_of(bytes, at, want))
     }
 
     // Adds a name that isn't known yet, and answers its place. After an error the names are as they were.
@@ -317,6 +398,7 @@ impl Held {
             name: text,
             is_held: false,
             length: None,
+            kept: None,
             written: 0,
         })?;
         Ok(place)
@@ -335,7 +417,7 @@ impl Held {
             return Ok(());
         };
         known.is_held = true;
-        known.length = None;
+        known.set_length(None);
         if known.written != self.round {
             known.written = self.round;
             self.written.push(place)?;
@@ -343,9 +425,9 @@ impl Held {
         Ok(())
     }
 
-    /// Takes down that a name is written: it is held, and its length isn't known. After an error the names are as they
-    /// were.
-    pub fn write(&mut self, alloc: Global, name: &Name) -> Result<(), Trouble> {
+    /// Takes down that a name is written: it is held, and its length isn't known; whether nothing stands at its path yet, as
+    /// the listing and the changes since tell. After an error the names are as they were.
+    pub fn write(&mut self, alloc: Global, name: &Name) -> Result<bool, Trouble> {
         self.written.reserve(1)?;
         self.removed.reserve(self.known.len().saturating_add(1))?;
         let place = match self.place_of(name.as_str()) {
@@ -353,7 +435,9 @@ impl Held {
             None => self.add(alloc, name.as_str())?,
         };
         self.end_gap();
-        self.write_at(place)
+        let is_new = self.is_whole && !is_held(self.known.as_slice(), place);
+        self.write_at(place)?;
+        Ok(is_new)
     }
 
     /// Whether a name was written since the last good sync.
@@ -389,8 +473,14 @@ impl Held {
         self.is_whole = false;
     }
 
-    /// Puts the names that were written and those that were taken away into byte order.
+    /// Puts the names that were written and those that were taken away into byte order. Where no name came out of order,
+    /// their places have that order.
     pub fn sort_changes(&mut self) {
+        if self.others.is_empty() {
+            self.written.sort_unstable();
+            self.removed.sort_unstable();
+            return;
+        }
         sort_places(self.known.as_slice(), &mut self.written);
         sort_places(self.known.as_slice(), &mut self.removed);
     }

@@ -1,6 +1,7 @@
 //! Going through what stands in a folder.
 
 use crate::trouble::Trouble;
+use memchr::memchr;
 use std::alloc::{AllocError, Global};
 use std::fs::Files;
 use std::io::Read;
@@ -23,12 +24,8 @@ pub fn path_in(alloc: Global, folder: &str, name: &str) -> Result<String, AllocE
 
 // Where the name that begins there ends, before its NUL.
 fn end_of(names: &[u8], from: usize) -> usize {
-    for at in from..names.len() {
-        if names[at] == 0 {
-            return at;
-        }
-    }
-    names.len()
+    let rest = names.get(from..).unwrap_or(&[]);
+    from.saturating_add(memchr(0, rest).unwrap_or(rest.len()))
 }
 
 // Visits what has this name.
