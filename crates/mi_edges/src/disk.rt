@@ -2,7 +2,7 @@
 
 ghost use Rattle.std.specs.Prelude.{◌≤◌, IfOk, vec_len};
 
-use crate::found::{Found, Lockable, file_length, is_folder, look};
+use crate::found::{Found, Lockable, file_length, is_folder, look, look_through};
 use crate::levels::{Levels, do_levels};
 use crate::listing::{Folders, Listed, list};
 use crate::names::{LONGEST_NAME, LONGEST_PATH, PART_BYTES, push_digits};
@@ -126,12 +126,15 @@ impl<R: Files + Alloc + Clone + Drop> Disk<R> {
         self.renew_leftovers(alloc)
     }
 
-    /// Takes the folder's lock. Nothing is made or written: a folder that isn't there is a failure, and what an earlier
-    /// process has left without a sync stays as it is.
+    /// Takes the folder's lock. Nothing is made or written: where no folder is there it is a failure, and what stands there
+    /// isn't opened; what an earlier process has left without a sync stays as it is.
     pub fn open_to_read(&mut self) -> Result<(), Trouble>
     where
         R::File: Lockable,
     {
+        if look_through(&self.rt, self.folder.as_str())? != Found::Folder {
+            return Err(Trouble::Failed);
+        }
         let lock = lock_folder(&self.rt, self.folder.as_str())?;
         self.lock = Some(lock);
         Ok(())

@@ -155,7 +155,7 @@ where
 
     /// The folder as a volume that is only read: nothing is made, and what an earlier process has left without a sync stays
     /// as it is. Takes the folder's lock, and the room for its longest path. `Folder` comes where the folder isn't there or
-    /// can't be opened, and where another process has the lock.
+    /// can't be opened, where something else stands there, and where another process has the lock.
     pub fn to_read(rt: R, alloc: Global, folder: &str) -> Result<FolderVolume<R>, EdgeFault> {
         let mut volume = FolderVolume::deferred(rt, alloc, folder)?;
         match volume.disk.open_to_read() {
