@@ -333,10 +333,13 @@ impl<R: Files + Alloc + Clone + Drop> Disk<R> {
         write_on(file, bytes)
     }
 
-    /// Writes the first byte of a name's file.
-    pub fn mark(&mut self, name: &str, byte: u8) -> Result<(), Trouble> {
+    /// Writes the first byte of a name's file. Answers the file, open behind it.
+    pub fn mark(&mut self, name: &str, byte: u8) -> Result<R::File, Trouble> {
         match self.size(name)? {
-            Some(_) => mark_file(&self.rt, self.path.as_str(), byte),
+            Some(_) => {
+                self.looked.clear();
+                mark_file(&self.rt, self.path.as_str(), byte)
+            }
             None => Err(Trouble::Absent),
         }
     }

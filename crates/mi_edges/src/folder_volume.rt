@@ -498,17 +498,17 @@ where
         Ok(())
     }
 
-    // Marks a name's file. Where no sync would reach it, it is synced at once.
+    // Marks a name's file. Where no sync would reach it, it is synced at once, through the file that was written.
     fn mark_file(&mut self, name: &Name, byte: u8) -> Result<(), Trouble>
         ensures { self.new.faults ≡ self.old.faults }
     {
         self.begin_change()?;
         self.note_length(name, None);
-        self.disk.mark(name.as_str(), byte)?;
+        let file = self.disk.mark(name.as_str(), byte)?;
         if self.is_reached(name) {
             return Ok(());
         }
-        let synced = self.disk.sync_file(name.as_str());
+        let synced = sync_open(&file);
         self.lost = self.lost || synced.is_err();
         synced
     }
