@@ -421,20 +421,9 @@ where
         }
     }
 
-    // Forgets a name that a failed write has left without a file. Where that can't be told, it stays among the names, and
-    // each look at it tells anew.
-    fn forget_absent(&mut self, name: &Name)
-        ensures { self.old.faults ≤ self.new.faults }
-    {
-        match self.size_of(name) {
-            Ok(Some(_)) => {}
-            Ok(None) => self.take_strange_off(name, Found::Nothing),
-            Err(_) => self.count(),
-        }
-    }
-
-    // The answer of a write, whose failure may have changed the name.
-    fn written(&mut self, name: &Name, answer: Result<(), Trouble>) -> Result<(), PutFault>
+    // The answer of a write, whose failure may have changed the name. It stays among the names, and each look at it tells
+    // whether it has a file.
+    fn written(&mut self, answer: Result<(), Trouble>) -> Result<(), PutFault>
         ensures failed { IsErrOf result PutFault.Failed → Counts self.old.faults self.new.faults }
         ensures later { self.old.faults ≤ self.new.faults }
         ensures never { IsErrOf result PutFault.Full → ⊥ }
@@ -443,7 +432,6 @@ where
             Ok(()) => Ok(()),
             Err(_) => {
                 self.file = None;
-                self.forget_absent(name);
                 self.count();
                 Err(PutFault::Failed)
             }
@@ -631,13 +619,13 @@ where
     fn put(&mut self, alloc: Global, name: &Name, bytes: &[u8]) -> Result<(), PutFault> {
         self.note_written(alloc, name)?;
         let put = self.put_file(name, bytes);
-        self.written(name, put)
+        self.written(put)
     }
 
     fn append(&mut self, alloc: Global, name: &Name, bytes: &[u8]) -> Result<(), PutFault> {
         self.note_written(alloc, name)?;
         let appended = self.append_file(name, bytes);
-        self.written(name, appended)
+        self.written(appended)
     }
 
     fn mark(&mut self, name: &Name, byte: u8) -> Result<(), Failed> {
