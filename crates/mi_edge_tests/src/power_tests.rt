@@ -234,27 +234,18 @@ fn read_all(alloc: Global, fake: Fake, names: &Vec<Known>) -> Result<Vec<Held>, 
     }
 }
 
-/// Cuts the power: what was read stays.
-fn is_left(
-    alloc: Global,
-    device: &Device,
-    names: &Vec<Known>,
-    read: &Vec<Held>,
-) -> Result<(), Wrong> {
-    for choice in CUTS {
-        let again = read_all(alloc, Fake::new(alloc, device.cut(choice)?)?, names)?;
-        if again != *read {
-            return Err(Wrong::Changed);
-        }
-    }
-    Ok(())
-}
-
 /// Reads, and then cuts the power: what was read stays.
 fn stays_read(alloc: Global, device: Device, names: &Vec<Known>) -> Result<(), Wrong> {
     let fake = Fake::new(alloc, device)?;
     let read = read_all(alloc, fake.clone()?, names)?;
-    is_left(alloc, &fake.device()?, names, &read)
+    let device = fake.device()?;
+    for choice in CUTS {
+        let again = read_all(alloc, Fake::new(alloc, device.cut(choice)?)?, names)?;
+        if again != read {
+            return Err(Wrong::Changed);
+        }
+    }
+    Ok(())
 }
 
 /// The disk behind a process that opens the volume and does nothing more.
@@ -281,8 +272,8 @@ fn outlives_cut(
     Ok(())
 }
 
-/// Where a call of the opening of the volume fails, what the process reads, or the next one where this one can't open it,
-/// outlives a cut of the power.
+/// Where a call of the opening of the volume fails, so does the opening, and what the next process reads outlives a cut of
+/// the power.
 fn outlives_failure(
     alloc: Global,
     device: &Device,
@@ -291,11 +282,10 @@ fn outlives_failure(
 ) -> Result<(), Wrong> {
     let failing = device.again(Some((call, Trip::Fail(Failure::Broken))))?;
     let fake = Fake::new(alloc, failing)?;
-    match read_all(alloc, fake.clone()?, names) {
-        Ok(read) => is_left(alloc, &fake.device()?, names, &read),
-        Err(Wrong::Unread) => stays_read(alloc, fake.device()?.again(None)?, names),
-        Err(wrong) => Err(wrong),
+    if FolderVolume::at(fake.clone()?, alloc, FOLDER).is_ok() {
+        return Err(Wrong::Uncounted);
     }
+    stays_read(alloc, fake.device()?.again(None)?, names)
 }
 
 /// What was synced outlives a cut of the power at each call of the opening of the volume, and each failure there.
