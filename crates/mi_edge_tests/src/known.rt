@@ -26,7 +26,7 @@ pub enum Wrong {
     Lost,
     /// What was read from the volume when it was opened is something else after the power was cut.
     Changed,
-    /// A failure of the system wasn't counted.
+    /// A failure of the system wasn't counted, or the folder was opened all the same.
     Uncounted,
     /// The names that are listed aren't those that are held.
     Listed,

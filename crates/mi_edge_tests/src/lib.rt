@@ -18,4 +18,6 @@ mod source_tests;
 #[cfg(test)]
 mod step;
 #[cfg(test)]
+mod strange_tests;
+#[cfg(test)]
 mod volume_tests;

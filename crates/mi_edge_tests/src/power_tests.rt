@@ -28,12 +28,12 @@ struct History {
     before: &'static [Deed],
     deeds: &'static [Deed],
     trips: &'static [Trip],
-    // Behind one of how many stops the power is cut at each call of the next opening of the volume, too.
+    // Behind one of how many stops the power is cut at each call of the next opening of the volume, and that call fails, too.
     cuts_opening: usize,
 }
 
-/// Names of one part and of two: each kind of change, of names that are listed and that aren't, few bytes over many, and a
-/// sync behind one that may have failed.
+/// Names of one part and of two: each kind of change, of names that are listed and that aren't, few bytes over many, bytes
+/// that are added to a file which is open, a sync behind one that may have failed, and a listing behind a put that may have.
 const SHORT: History = History {
     lengths: &[6, 200],
     before: &[],
@@ -46,6 +46,7 @@ const SHORT: History = History {
         Deed::Sync,
         Deed::At(1, Act::Mark(b'c')),
         Deed::At(0, Act::Append("er")),
+        Deed::At(0, Act::Append("!")),
         Deed::At(1, Act::Remove),
         Deed::Sync,
         Deed::List,
@@ -57,6 +58,7 @@ const SHORT: History = History {
         Deed::Sync,
         Deed::Sync,
         Deed::At(1, Act::Put("x")),
+        Deed::List,
     ],
     trips: &[
         Trip::Stop,
@@ -81,10 +83,10 @@ const LONG: History = History {
     cuts_opening: 7,
 };
 
-/// Names that are held when the process begins, which takes one away before it lists them, and marks one before and behind
-/// that.
+/// Names of two and of three parts, which share one, that are held when the process begins, which takes one away before it
+/// lists them, marks one before and behind that, and ends with all synced.
 const HELD: History = History {
-    lengths: &[6, 200],
+    lengths: &[200, 300],
     before: &[
         Deed::At(0, Act::Put("a")),
         Deed::At(1, Act::Put("b")),
@@ -98,6 +100,7 @@ const HELD: History = History {
         Deed::At(0, Act::Mark(b'd')),
         Deed::Sync,
         Deed::At(1, Act::Put("x")),
+        Deed::Sync,
     ],
     trips: &[Trip::Stop, Trip::Fail(Failure::Broken)],
     cuts_opening: 3,
@@ -150,6 +153,24 @@ fn sync(alloc: Global, volume: &mut FakeVolume, names: &mut Vec<Known>) -> Resul
     Ok(())
 }
 
+/// What the names hold. What was synced is as it was, and the names that are listed are those that are held.
+fn read_listed(
+    alloc: Global,
+    volume: &mut FakeVolume,
+    names: &Vec<Known>,
+) -> Result<Vec<Held>, Wrong> {
+    let listed = count_listed(alloc, volume)?;
+    let mut all = Vec::new(alloc);
+    for name in names.iter() {
+        all.push(name.read(alloc, volume)?)?;
+    }
+    if all.iter().filter(|held| held.is_some()).count() == listed {
+        Ok(all)
+    } else {
+        Err(Wrong::Listed)
+    }
+}
+
 fn carry_out(
     alloc: Global,
     volume: &mut FakeVolume,
@@ -162,7 +183,7 @@ fn carry_out(
             None => Ok(()),
         },
         Deed::Sync => sync(alloc, volume, names),
-        Deed::List => match count_listed(alloc, volume) {
+        Deed::List => match read_listed(alloc, volume, names) {
             Ok(_) | Err(Wrong::Unread) => Ok(()),
             Err(wrong) => Err(wrong),
         },
@@ -205,21 +226,11 @@ fn changed(
     Ok(device)
 }
 
-/// A process that reads alone: what the names hold. What was synced is as it was, and the names that are listed are those
-/// that are held.
+/// A process that reads alone: what the names hold.
 fn read_all(alloc: Global, fake: Fake, names: &Vec<Known>) -> Result<Vec<Held>, Wrong> {
-    let Ok(mut volume) = FolderVolume::at(fake, alloc, FOLDER) else {
-        return Err(Wrong::Unread);
-    };
-    let listed = count_listed(alloc, &mut volume)?;
-    let mut all = Vec::new(alloc);
-    for name in names.iter() {
-        all.push(name.read(alloc, &mut volume)?)?;
-    }
-    if all.iter().filter(|held| held.is_some()).count() == listed {
-        Ok(all)
-    } else {
-        Err(Wrong::Listed)
+    match FolderVolume::at(fake, alloc, FOLDER) {
+        Ok(mut volume) => read_listed(alloc, &mut volume, names),
+        Err(_) => Err(Wrong::Unread),
     }
 }
 
@@ -244,17 +255,45 @@ fn opened(alloc: Global, device: Device) -> Result<Device, Wrong> {
     Ok(fake.device()?)
 }
 
-/// What was synced outlives a cut of the power at each call of the opening of the volume.
-fn outlives_cuts(alloc: Global, device: &Device, names: &Vec<Known>) -> Result<(), Wrong> {
+/// What was synced outlives a cut of the power at a call of the opening of the volume.
+fn outlives_cut(
+    alloc: Global,
+    device: &Device,
+    names: &Vec<Known>,
+    call: usize,
+) -> Result<(), Wrong> {
+    let left = opened(alloc, device.again(Some((call, Trip::Stop)))?)?;
+    let choice = if call % 2 == 0 {
+        Choice::Old
+    } else {
+        Choice::Mixed(call)
+    };
+    read_all(alloc, Fake::new(alloc, left.cut(choice)?)?, names)?;
+    Ok(())
+}
+
+/// Where a call of the opening of the volume fails, so does the opening, and what the next process reads outlives a cut of
+/// the power.
+fn outlives_failure(
+    alloc: Global,
+    device: &Device,
+    names: &Vec<Known>,
+    call: usize,
+) -> Result<(), Wrong> {
+    let failing = device.again(Some((call, Trip::Fail(Failure::Broken))))?;
+    let fake = Fake::new(alloc, failing)?;
+    if FolderVolume::at(fake.clone()?, alloc, FOLDER).is_ok() {
+        return Err(Wrong::Uncounted);
+    }
+    stays_read(alloc, fake.device()?.again(None)?, names)
+}
+
+/// What was synced outlives a cut of the power at each call of the opening of the volume, and each failure there.
+fn outlives_opening(alloc: Global, device: &Device, names: &Vec<Known>) -> Result<(), Wrong> {
     let calls = opened(alloc, device.again(None)?)?.calls();
     for call in 0..calls {
-        let left = opened(alloc, device.again(Some((call, Trip::Stop)))?)?;
-        let choice = if call % 2 == 0 {
-            Choice::Old
-        } else {
-            Choice::Mixed(call)
-        };
-        read_all(alloc, Fake::new(alloc, left.cut(choice)?)?, names)?;
+        outlives_cut(alloc, device, names, call)?;
+        outlives_failure(alloc, device, names, call)?;
     }
     Ok(())
 }
@@ -325,7 +364,7 @@ fn trial(alloc: Global, history: &History, trip: Option<(usize, Trip)>) -> Resul
         Some((_, Trip::Stop)) | None => {
             outlives(alloc, &device, &names, &CHOICES)?;
             if is_opening_cut(history, trip) {
-                outlives_cuts(alloc, &device, &names)?;
+                outlives_opening(alloc, &device, &names)?;
             }
             goes_on(alloc, &device, history)?;
         }
@@ -341,6 +380,12 @@ fn folder_stays(alloc: Global) -> Result<bool, Wrong> {
     }
     let mut left = fake.device()?.cut(Choice::Old)?;
     Ok(left.look(FOLDER).is_ok())
+}
+
+/// There is no folder of the empty path.
+fn is_empty_refused(alloc: Global) -> Result<bool, Wrong> {
+    let fake = Fake::new(alloc, Device::new(alloc)?)?;
+    Ok(FolderVolume::at(fake, alloc, "").is_err())
 }
 
 /// The first call at which a history isn't right, and how it goes wrong there; none of its calls and none where all is.
@@ -408,6 +453,7 @@ fn a_folder_above_that_cant_be_synced_is_passed_over(rt: HostRuntime) -> Result<
 fn what_was_synced_outlives_each_stop_and_each_failure(rt: HostRuntime) -> Result<(), Fail> {
     let alloc = rt.alloc();
     assert_eq!(rt; folder_stays(alloc), Ok(true));
+    assert_eq!(rt; is_empty_refused(alloc), Ok(true));
     assert_eq!(rt; first_wrong(alloc, &SHORT), Ok(()));
     assert_eq!(rt; first_wrong(alloc, &LONG), Ok(()));
     assert_eq!(rt; first_wrong(alloc, &HELD), Ok(()));

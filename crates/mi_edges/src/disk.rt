@@ -2,7 +2,7 @@
 
 ghost use Rattle.std.specs.Prelude.{◌≤◌, IfOk, vec_len};
 
-use crate::found::{Found, Lockable, file_length, is_folder, look};
+use crate::found::{Found, Lockable, file_length, is_folder, look, look_through};
 use crate::levels::{Levels, do_levels};
 use crate::listing::{Folders, Listed, list};
 use crate::names::{LONGEST_NAME, LONGEST_PATH, PART_BYTES, push_digits};
@@ -127,12 +127,15 @@ impl<R: Files + Alloc + Clone + Drop> Disk<R> {
         self.renew_leftovers(alloc)
     }
 
-    /// Takes the folder's lock. Nothing is made or written: a folder that isn't there is a failure, and what an earlier
-    /// process has left without a sync stays as it is.
+    /// Takes the folder's lock. Nothing is made or written: where no folder is there it is a failure, and what stands there
+    /// isn't opened; what an earlier process has left without a sync stays as it is.
     pub fn open_to_read(&mut self) -> Result<(), Trouble>
     where
         R::File: Lockable,
     {
+        if look_through(&self.rt, self.folder.as_str())? != Found::Folder {
+            return Err(Trouble::Failed);
+        }
         let lock = lock_folder(&self.rt, self.folder.as_str())?;
         self.lock = Some(lock);
         Ok(())
@@ -338,10 +341,13 @@ impl<R: Files + Alloc + Clone + Drop> Disk<R> {
         write_on(file, bytes)
     }
 
-    /// Writes the first byte of a name's file.
-    pub fn mark(&mut self, name: &str, byte: u8) -> Result<(), Trouble> {
+    /// Writes the first byte of a name's file. Answers the file, open behind it.
+    pub fn mark(&mut self, name: &str, byte: u8) -> Result<R::File, Trouble> {
         match self.size(name)? {
-            Some(_) => mark_file(&self.rt, self.path.as_str(), byte),
+            Some(_) => {
+                self.looked.clear();
+                mark_file(&self.rt, self.path.as_str(), byte)
+            }
             None => Err(Trouble::Absent),
         }
     }

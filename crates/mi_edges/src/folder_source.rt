@@ -75,7 +75,7 @@ fn add_names<F: Files>(rt: &F, found: &mut Names, folder: &str) -> Result<(), Tr
     Ok(())
 }
 
-// The names of the files directly in the folder, in byte order. A link to nowhere is none.
+// The names of the files directly in the folder, in byte order. A link to nowhere is none, nor is one in a loop.
 fn names_in<F: Files>(rt: &F, alloc: Global, folder: &str) -> Result<Vec<Text>, Trouble> {
     let mut found = Names {
         alloc,

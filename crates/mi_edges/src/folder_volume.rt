@@ -171,7 +171,7 @@ where
 
     /// The folder as a volume that is only read: nothing is made, and what an earlier process has left without a sync stays
     /// as it is. Takes the folder's lock, and the room for its longest path. `Folder` comes where the folder isn't there or
-    /// can't be opened, and where another process has the lock.
+    /// can't be opened, where something else stands there, and where another process has the lock.
     pub fn to_read(rt: R, alloc: Global, folder: &str) -> Result<FolderVolume<R>, EdgeFault> {
         let mut volume = FolderVolume::deferred(rt, alloc, folder)?;
         match volume.disk.open_to_read() {
@@ -485,20 +485,9 @@ where
         }
     }
 
-    // Forgets a name that a failed write has left without a file. Where that can't be told, it stays among the names, and
-    // each look at it tells anew.
-    fn forget_absent(&mut self, name: &Name)
-        ensures { self.old.faults ≤ self.new.faults }
-    {
-        match self.size_of(name) {
-            Ok(Some(_)) => {}
-            Ok(None) => self.take_strange_off(name, Found::Nothing),
-            Err(_) => self.count(),
-        }
-    }
-
-    // The answer of a write, whose failure may have changed the name.
-    fn written(&mut self, name: &Name, answer: Result<(), Trouble>) -> Result<(), PutFault>
+    // The answer of a write, whose failure may have changed the name. It stays among the names, and each look at it tells
+    // whether it has a file.
+    fn written(&mut self, answer: Result<(), Trouble>) -> Result<(), PutFault>
         ensures failed { IsErrOf result PutFault.Failed → Counts self.old.faults self.new.faults }
         ensures later { self.old.faults ≤ self.new.faults }
         ensures never { IsErrOf result PutFault.Full → ⊥ }
@@ -507,7 +496,6 @@ where
             Ok(()) => Ok(()),
             Err(_) => {
                 self.file = None;
-                self.forget_absent(name);
                 self.count();
                 Err(PutFault::Failed)
             }
@@ -562,17 +550,17 @@ where
         Ok(())
     }
 
-    // Marks a name's file. Where no sync would reach it, it is synced at once.
+    // Marks a name's file. Where no sync would reach it, it is synced at once, through the file that was written.
     fn mark_file(&mut self, name: &Name, byte: u8) -> Result<(), Trouble>
         ensures { self.new.faults ≡ self.old.faults }
     {
         self.begin_change()?;
         self.note_length(name, None);
-        self.disk.mark(name.as_str(), byte)?;
+        let file = self.disk.mark(name.as_str(), byte)?;
         if self.is_reached(name) {
             return Ok(());
         }
-        let synced = self.disk.sync_file(name.as_str());
+        let synced = sync_open(&file);
         self.lost = self.lost || synced.is_err();
         synced
     }
@@ -695,13 +683,13 @@ where
     fn put(&mut self, alloc: Global, name: &Name, bytes: &[u8]) -> Result<(), PutFault> {
         let is_new = self.note_written(alloc, name)?;
         let put = self.put_file(name, bytes, is_new);
-        self.written(name, put)
+        self.written(put)
     }
 
     fn append(&mut self, alloc: Global, name: &Name, bytes: &[u8]) -> Result<(), PutFault> {
         let is_new = self.note_written(alloc, name)?;
         let appended = self.append_file(name, bytes, is_new);
-        self.written(name, appended)
+        self.written(appended)
     }
 
     fn mark(&mut self, name: &Name, byte: u8) -> Result<(), Failed> {

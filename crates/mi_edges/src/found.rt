@@ -2,6 +2,7 @@
 
 use crate::trouble::Trouble;
 use std::fs::{File, Files, Metadata};
+use std::io::ErrorKind;
 use std::{fs, io};
 
 /// What stands at a path. A link is never followed.
@@ -43,9 +44,12 @@ pub fn look<F: Files>(rt: &F, path: &str) -> Result<Found, Trouble> {
     told(fs::symlink_metadata(rt, path))
 }
 
-/// What stands at a path, or where the link that stands there leads.
+/// What stands at a path, or where the link that stands there leads: nothing, where that is nowhere or a loop.
 pub fn look_through<F: Files>(rt: &F, path: &str) -> Result<Found, Trouble> {
-    told(fs::metadata(rt, path))
+    match fs::metadata(rt, path) {
+        Err(error) if error.kind() == ErrorKind::FilesystemLoop => Ok(Found::Nothing),
+        answer => told(answer),
+    }
 }
 
 /// The length of the plain file that was found, and None where nothing was; anything else isn't a volume's, and is never

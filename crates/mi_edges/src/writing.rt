@@ -44,12 +44,13 @@ pub fn write_on<F: Write>(file: &mut F, bytes: &[u8]) -> Result<(), Trouble> {
     Ok(())
 }
 
-/// Writes the first byte of a file that is there.
-pub fn mark_file<F: Files>(rt: &F, path: &str, byte: u8) -> Result<(), Trouble> {
+/// Writes the first byte of a file that is there. Answers the file, open behind it.
+pub fn mark_file<F: Files>(rt: &F, path: &str, byte: u8) -> Result<F::File, Trouble> {
     let mut how = OpenOptions::new();
     how.write(true);
-    how.open(rt, path)?.write_all(&[byte])?;
-    Ok(())
+    let mut file = how.open(rt, path)?;
+    file.write_all(&[byte])?;
+    Ok(file)
 }
 
 /// Makes an empty file where nothing stands.
