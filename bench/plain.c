@@ -3,6 +3,7 @@
    plain write FOLDER FROM   gives the files named on standard input, a path a line, below FOLDER the bytes that they have
                              below FROM, in place; syncs each, and FOLDER; prints the seconds behind reading the first
                              65,536 bytes of each in FROM: what is longer is copied piece by piece
+   plain write-data FOLDER FROM   the same, where files are synced by fdatasync, as the program does, and not by fsync
    plain remove FOLDER       takes away the files named on standard input, a path a line, below FOLDER, and syncs FOLDER;
                              prints the seconds behind reading the paths */
 #define _GNU_SOURCE
@@ -108,9 +109,9 @@ static void write_file(const struct change *change) {
     close(file);
 }
 
-static void sync_path(const char *path) {
+static void sync_path(const char *path, int (*sync_open)(int)) {
     int file = open(path, O_RDONLY);
-    must(file >= 0 && fsync(file) == 0, path);
+    must(file >= 0 && sync_open(file) == 0, path);
     close(file);
 }
 
@@ -134,21 +135,22 @@ static void load_paths(const char *folder) {
 int main(int count, char **words) {
     if (count == 3 && !strcmp(words[1], "read")) {
         read_folder(words[2]);
-    } else if (count == 4 && !strcmp(words[1], "write")) {
+    } else if (count == 4 && (!strcmp(words[1], "write") || !strcmp(words[1], "write-data"))) {
+        int (*sync_file)(int) = strcmp(words[1], "write") ? fdatasync : fsync;
         load(words[2], words[3]);
         double start = now();
         for (size_t i = 0; i < change_count; i++)
             write_file(&changes[i]);
         for (size_t i = 0; i < change_count; i++)
-            sync_path(changes[i].path);
-        sync_path(words[2]);
+            sync_path(changes[i].path, sync_file);
+        sync_path(words[2], fsync);
         printf("%.6f\n", now() - start);
     } else if (count == 3 && !strcmp(words[1], "remove")) {
         load_paths(words[2]);
         double start = now();
         for (size_t i = 0; i < change_count; i++)
             must(unlink(changes[i].path) == 0, changes[i].path);
-        sync_path(words[2]);
+        sync_path(words[2], fsync);
         printf("%.6f\n", now() - start);
     } else {
         return 2;

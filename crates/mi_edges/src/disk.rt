@@ -9,8 +9,8 @@ use crate::names::{LONGEST_NAME, LONGEST_PATH, PART_BYTES, push_digits};
 use crate::reading::read_at;
 use crate::trouble::Trouble;
 use crate::writing::{
-    append_file, make_file, make_folder, mark_file, put_file, remove_path, renew_file, sync_path,
-    write_on,
+    append_file, make_file, make_folder, mark_file, put_file, remove_path, renew_file, sync_file,
+    sync_folder, write_on,
 };
 use std::alloc::Global;
 use std::fs::{File, Files};
@@ -70,7 +70,7 @@ fn make_part<F: Files>(rt: &F, path: &str) -> Result<bool, Trouble> {
 fn sync_part<F: Files>(rt: &F, path: &str) -> Result<bool, Trouble> {
     let is_there = is_folder(rt, path)?;
     if is_there {
-        sync_path(rt, path)?;
+        sync_folder(rt, path)?;
     }
     Ok(is_there)
 }
@@ -366,7 +366,7 @@ impl<R: Files + Alloc + Clone + Drop> Disk<R> {
     /// Syncs a name's file, if it is there.
     pub fn sync_file(&mut self, name: &str) -> Result<(), Trouble> {
         match self.size(name)? {
-            Some(_) => sync_path(&self.rt, self.path.as_str()),
+            Some(_) => sync_file(&self.rt, self.path.as_str()),
             None => Ok(()),
         }
     }
@@ -385,7 +385,7 @@ impl<R: Files + Alloc + Clone + Drop> Disk<R> {
 
     /// Syncs the folder itself.
     pub fn sync_folder(&mut self) -> Result<(), Trouble> {
-        sync_path(&self.rt, self.folder.as_str())
+        sync_folder(&self.rt, self.folder.as_str())
     }
 
     /// Syncs the entries by which the folder is found.

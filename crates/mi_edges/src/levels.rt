@@ -2,7 +2,7 @@
 
 use crate::found::{Found, look_through};
 use crate::trouble::Trouble;
-use crate::writing::{make_folder, sync_above, sync_path};
+use crate::writing::{make_folder, sync_above, sync_folder};
 use std::fs::Files;
 
 // The folder in which this one stands.
@@ -29,7 +29,7 @@ fn make_level<F: Files>(rt: &F, folder: &str) -> Result<(), Trouble> {
         Found::Folder => Ok(()),
         Found::Nothing => {
             make_folder(rt, folder)?;
-            sync_path(rt, parent_of(folder))
+            sync_folder(rt, parent_of(folder))
         }
         Found::File(_) | Found::Other => Err(Trouble::Failed),
     }

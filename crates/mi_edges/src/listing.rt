@@ -4,7 +4,7 @@ use crate::found::{Found, look};
 use crate::names::{LONGEST_NAME, PART_BYTES, push_bytes};
 use crate::trouble::Trouble;
 use crate::walk::{Visit, path_in, visit_all};
-use crate::writing::sync_path;
+use crate::writing::sync_folder;
 use std::alloc::Global;
 use std::fs::Files;
 
@@ -128,7 +128,7 @@ fn list_folder<F: Files>(
     visit_all(rt, lists.alloc, lists, path)?;
     match folders {
         Folders::Listed => Ok(()),
-        Folders::Synced => sync_path(rt, path),
+        Folders::Synced => sync_folder(rt, path),
     }
 }
 

@@ -81,17 +81,31 @@ fn unless_absent(trouble: Trouble) -> Result<(), Trouble> {
     }
 }
 
-/// Opens a file or a folder and syncs it, if it is there.
-pub fn sync_path<F: Files>(rt: &F, path: &str) -> Result<(), Trouble> {
+// Syncs an open folder: what stands in it.
+fn sync_open_folder<F: OpenFile>(folder: &F) -> Result<(), Trouble> {
+    folder.sync_all()?;
+    Ok(())
+}
+
+/// Opens a folder and syncs it, if it is there.
+pub fn sync_folder<F: Files>(rt: &F, path: &str) -> Result<(), Trouble> {
+    match File::open(rt, path) {
+        Ok(folder) => sync_open_folder(&folder),
+        Err(error) => unless_absent(Trouble::from(error)),
+    }
+}
+
+/// Opens a file and syncs it, if it is there.
+pub fn sync_file<F: Files>(rt: &F, path: &str) -> Result<(), Trouble> {
     match File::open(rt, path) {
         Ok(file) => sync_open(&file),
         Err(error) => unless_absent(Trouble::from(error)),
     }
 }
 
-/// Syncs an open file.
+/// Syncs an open file: its bytes and its length, and not the times of its last changes, which nothing reads.
 pub fn sync_open<F: OpenFile>(file: &F) -> Result<(), Trouble> {
-    file.sync_all()?;
+    file.sync_data()?;
     Ok(())
 }
 
