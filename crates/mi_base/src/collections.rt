@@ -123,9 +123,9 @@ impl Ord for Texts {
 }
 
 impl Hash for Texts {
-    ghost hash_input = { fed.slice (fed.slice fed.u8) };
+    ghost hash_input = { fed.slice fed.str };
 
-    ghost respects_eq = { (items_Alike {E = pointwise nat_eq} {F = fed.slice fed.u8} (record { fed = Prim.search (hashing, rules) })).fed };
+    ghost respects_eq = { (items_Alike {E = pointwise nat_eq} {F = fed.str} (record { fed = Prim.search (hashing, rules) })).fed };
 
     fn hash<H: Hasher>(&self, state: &mut H) {
         self.as_slice().hash(state);
