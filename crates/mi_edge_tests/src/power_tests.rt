@@ -106,6 +106,36 @@ const HELD: History = History {
     cuts_opening: 3,
 };
 
+/// Two names that are held, whose files are written as long as they were, one behind the other; the first is then marked,
+/// written again as it stands open, added to, and taken away.
+const AS_LONG: History = History {
+    lengths: &[6, 7],
+    before: &[
+        Deed::At(0, Act::Put("old")),
+        Deed::At(1, Act::Put("low")),
+        Deed::Sync,
+    ],
+    deeds: &[
+        Deed::At(0, Act::Put("new")),
+        Deed::At(1, Act::Put("now")),
+        Deed::At(0, Act::Mark(b'm')),
+        Deed::Sync,
+        Deed::At(0, Act::Put("one")),
+        Deed::At(1, Act::Put("two")),
+        Deed::At(0, Act::Append("s")),
+        Deed::At(1, Act::Put("six")),
+        Deed::Sync,
+        Deed::At(1, Act::Put("ten")),
+        Deed::At(0, Act::Put("four")),
+        Deed::At(1, Act::Remove),
+        Deed::At(1, Act::Put("red")),
+        Deed::At(0, Act::Put("blue")),
+        Deed::Sync,
+    ],
+    trips: &[Trip::Stop, Trip::Fail(Failure::Broken)],
+    cuts_opening: 0,
+};
+
 /// What the disk may have after the power was cut.
 const CHOICES: [Choice; 7] = [
     Choice::Old,
@@ -457,5 +487,6 @@ fn what_was_synced_outlives_each_stop_and_each_failure(rt: HostRuntime) -> Resul
     assert_eq!(rt; first_wrong(alloc, &SHORT), Ok(()));
     assert_eq!(rt; first_wrong(alloc, &LONG), Ok(()));
     assert_eq!(rt; first_wrong(alloc, &HELD), Ok(()));
+    assert_eq!(rt; first_wrong(alloc, &AS_LONG), Ok(()));
     Ok(())
 }

@@ -322,10 +322,16 @@ impl<R: Files + Alloc + Clone + Drop> Disk<R> {
     }
 
     /// Gives a name's file exactly these bytes, in place. `is_new` says that nothing stood at its path when the names were
-    /// listed. Answers the file, open at its end.
-    pub fn put(&mut self, name: &str, bytes: &[u8], is_new: bool) -> Result<R::File, Trouble> {
+    /// listed. Answers the file, open at its end, and how long it was, where it was there.
+    pub fn put(
+        &mut self,
+        name: &str,
+        bytes: &[u8],
+        is_new: bool,
+    ) -> Result<(R::File, Option<u64>), Trouble> {
         let before = self.begin(name, is_new)?;
-        put_file(&self.rt, self.path.as_str(), before, bytes)
+        let file = put_file(&self.rt, self.path.as_str(), before, bytes)?;
+        Ok((file, before))
     }
 
     /// Adds bytes at the end of a name's file, and makes it where it isn't there. `is_new` is as for `put`. Answers the file,

@@ -7,7 +7,7 @@ ghost use Rattle.mi_edges.specs.Count.{Counts};
 
 use crate::disk::Disk;
 use crate::found::{Found, Lockable};
-use crate::held::Held;
+use crate::held::{Held, Written};
 use crate::listing::{Folders, Listed};
 use crate::trouble::Trouble;
 use crate::writing::sync_open;
@@ -41,9 +41,8 @@ pub struct FolderVolume<R: Files> {
     refusal: Option<EdgeFault>,
     // The names that are held, once they were listed, and those that were written or taken away since the last good sync.
     held: Option<Held>,
-    // The name that was written last, and its file, where that is still open, at its end.
-    latest: String,
-    file: Option<R::File>,
+    // The file that was written last, where it is still open.
+    latest: Option<Latest<R::File>>,
     // Whether something has changed since then.
     changed: bool,
     // Whether a later process would find that something may not be synced.
@@ -53,6 +52,16 @@ pub struct FolderVolume<R: Files> {
     // Whether the system has failed at a sync. It may have dropped what it was given, so no later sync is good.
     lost: bool,
     faults: u64,
+}
+
+// A file that was written, open at its end.
+#[derive(Drop)]
+struct Latest<F> {
+    // The place of its name among those that are held.
+    place: usize,
+    file: F,
+    // Whether it was there before, as long as it is now.
+    is_as_long: bool,
 }
 
 // The least held name above `after`, and what stands there. Where it is a plain file, its length is taken down.
@@ -90,14 +99,6 @@ fn copy_kept(
     }
 }
 
-// The name that was written last, where its file is still open.
-fn name_if_open<'a, F>(file: &Option<F>, latest: &'a str) -> Option<&'a str> {
-    match file {
-        Some(_) => Some(latest),
-        None => None,
-    }
-}
-
 // Syncs the folders of the names that were taken away.
 fn sync_removed<R: Files + Alloc + Clone + Drop>(
     disk: &mut Disk<R>,
@@ -112,17 +113,16 @@ fn sync_removed<R: Files + Alloc + Clone + Drop>(
     Ok(())
 }
 
-// Syncs the files that were written, and their folders, but for the file of `latest`, which is synced already.
+// Syncs the files that were written and aren't synced yet, and their folders.
 fn sync_written<R: Files + Alloc + Clone + Drop>(
     disk: &mut Disk<R>,
     held: &Held,
-    latest: Option<&str>,
 ) -> Result<(), Trouble> {
     let mut last = None;
     for place in held.written() {
         let name = held.text(*place);
         // A name that was taken away in between has a second place.
-        if latest != Some(name) && last != Some(name) {
+        if !held.is_synced(*place) && last != Some(name) {
             disk.sync_file(name)?;
         }
         disk.sync_parts(name, last)?;
@@ -157,8 +157,7 @@ where
                 opened: false,
                 refusal: None,
                 held: None,
-                latest: String::new(alloc),
-                file: None,
+                latest: None,
                 changed: false,
                 noted: false,
                 placed: false,
@@ -292,6 +291,15 @@ where
         match &mut self.held {
             None => Ok(None),
             Some(held) => look_above(&mut self.disk, alloc, held, after),
+        }
+    }
+
+    // Takes down that the file of a name changes.
+    fn note_changed(&mut self, name: &Name)
+        ensures { self.new.faults ≡ self.old.faults }
+    {
+        if let Some(held) = &mut self.held {
+            held.note_changed(name);
         }
     }
 
@@ -435,9 +443,8 @@ where
         Ok(())
     }
 
-    // Takes down in the list of names that a name is written, before it is; whether nothing stands at its path yet, as the
-    // listing tells. Where memory is wanting, it is as it was.
-    fn list_written(&mut self, alloc: Global, name: &Name) -> Result<bool, Trouble>
+    // Takes down in the list of names that a name is written, before it is. Where memory is wanting, it is as it was.
+    fn list_written(&mut self, alloc: Global, name: &Name) -> Result<Written, Trouble>
         ensures { self.new.faults ≡ self.old.faults }
     {
         self.open()?;
@@ -448,15 +455,14 @@ where
         }
     }
 
-    // Takes down that a name is written, before it is, which changes nothing else; whether nothing stands at its path yet, as
-    // the listing tells.
-    fn note_written(&mut self, alloc: Global, name: &Name) -> Result<bool, PutFault>
+    // Takes down that a name is written, before it is, which changes nothing else.
+    fn note_written(&mut self, alloc: Global, name: &Name) -> Result<Written, PutFault>
         ensures failed { IsErrOf result PutFault.Failed → Counts self.old.faults self.new.faults }
         ensures later { self.old.faults ≤ self.new.faults }
         ensures never { IsErrOf result PutFault.Full → ⊥ }
     {
         match self.list_written(alloc, name) {
-            Ok(is_new) => Ok(is_new),
+            Ok(written) => Ok(written),
             Err(Trouble::NoMemory) => Err(PutFault::NoMemory),
             Err(_) => {
                 self.count();
@@ -495,35 +501,64 @@ where
         match answer {
             Ok(()) => Ok(()),
             Err(_) => {
-                self.file = None;
+                self.latest = None;
                 self.count();
                 Err(PutFault::Failed)
             }
         }
     }
 
-    // Keeps the file of the name that was written last open, where memory allows.
-    fn keep_open(&mut self, name: &Name, file: R::File)
+    // Takes down that the file of the name at a place is synced, as it was written last.
+    fn note_synced(&mut self, place: usize)
         ensures { self.new.faults ≡ self.old.faults }
     {
-        self.latest.clear();
-        if self.latest.push_str(name.as_str()).is_ok() {
-            self.file = Some(file);
+        if let Some(held) = &mut self.held {
+            held.note_synced(place);
         }
     }
 
-    // Whether a name was written last, and its file is still open.
-    fn is_open(&self, name: &str) -> bool {
-        self.file.is_some() && self.latest.as_str() == name
+    // Syncs a file that was written through itself.
+    fn sync_latest(&mut self, latest: &Latest<R::File>) -> Result<(), Trouble>
+        ensures { self.new.faults ≡ self.old.faults }
+    {
+        let synced = sync_open(&latest.file);
+        self.lost = self.lost || synced.is_err();
+        synced?;
+        self.note_synced(latest.place);
+        Ok(())
     }
 
-    fn put_file(&mut self, name: &Name, bytes: &[u8], is_new: bool) -> Result<(), Trouble>
+    // Lets the file that was written last go, before another is written. Where it is as long as before, it is synced
+    // first, through itself: a file system has nothing to note of it, and the next sync needn't open it. Of files that were
+    // made or have other lengths it notes many at once, where they are synced behind all that is written.
+    fn let_go(&mut self) -> Result<(), Trouble>
+        ensures { self.new.faults ≡ self.old.faults }
+    {
+        match self.latest.take() {
+            Some(latest) if latest.is_as_long => self.sync_latest(&latest),
+            _ => Ok(()),
+        }
+    }
+
+    // Whether the file of the name at a place was written last, and is still open.
+    fn is_open(&self, place: usize) -> bool {
+        match &self.latest {
+            Some(latest) => latest.place == place,
+            None => false,
+        }
+    }
+
+    fn put_file(&mut self, name: &Name, bytes: &[u8], written: Written) -> Result<(), Trouble>
         ensures { self.new.faults ≡ self.old.faults }
     {
         self.begin_change()?;
-        self.file = None;
-        let file = self.disk.put(name.as_str(), bytes, is_new)?;
-        self.keep_open(name, file);
+        self.let_go()?;
+        let (file, before) = self.disk.put(name.as_str(), bytes, written.is_new)?;
+        self.latest = Some(Latest {
+            place: written.place,
+            file,
+            is_as_long: before == Some(bytes.len() as u64),
+        });
         Ok(())
     }
 
@@ -531,22 +566,29 @@ where
     fn append_open(&mut self, bytes: &[u8]) -> Result<(), Trouble>
         ensures { self.new.faults ≡ self.old.faults }
     {
-        match &mut self.file {
-            Some(file) => self.disk.write_on(file, bytes),
+        match &mut self.latest {
+            Some(latest) => {
+                latest.is_as_long = false;
+                self.disk.write_on(&mut latest.file, bytes)
+            }
             None => Err(Trouble::Failed),
         }
     }
 
-    fn append_file(&mut self, name: &Name, bytes: &[u8], is_new: bool) -> Result<(), Trouble>
+    fn append_file(&mut self, name: &Name, bytes: &[u8], written: Written) -> Result<(), Trouble>
         ensures { self.new.faults ≡ self.old.faults }
     {
         self.begin_change()?;
-        if self.is_open(name.as_str()) {
+        if self.is_open(written.place) {
             return self.append_open(bytes);
         }
-        self.file = None;
-        let file = self.disk.append(name.as_str(), bytes, is_new)?;
-        self.keep_open(name, file);
+        self.let_go()?;
+        let file = self.disk.append(name.as_str(), bytes, written.is_new)?;
+        self.latest = Some(Latest {
+            place: written.place,
+            file,
+            is_as_long: false,
+        });
         Ok(())
     }
 
@@ -555,7 +597,7 @@ where
         ensures { self.new.faults ≡ self.old.faults }
     {
         self.begin_change()?;
-        self.note_length(name, None);
+        self.note_changed(name);
         let file = self.disk.mark(name.as_str(), byte)?;
         if self.is_reached(name) {
             return Ok(());
@@ -570,8 +612,8 @@ where
         ensures { self.new.faults ≡ self.old.faults }
     {
         self.begin_change()?;
-        self.note_length(name, None);
-        self.file = None;
+        self.note_changed(name);
+        self.latest = None;
         self.disk.remove(name.as_str())?;
         if self.note_removed(name) {
             return Ok(());
@@ -595,16 +637,17 @@ where
     fn sync_names(&mut self) -> Result<(), Trouble>
         ensures { self.new.faults ≡ self.old.faults }
     {
-        if let Some(file) = &self.file {
-            sync_open(file)?;
+        if let Some(latest) = &self.latest {
+            sync_open(&latest.file)?;
+            let place = latest.place;
+            self.note_synced(place);
         }
-        let latest = name_if_open(&self.file, self.latest.as_str());
         let Some(held) = &mut self.held else {
             return Ok(());
         };
         held.sort_changes();
         sync_removed(&mut self.disk, held)?;
-        sync_written(&mut self.disk, held, latest)
+        sync_written(&mut self.disk, held)
     }
 
     // Syncs what was written, and each folder in which a file was made or taken away.
@@ -637,7 +680,7 @@ where
         if let Some(held) = &mut self.held {
             held.set_synced();
         }
-        self.file = None;
+        self.latest = None;
         self.changed = false;
         Ok(())
     }
@@ -681,14 +724,14 @@ where
     }
 
     fn put(&mut self, alloc: Global, name: &Name, bytes: &[u8]) -> Result<(), PutFault> {
-        let is_new = self.note_written(alloc, name)?;
-        let put = self.put_file(name, bytes, is_new);
+        let written = self.note_written(alloc, name)?;
+        let put = self.put_file(name, bytes, written);
         self.written(put)
     }
 
     fn append(&mut self, alloc: Global, name: &Name, bytes: &[u8]) -> Result<(), PutFault> {
-        let is_new = self.note_written(alloc, name)?;
-        let appended = self.append_file(name, bytes, is_new);
+        let written = self.note_written(alloc, name)?;
+        let appended = self.append_file(name, bytes, written);
         self.written(appended)
     }
 

@@ -32,6 +32,17 @@ struct Known {
     kept: Option<usize>,
     // The round in which it was written last; 0 where it wasn't.
     written: u64,
+    // Whether its file was synced after it was written last.
+    is_synced: bool,
+}
+
+/// A name that is written.
+#[derive(Clone, Copy)]
+pub struct Written {
+    /// Its place.
+    pub place: usize,
+    /// Whether nothing stands at its path yet, as the listing and the changes since tell.
+    pub is_new: bool,
 }
 
 /// The names that are held, and those that were written or taken away since the last good sync. A place is that of one name
@@ -123,6 +134,12 @@ impl Known {
         self.length = length;
     }
 
+    // Takes down that its file changes.
+    fn set_changed(&mut self) {
+        self.set_length(None);
+        self.is_synced = false;
+    }
+
     // Whether a file of so many bytes may be kept whole.
     fn may_keep(&self, count: usize) -> bool {
         self.is_held && self.kept.is_none() && self.length == Some(count as u64)
@@ -179,6 +196,7 @@ impl Held {
             length: None,
             kept: None,
             written: 0,
+            is_synced: false,
         })?;
         Ok(())
     }
@@ -346,6 +364,13 @@ impl Held {
         }
     }
 
+    /// Takes down that the file of a name changes.
+    pub fn note_changed(&mut self, name: &Name) {
+        if let Some(known) = self.known(name) {
+            known.set_changed();
+        }
+    }
+
     /// The place of a name that is held.
     pub fn held_place(&mut self, name: &Name) -> Option<usize> {
         let place = self.place_of(name.as_str())?;
@@ -400,6 +425,7 @@ impl Held {
             length: None,
             kept: None,
             written: 0,
+            is_synced: false,
         })?;
         Ok(place)
     }
@@ -417,7 +443,7 @@ impl Held {
             return Ok(());
         };
         known.is_held = true;
-        known.set_length(None);
+        known.set_changed();
         if known.written != self.round {
             known.written = self.round;
             self.written.push(place)?;
@@ -425,9 +451,8 @@ impl Held {
         Ok(())
     }
 
-    /// Takes down that a name is written: it is held, and its length isn't known; whether nothing stands at its path yet, as
-    /// the listing and the changes since tell. After an error the names are as they were.
-    pub fn write(&mut self, alloc: Global, name: &Name) -> Result<bool, Trouble> {
+    /// Takes down that a name is written: it is held, and its length isn't known. After an error the names are as they were.
+    pub fn write(&mut self, alloc: Global, name: &Name) -> Result<Written, Trouble> {
         self.written.reserve(1)?;
         self.removed.reserve(self.known.len().saturating_add(1))?;
         let place = match self.place_of(name.as_str()) {
@@ -437,7 +462,22 @@ impl Held {
         self.end_gap();
         let is_new = self.is_whole && !is_held(self.known.as_slice(), place);
         self.write_at(place)?;
-        Ok(is_new)
+        Ok(Written { place, is_new })
+    }
+
+    /// Takes down that the file of the name at a place is synced, as it was written last.
+    pub fn note_synced(&mut self, place: usize) {
+        if let Some(known) = self.known.get_mut(place) {
+            known.is_synced = true;
+        }
+    }
+
+    /// Whether the file of the name at a place was synced after it was written last.
+    pub fn is_synced(&self, place: usize) -> bool {
+        match self.known.get(place) {
+            Some(known) => known.is_synced,
+            None => false,
+        }
     }
 
     /// Whether a name was written since the last good sync.
