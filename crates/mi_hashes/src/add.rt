@@ -93,7 +93,7 @@ pub fn add_file<S: Source, V: Volume>(
     ensures counts { S.faults src.old ≤ S.faults src.new }
     ensures source { IsErrOf result HashError.Source → count.Rose (S.faults src.old) (S.faults src.new) }
 {
-    match image.get(name.as_bytes()) {
+    match image.get(name.as_str()) {
         Some(Item::Head(head, content)) => {
             add_content(alloc, src, vol, hasher, name, content, head.length)?;
             Ok(())

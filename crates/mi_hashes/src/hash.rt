@@ -33,7 +33,7 @@ fn name_there(alloc: Global, image: &Image, path: &PathText) -> Result<Option<Na
     ensures { IfOk result (λ name. MatchOption name (get image.now (file_name path.now) ≡ None) (λ n. n ≡ file_name path.now)) }
 {
     let text = name_text(alloc, path)?;
-    if image.get(text.as_bytes()).is_none() {
+    if image.get(text.as_str()).is_none() {
         return Ok(None);
     }
     match Name::of(alloc, text.as_str()) {

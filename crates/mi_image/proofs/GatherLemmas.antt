@@ -1,6 +1,6 @@
 -- What a scan gathers: of pairs in the order in which they came, the last one of a name stands.
 use Rattle.std.proofs.Common.{◌≡◌, Bool, true, false, cond, List, [], ◌∷◌, ◌++◌, Option, Some, None, refl, sym, ap, subst, ◌∙◌}
-use Rattle.std.specs.Prelude.{reverse}
+use Rattle.std.specs.Prelude.{reverse, string_bytes}
 use Rattle.std.specs.Option.{option_map, option_or}
 use Rattle.std.specs.Cmp.{eq_by_cmp_equiv}
 use Rattle.std.specs.Cmp.Lexicographic.{nat_list_cmp_total}
@@ -68,16 +68,16 @@ made_at {K} {X} seen xs n made q = by_found (lookup (at_as seen q) n.entries) (l
 
 -- the items of the tree of these pairs
 pub made_of : (xs : List (Key × Boxed)) (n : BTreeMap Key Boxed) → IsFromIterResult key_cmp xs n → items_of n.entries ≡ items_of (reverse xs)
-made_of xs n made = same _ _ (λ q. get-items n.entries q ∙ ap (option_map unboxed) (made_at (λ (k : Key). k.items) xs n made q) ∙ sym (get-items (reverse xs) q))
+made_of xs n made = same _ _ (λ q. get-items n.entries q ∙ ap (option_map unboxed) (made_at (λ (k : Key). string_bytes k) xs n made q) ∙ sym (get-items (reverse xs) q))
 
 -- one pair more
-pub put_last : (xs : List (Key × Boxed)) (p : Key × Boxed) → items_of (reverse (xs ++ p ∷ [])) ≡ insert (items_of (reverse xs)) (p.0).items (unboxed p.1)
+pub put_last : (xs : List (Key × Boxed)) (p : Key × Boxed) → items_of (reverse (xs ++ p ∷ [])) ≡ insert (items_of (reverse xs)) (string_bytes p.0) (unboxed p.1)
 put_last xs p =
     ap items_of (reverse-append xs (p ∷ []))
     ∙ same _ _ (λ q.
     get-items (p ∷ reverse xs) q
-    ∙ either (same_name q (p.0).items) (lookup (at_as (λ (k : Key). k.items) q) (reverse xs))
-    ∙ sym (get-set_to (items_of (reverse xs)) (p.0).items (Some (unboxed p.1)) q ∙ ap (cond (same_name q (p.0).items) (Some (unboxed p.1))) (get-items (reverse xs) q)))
+    ∙ either (same_name q (string_bytes p.0)) (lookup (at_as (λ (k : Key). string_bytes k) q) (reverse xs))
+    ∙ sym (get-set_to (items_of (reverse xs)) (string_bytes p.0) (Some (unboxed p.1)) q ∙ ap (cond (same_name q (string_bytes p.0)) (Some (unboxed p.1))) (get-items (reverse xs) q)))
   where
     either : (b : Bool) (o : Option Boxed) → option_map unboxed (cond b (Some p.1) o) ≡ cond b (Some (unboxed p.1)) (option_map unboxed o)
     either true o = refl

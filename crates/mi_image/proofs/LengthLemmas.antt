@@ -1,6 +1,6 @@
 -- The least length of a key that is held, from a length on.
 use Rattle.std.proofs.Common.{◌≡◌, ℕ, zero, suc, ◌+◌, ◌-◌, ◌<◌, ◌≤◌, Bool, true, false, cond, eqb, List, [], ◌∷◌, ◌++◌, map, drop, length, get_or, Option, Some, None, Bor, refl, sym, ap, subst, ◌∙◌, eq-eqb, arith}
-use Rattle.std.specs.Prelude.{filter, nat_eq, not, ◌&&◌, IfSome, IfNone}
+use Rattle.std.specs.Prelude.{filter, nat_eq, not, ◌&&◌, IfSome, IfNone, string_bytes}
 use Rattle.std.specs.List.{starts_with}
 use Rattle.std.specs.Ordering.{is_le, is_eq, ordering_reverse}
 use Rattle.std.specs.declared.cmp.Ordering.{Ordering}
@@ -115,27 +115,27 @@ module _ {X : Type 0} (from : Name) where
 
 -- ---- the tree's entries
 
-from_pairs : (from : Name) (es : List (Key × Boxed)) → map pair_of (filter (λ e. is_le (name_cmp from e.0.items) && not false) es) ≡ filter (λ e. is_le (name_cmp from e.0) && not false) (map pair_of es)
+from_pairs : (from : Name) (es : List (Key × Boxed)) → map pair_of (filter (λ e. is_le (name_cmp from (string_bytes e.0)) && not false) es) ≡ filter (λ e. is_le (name_cmp from e.0) && not false) (map pair_of es)
 from_pairs from [] = refl
-from_pairs from (e ∷ es) = elim (is_le (name_cmp from e.0.items) && true) as (λ b. map pair_of (cond b (e ∷ filter (λ e. is_le (name_cmp from e.0.items) && not false) es) (filter (λ e. is_le (name_cmp from e.0.items) && not false) es)) ≡ cond b (pair_of e ∷ filter (λ e. is_le (name_cmp from e.0) && not false) (map pair_of es)) (filter (λ e. is_le (name_cmp from e.0) && not false) (map pair_of es))) [
+from_pairs from (e ∷ es) = elim (is_le (name_cmp from (string_bytes e.0)) && true) as (λ b. map pair_of (cond b (e ∷ filter (λ e. is_le (name_cmp from (string_bytes e.0)) && not false) es) (filter (λ e. is_le (name_cmp from (string_bytes e.0)) && not false) es)) ≡ cond b (pair_of e ∷ filter (λ e. is_le (name_cmp from e.0) && not false) (map pair_of es)) (filter (λ e. is_le (name_cmp from e.0) && not false) (map pair_of es))) [
   | true ↦ ap (λ (xs : List (Name × Item)). pair_of e ∷ xs) (from_pairs from es)
   | false ↦ from_pairs from es
 ]
 
-in_range : (m : BTreeMap Key Boxed) (image : Items) (from : Name) → items_of m.entries ≡ image → tree.IsOrdered key_cmp m → map pair_of (filter (λ e. is_le (name_cmp from e.0.items) && not false) m.entries) ≡ filter (λ e. is_le (name_cmp from e.0) && not false) (entries image)
+in_range : (m : BTreeMap Key Boxed) (image : Items) (from : Name) → items_of m.entries ≡ image → tree.IsOrdered key_cmp m → map pair_of (filter (λ e. is_le (name_cmp from (string_bytes e.0)) && not false) m.entries) ≡ filter (λ e. is_le (name_cmp from e.0) && not false) (entries image)
 in_range m image from is ordered = from_pairs from m.entries ∙ ap (filter (λ (e : Name × Item). is_le (name_cmp from e.0) && not false)) (sym (entries-items m ordered) ∙ ap entries is)
 
-pub none_in_range : (m : BTreeMap Key Boxed) (image : Items) (from : Name) (range : List (Key × Boxed)) → items_of m.entries ≡ image → tree.IsOrdered key_cmp m → range ≡ filter (λ e. is_le (name_cmp from e.0.items) && not false) m.entries → range ≡ []
+pub none_in_range : (m : BTreeMap Key Boxed) (image : Items) (from : Name) (range : List (Key × Boxed)) → items_of m.entries ≡ image → tree.IsOrdered key_cmp m → range ≡ filter (λ e. is_le (name_cmp from (string_bytes e.0)) && not false) m.entries → range ≡ []
     → (q : Name) (i : Item) → get image q ≡ Some i → is_le (name_cmp from q) ≡ false
 none_in_range m image from range is ordered found none q i at =
     none_from from (entries image) (sym (in_range m image from is ordered) ∙ ap (map pair_of) (sym found ∙ none)) q i (sym (get-entries image q) ∙ at)
 
-pub first_in_range : (m : BTreeMap Key Boxed) (image : Items) (from : Name) (range rest : List (Key × Boxed)) (k : Key) (i : Boxed) → items_of m.entries ≡ image → tree.IsOrdered key_cmp m → range ≡ filter (λ e. is_le (name_cmp from e.0.items) && not false) m.entries → range ≡ (k, i) ∷ rest
-    → IsFirstOf image from k.items (unboxed i)
+pub first_in_range : (m : BTreeMap Key Boxed) (image : Items) (from : Name) (range rest : List (Key × Boxed)) (k : Key) (i : Boxed) → items_of m.entries ≡ image → tree.IsOrdered key_cmp m → range ≡ filter (λ e. is_le (name_cmp from (string_bytes e.0)) && not false) m.entries → range ≡ (k, i) ∷ rest
+    → IsFirstOf image from (string_bytes k) (unboxed i)
 first_in_range m image from range rest k i is ordered found more =
-    let r = first_from from (entries image) k.items (unboxed i) (map pair_of rest) (true_of _ (entries_sorted image)) (sym (in_range m image from is ordered) ∙ ap (map pair_of) (sym found ∙ more)) in
+    let r = first_from from (entries image) (string_bytes k) (unboxed i) (map pair_of rest) (true_of _ (entries_sorted image)) (sym (in_range m image from is ordered) ∙ ap (map pair_of) (sym found ∙ more)) in
     record {
-      there = get-entries image k.items ∙ r.there;
+      there = get-entries image (string_bytes k) ∙ r.there;
       low = r.low;
       first = λ q j at up. r.first q j (sym (get-entries image q) ∙ at) up;
     }

@@ -1,3 +1,4 @@
+pub mod BufferLemmas
 pub mod EffectLemmas
 pub mod FrontLemmas
 pub mod GatherLemmas

@@ -1,10 +1,8 @@
 -- The lists of an image are those of its machine.
 use Rattle.std.proofs.Common.{◌≡◌, ℕ, suc, ◌+◌, ◌-◌, ◌<◌, ◌≤◌, Bool, true, false, cond, eqb, T, ◌&&◌, ◌||◌, ◌⊎◌, inl, inr, ⊎_elim, List, [], ◌∷◌, ◌++◌, map, drop, length, Option, Some, None, Result, Ok, Err, IfOk, Vec, Bor, refl, sym, ap, subst, ◌∙◌, append_assoc, arith}
-use Rattle.std.specs.Prelude.{filter, nat_eq, codes, min}
+use Rattle.std.specs.Prelude.{filter, nat_eq, codes, min, string_bytes}
 use Rattle.std.specs.declared.alloc.Global.{Global}
 use Rattle.std.specs.Str.{bytes_eq}
-use Rattle.std.specs.Ordering.{nat_cmp}
-use Rattle.std.specs.Cmp.Lexicographic.{slice_cmp}
 use Rattle.std.specs.BTreeMap.{BTreeMap}
 use Rattle.std.specs.BTreeMap as tree
 use Rattle.std.specs.List.{starts_with, filter_map, cons_option, AllByRecursion}
@@ -33,7 +31,7 @@ use Rattle.mi_image.specs.Items.{Items, Boxed, unboxed, items_of, entry_over, ma
 use Rattle.mi_image.specs.Lists.{picked, products_of, clients_of, clients_with, with_component, is_in_keys, value_below, values_under}
 use Rattle.mi_image.specs.Fronts.{value_front, begins_within}
 use Rattle.mi_image.specs.Picks.{product_in, client_in, client_with, value_in}
-use Rattle.mi_image.proofs.ItemLemmas.{pair_of, entries-items}
+use Rattle.mi_image.proofs.ItemLemmas.{Key, key_cmp, pair_of, entries-items}
 use Rattle.mi_image.proofs.LookupLemmas.{by_item}
 use Rattle.mi_image.proofs.PrefixLemmas.{starts_append, starts_is}
 use Rattle.mi_image.proofs.FrontLemmas.{one_length, begins_at_key, begins_below_key}
@@ -233,9 +231,9 @@ values_are held files items root key fold_key front key_is front_is right = list
 
 -- ---- what is found of a tree
 
-paired : (front : List ℕ) (es : List (Vec ℕ Global × Boxed)) → map (λ e. unboxed e.1) (filter (λ e. starts_with nat_eq e.0.items front) es) ≡ map (λ e. e.1) (filter (λ e. starts_with nat_eq e.0 front) (map pair_of es))
+paired : (front : List ℕ) (es : List (Key × Boxed)) → map (λ e. unboxed e.1) (filter (λ e. starts_with nat_eq (string_bytes e.0) front) es) ≡ map (λ e. e.1) (filter (λ e. starts_with nat_eq e.0 front) (map pair_of es))
 paired front [] = refl
-paired front (e ∷ es) = elim (starts_with nat_eq e.0.items front) as (λ b. map (λ e. unboxed e.1) (cond b (e ∷ filter (λ e. starts_with nat_eq e.0.items front) es) (filter (λ e. starts_with nat_eq e.0.items front) es)) ≡ map (λ e. e.1) (cond b (pair_of e ∷ filter (λ e. starts_with nat_eq e.0 front) (map pair_of es)) (filter (λ e. starts_with nat_eq e.0 front) (map pair_of es)))) [
+paired front (e ∷ es) = elim (starts_with nat_eq (string_bytes e.0) front) as (λ b. map (λ e. unboxed e.1) (cond b (e ∷ filter (λ e. starts_with nat_eq (string_bytes e.0) front) es) (filter (λ e. starts_with nat_eq (string_bytes e.0) front) es)) ≡ map (λ e. e.1) (cond b (pair_of e ∷ filter (λ e. starts_with nat_eq e.0 front) (map pair_of es)) (filter (λ e. starts_with nat_eq e.0 front) (map pair_of es)))) [
   | true ↦ ap (λ (is : List Item). unboxed e.1 ∷ is) (paired front es)
   | false ↦ paired front es
 ]
@@ -244,22 +242,22 @@ pub ok_both : {X E : Type 0} → (r : Result X E) (P Q R : X → Type 0) → ((x
 ok_both (Ok x) P Q R h p q = h x p q
 ok_both (Err e) P Q R h p q = tt
 
-pub found_in : {E : Type 0} → (r : Result (Vec (Bor Item) Global) E) (m : BTreeMap (Vec ℕ Global) Boxed) (image : Items) (front : List ℕ) → items_of m.entries ≡ image
-    → IfOk r (λ found. map (λ i. i.now) found.items ≡ map (λ e. unboxed e.1) (filter (λ e. starts_with nat_eq e.0.items front) m.entries)) → IfOk r (λ _. tree.IsOrdered (λ a b. slice_cmp nat_cmp a.items b.items) m)
+pub found_in : {E : Type 0} → (r : Result (Vec (Bor Item) Global) E) (m : BTreeMap Key Boxed) (image : Items) (front : List ℕ) → items_of m.entries ≡ image
+    → IfOk r (λ found. map (λ i. i.now) found.items ≡ map (λ e. unboxed e.1) (filter (λ e. starts_with nat_eq (string_bytes e.0) front) m.entries)) → IfOk r (λ _. tree.IsOrdered key_cmp m)
     → IfOk r (λ found. map (λ i. i.now) found.items ≡ map (λ e. e.1) (filter (λ e. starts_with nat_eq e.0 front) (entries image)))
 found_in r m image front is found ordered = ok_both r _ _ _ (λ v at sorted. at ∙ paired front m.entries
     ∙ ap (λ es. map (λ (e : Name × Item). e.1) (filter (λ e. starts_with nat_eq e.0 front) es)) (sym (entries-items m sorted) ∙ ap entries is)) found ordered
 
-named : (front : List ℕ) (es : List (Vec ℕ Global × Boxed)) → map (λ e. e.0.items) (filter (λ e. starts_with nat_eq e.0.items front) es) ≡ filter (λ q. starts_with nat_eq q front) (map (λ e. e.0) (map pair_of es))
+named : (front : List ℕ) (es : List (Key × Boxed)) → map (λ e. string_bytes e.0) (filter (λ e. starts_with nat_eq (string_bytes e.0) front) es) ≡ filter (λ q. starts_with nat_eq q front) (map (λ e. e.0) (map pair_of es))
 named front [] = refl
-named front (e ∷ es) = elim (starts_with nat_eq e.0.items front) as (λ b. map (λ e. e.0.items) (cond b (e ∷ filter (λ e. starts_with nat_eq e.0.items front) es) (filter (λ e. starts_with nat_eq e.0.items front) es)) ≡ cond b (e.0.items ∷ filter (λ q. starts_with nat_eq q front) (map (λ e. e.0) (map pair_of es))) (filter (λ q. starts_with nat_eq q front) (map (λ e. e.0) (map pair_of es)))) [
-  | true ↦ ap (λ (qs : List Name). e.0.items ∷ qs) (named front es)
+named front (e ∷ es) = elim (starts_with nat_eq (string_bytes e.0) front) as (λ b. map (λ e. string_bytes e.0) (cond b (e ∷ filter (λ e. starts_with nat_eq (string_bytes e.0) front) es) (filter (λ e. starts_with nat_eq (string_bytes e.0) front) es)) ≡ cond b (string_bytes e.0 ∷ filter (λ q. starts_with nat_eq q front) (map (λ e. e.0) (map pair_of es))) (filter (λ q. starts_with nat_eq q front) (map (λ e. e.0) (map pair_of es)))) [
+  | true ↦ ap (λ (qs : List Name). string_bytes e.0 ∷ qs) (named front es)
   | false ↦ named front es
 ]
 
 -- the names that are found in a tree are those of the machine
-pub names_in : {E : Type 0} → (held files : Map (List ℕ)) (r : Result (Vec (Bor (List ℕ)) Global) E) (m : BTreeMap (Vec ℕ Global) Boxed) (image : Items) (front : List ℕ) → items_of m.entries ≡ image
-    → IfOk r (λ found. map (λ n. n.now) found.items ≡ map (λ e. e.0.items) (filter (λ e. starts_with nat_eq e.0.items front) m.entries)) → IfOk r (λ _. tree.IsOrdered (λ a b. slice_cmp nat_cmp a.items b.items) m)
+pub names_in : {E : Type 0} → (held files : Map (List ℕ)) (r : Result (Vec (Bor (List ℕ)) Global) E) (m : BTreeMap Key Boxed) (image : Items) (front : List ℕ) → items_of m.entries ≡ image
+    → IfOk r (λ found. map (λ n. n.now) found.items ≡ map (λ e. string_bytes e.0) (filter (λ e. starts_with nat_eq (string_bytes e.0) front) m.entries)) → IfOk r (λ _. tree.IsOrdered key_cmp m)
     → IfOk r (λ found. map (λ n. n.now) found.items ≡ filter (λ q. starts_with nat_eq q front) (fin.keys (machine_over held files image)))
 unfolding machine_over
 names_in held files r m image front is found ordered = ok_both r _ _ _ (λ v at sorted. at ∙ named front m.entries

@@ -1,6 +1,6 @@
 -- The names of the system's properties are the last.
 use Rattle.std.proofs.Common.{◌≡◌, ℕ, ◌≤◌, Bool, true, false, cond, ◌||◌, List, [], ◌∷◌, ◌++◌, map, drop, get_or, Option, Some, None, refl, sym, ap, subst, ◌∙◌, arith}
-use Rattle.std.specs.Prelude.{codes, find, option_map}
+use Rattle.std.specs.Prelude.{codes, find, option_map, string_bytes}
 use Rattle.std.specs.Str.{bytes_eq}
 use Rattle.std.proofs.lemmas.Slice.Eq.{bytes_eq-Decides}
 use Rattle.std.specs.List.{list_any, AllByRecursion}
@@ -81,10 +81,10 @@ of_last P [] x all = all.0
 of_last P (y ∷ xs) x all = of_last P xs x all.1
 
 abbrev holds_system : Key → Bool
-holds_system k = is_system_property k.items
+holds_system k = is_system_property (string_bytes k)
 
 -- of names in order the last tells
-any_last : (ks : List Key) (l : Key) → IsStrictlySortedBy key_cmp (ks ++ l ∷ []) → HasKind l.items → list_any holds_system (ks ++ l ∷ []) ≡ holds_system l
+any_last : (ks : List Key) (l : Key) → IsStrictlySortedBy key_cmp (ks ++ l ∷ []) → HasKind (string_bytes l) → list_any holds_system (ks ++ l ∷ []) ≡ holds_system l
 any_last [] l sorted kind = either (holds_system l)
   where
     either : (b : Bool) → (b || false) ≡ b
@@ -92,7 +92,7 @@ any_last [] l sorted kind = either (holds_system l)
     either false = refl
 any_last (k ∷ ks) l sorted kind =
     elim (holds_system k) as (λ b. holds_system k ≡ b → (b || list_any holds_system (ks ++ l ∷ [])) ≡ holds_system l) [
-      | true ↦ λ b. sym (is_last (drop 2 k.items) l.items (ap (λ (n : Name). name_cmp n l.items) (sym (starts_is k.items (codes "y/") b)) ∙ of_last (λ y. key_cmp k y ≡ Less) ks l (sorted_head key_cmp k (ks ++ l ∷ []) sorted)) kind)
+      | true ↦ λ b. sym (is_last (drop 2 (string_bytes k)) (string_bytes l) (ap (λ (n : Name). name_cmp n (string_bytes l)) (sym (starts_is (string_bytes k) (codes "y/") b)) ∙ of_last (λ y. key_cmp k y ≡ Less) ks l (sorted_head key_cmp k (ks ++ l ∷ []) sorted)) kind)
       | false ↦ λ b. any_last ks l (sorted_tail key_cmp k (ks ++ l ∷ []) sorted) kind
     ] refl
 
@@ -103,19 +103,19 @@ any_names : (es : List (Key × Boxed)) → list_any is_system_property (map (λ 
 any_names [] = refl
 any_names (e ∷ es) = ap (λ b. holds_system e.0 || b) (any_names es)
 
-each_kind : (es : List (Key × Boxed)) → AllByRecursion (λ (e : Name × Item). MayStand e.0 e.1) (map pair_of es) → AllByRecursion (λ k. HasKind k.items) (keys_of es)
+each_kind : (es : List (Key × Boxed)) → AllByRecursion (λ (e : Name × Item). MayStand e.0 e.1) (map pair_of es) → AllByRecursion (λ k. HasKind (string_bytes k)) (keys_of es)
 each_kind [] all = tt
-each_kind (e ∷ es) all = (has_kind e.0.items (unboxed e.1) all.0, each_kind es all.1)
+each_kind (e ∷ es) all = (has_kind (string_bytes e.0) (unboxed e.1) all.0, each_kind es all.1)
 
 any_held : (m : BTreeMap Key Boxed) (image : Items) → items_of m.entries ≡ image → tree.IsOrdered key_cmp m → list_any is_system_property (keys image) ≡ list_any holds_system (keys_of m.entries)
 any_held m image is ordered = ap (λ (items : Items). list_any is_system_property (keys items)) (sym is) ∙ ap (λ (es : List (Name × Item)). list_any is_system_property (map (λ e. e.0) es)) (entries-items m ordered) ∙ any_names m.entries
 
 -- a property of the system is held where the last name is of one
-pub held_at_last : (m : BTreeMap Key Boxed) (image : Items) (front : List Key) (l : Key) → items_of m.entries ≡ image → AreRight image → tree.IsOrdered key_cmp m → keys_of m.entries ≡ front ++ l ∷ [] → is_system_property l.items ≡ list_any is_system_property (keys image)
+pub held_at_last : (m : BTreeMap Key Boxed) (image : Items) (front : List Key) (l : Key) → items_of m.entries ≡ image → AreRight image → tree.IsOrdered key_cmp m → keys_of m.entries ≡ front ++ l ∷ [] → is_system_property (string_bytes l) ≡ list_any is_system_property (keys image)
 held_at_last m image front l is right ordered at =
-    let kinds : AllByRecursion (λ (k : Key). HasKind k.items) (keys_of m.entries) =
+    let kinds : AllByRecursion (λ (k : Key). HasKind (string_bytes k)) (keys_of m.entries) =
     each_kind m.entries (subst (λ (es : List (Name × Item)). AllByRecursion (λ e. MayStand e.0 e.1) es) (ap entries (sym is) ∙ entries-items m ordered) (each_right image right)) in
-    let kind : HasKind l.items = of_last (λ (k : Key). HasKind k.items) front l (subst (λ (ks : List Key). AllByRecursion (λ k. HasKind k.items) ks) at kinds) in
+    let kind : HasKind (string_bytes l) = of_last (λ (k : Key). HasKind (string_bytes k)) front l (subst (λ (ks : List Key). AllByRecursion (λ k. HasKind (string_bytes k)) ks) at kinds) in
     sym (any_held m image is ordered ∙ ap (list_any holds_system) at ∙ any_last front l (subst (IsStrictlySortedBy key_cmp) at ordered) kind)
 
 -- none is where there is no name

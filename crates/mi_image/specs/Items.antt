@@ -1,5 +1,5 @@
 -- The items of an image, and the machine that they stand for (this project's own).
-use Rattle.std.specs.Prelude.{◌≡◌, ℕ, Bool, true, false, List, [], length, map, Option, Some, None, Vec}
+use Rattle.std.specs.Prelude.{◌≡◌, ℕ, Bool, true, false, List, [], length, map, Option, Some, None, String, string_bytes}
 use Rattle.std.specs.FinMap.{get, from_entries}
 use Rattle.std.specs.declared.alloc.Global.{Global}
 use Rattle.std.specs.declared.boxed.Box.{Box}
@@ -30,8 +30,8 @@ abbrev pub unboxed : Boxed → Item
 unboxed b = b.value
 
 -- what the entries of the tree make
-abbrev pub items_of : List (Vec ℕ Global × Boxed) → Items
-items_of es = map_values unboxed (from_entries (map (λ e. (e.0.items, e.1)) es))
+abbrev pub items_of : List (String Global × Boxed) → Items
+items_of es = map_values unboxed (from_entries (map (λ e. (string_bytes e.0, e.1)) es))
 
 -- the bytes of a file; none where there is no such file
 abbrev pub bytes_of_file : Option Entry → List ℕ

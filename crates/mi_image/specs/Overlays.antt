@@ -1,19 +1,19 @@
 -- An image that changes, beside what it was before. (This project's own.)
-use Rattle.std.specs.Prelude.{ℕ, ◌++◌, List, map, Option, unwrap_or, Vec}
+use Rattle.std.specs.Prelude.{ℕ, ◌++◌, List, map, Option, option_map, unwrap_or, String, string_bytes}
 use Rattle.std.specs.declared.alloc.Global.{Global}
 use Rattle.std.specs.FinMap.{get, keys, from_entries}
-use Rattle.mi_text.specs.Maps.{Map, tabulated}
+use Rattle.mi_text.specs.Maps.{Map, map_values, tabulated}
 use Rattle.mi_image.specs.declared.item.Item.{Item}
 use Rattle.mi_base.specs.Machine.{Machine}
-use Rattle.mi_image.specs.Items.{Items, machine_over}
+use Rattle.mi_image.specs.Items.{Items, Boxed, unboxed, machine_over}
 
 -- what stood at the names that were changed, or that nothing did
 abbrev pub Stood : Type 0
 Stood = Map (Option Item)
 
 -- what the entries of the program's tree make
-abbrev pub stood_of : List (Vec ℕ Global × Option Item) → Stood
-stood_of es = from_entries (map (λ e. (e.0.items, e.1)) es)
+abbrev pub stood_of : List (String Global × Option Boxed) → Stood
+stood_of es = map_values (option_map unboxed) (from_entries (map (λ e. (string_bytes e.0, e.1)) es))
 
 -- the items before the changes: at the names that were changed what stood there, and at all others what stands there
 unfoldable pub before : Items → Stood → Items

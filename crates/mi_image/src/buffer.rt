@@ -1,18 +1,19 @@
 //! Names that are composed without memory.
 
-ghost use Rattle.std.specs.Prelude.{◌≡◌, ◌<◌, ◌≤◌, ◌+◌, ◌++◌, ◌∷◌, [], length};
+ghost use Rattle.std.specs.Prelude.{◌≡◌, ◌<◌, ◌+◌, ◌++◌, [], length};
 ghost use Rattle.std.specs.Bool.{OnTrue, OnFalse};
 ghost use Rattle.mi_text.specs.Fold.{folded};
 ghost use Rattle.mi_text.specs.Guid.{guid_text};
 
 use mi_base::Guid;
 use std::marker::Model;
+use std::str;
 use uuid::Uuid;
 
 /// The length of the longest name, in bytes.
 const NAME_LIMIT: usize = 1024;
 
-/// The front of a name, of at most 1,024 bytes.
+/// The front of a name, a text of at most 1,024 bytes.
 #[derive(Drop)]
 pub struct NameBuffer {
     bytes: [u8; 1024],
@@ -20,17 +21,18 @@ pub struct NameBuffer {
 }
 
 impl Model for NameBuffer {
-    ghost use Rattle.std.specs.Prelude.{List, ℕ, ◌≤◌, take};
+    ghost use Rattle.std.specs.Prelude.{◌≡◌, List, ℕ, ◌≤◌, take, true};
+    ghost use Rattle.std.specs.Str.{is_utf8};
 
     ghost Value = { List ℕ };
 
     ghost view = { λ b. take b.len b.bytes };
 
-    ghost invariant = { λ b. b.len ≤ 1024 };
+    ghost invariant = { λ b. (b.len ≤ 1024) × (is_utf8 (take b.len b.bytes) ≡ true) };
 }
 
 impl NameBuffer {
-    /// No bytes.
+    /// The empty text.
     pub fn new() -> NameBuffer
         ensures { result ≡ [] }
     {
@@ -40,36 +42,29 @@ impl NameBuffer {
         }
     }
 
-    /// The bytes so far.
-    pub fn as_slice(&self) -> &[u8]
+    /// The text so far.
+    pub fn as_str(&self) -> &str
         ensures { result.now ≡ self.now }
     {
-        &self.bytes[..self.len]
+        match str::from_utf8(&self.bytes[..self.len]) {
+            Ok(text) => text,
+            Err(_) => unreachable!(),
+        }
     }
 
-    /// Adds a byte, where there is room.
-    fn push(&mut self, byte: u8) -> bool
-        ensures fits { OnTrue result (self.new ≡ self.old ++ byte ∷ []) }
-        ensures full { OnFalse result (length self.old ≡ 1024) }
+    /// Adds a text, where there is room.
+    pub fn push_str(&mut self, text: &str) -> bool
+        ensures fits { OnTrue result (self.new ≡ self.old ++ text.now) }
+        ensures full { OnFalse result (1024 < length self.old + length text.now) }
     {
-        if self.len == NAME_LIMIT {
+        let text = text.as_bytes();
+        let start = self.len;
+        if text.len() > NAME_LIMIT - start {
             return false;
         }
-        self.bytes[self.len] = byte;
-        self.len += 1;
-        true
-    }
-
-    /// Adds bytes, where there is room.
-    pub fn push_all(&mut self, bytes: &[u8]) -> bool
-        ensures fits { OnTrue result (self.new ≡ self.old ++ bytes.now) }
-        ensures full { OnFalse result (1024 < length self.old + length bytes.now) }
-    {
-        for byte in bytes {
-            if !self.push(*byte) {
-                return false;
-            }
-        }
+        let end = start + text.len();
+        self.bytes[start..end].copy_from_slice(text);
+        self.len = end;
         true
     }
 
@@ -78,11 +73,15 @@ impl NameBuffer {
         ensures fits { OnTrue result (self.new ≡ self.old ++ folded text.now) }
         ensures full { OnFalse result (1024 < length self.old + length text.now) }
     {
-        for byte in text.as_bytes() {
-            if !self.push(byte.to_ascii_lowercase()) {
-                return false;
-            }
+        let text = text.as_bytes();
+        let start = self.len;
+        if text.len() > NAME_LIMIT - start {
+            return false;
         }
+        let end = start + text.len();
+        self.bytes[start..end].copy_from_slice(text);
+        self.bytes[start..end].make_ascii_lowercase();
+        self.len = end;
         true
     }
 
@@ -94,6 +93,6 @@ impl NameBuffer {
         let mut buffer = Uuid::encode_buffer();
         let braced = Uuid::from_u128(code.number).braced();
         let text = braced.encode_upper(&mut buffer);
-        self.push_all(text.as_bytes())
+        self.push_str(text)
     }
 }

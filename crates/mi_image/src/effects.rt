@@ -34,7 +34,7 @@ impl Image {
         requires { is_some (length_in (tree.get self.now from.now)) ≡ true }
         ensures { (held files : Map (List ℕ)) (other : List ℕ) → IfOk result (λ c. content_bytes held files other c ≡ bytes_of_file (tree.get (machine_over held files self.now) from.now)) }
     {
-        match self.get(from.as_bytes()) {
+        match self.get(from.as_str()) {
             Some(Item::Head(_, content)) => content_for_another(alloc, content, from),
             Some(Item::Whole(_)) => unreachable!(),
             None => unreachable!(),

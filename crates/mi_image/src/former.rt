@@ -1,19 +1,20 @@
 //! What stood at the names of an image that were changed.
 
-ghost use Rattle.std.specs.Prelude.{◌≡◌, List, ℕ, OnOk, OnErr, None, is_some, true};
-ghost use Rattle.std.specs.Option.{option_copied};
+ghost use Rattle.std.specs.Prelude.{◌≡◌, OnOk, OnErr, IfErr, None, is_some, true, string_bytes};
+ghost use Rattle.std.specs.Option.{option_copied, option_map};
 ghost use Rattle.std.specs.FinMap as tree;
+ghost use Rattle.mi_image.specs.Items.{unboxed};
 
+use crate::image::lent;
 use crate::item::Item;
-use mi_base::NoMemory;
-use std::alloc::Global;
+use std::alloc::{AllocFailed, Global};
 use std::collections::BTreeMap;
 use std::marker::Model;
 
-/// What stood at some names, or that nothing did (this project's own).
+/// What stood at some names, or that nothing did (this project's own). Items keep the boxes that they had in the image.
 #[derive(Drop)]
 pub struct Former {
-    items: BTreeMap<Vec<u8>, Option<Item>>,
+    items: BTreeMap<String, Option<Box<Item>>>,
 }
 
 impl Model for Former {
@@ -39,15 +40,18 @@ impl Former {
         }
     }
 
-    /// What stood at a name, where it was changed.
-    pub fn get(&self, name: &[u8]) -> Option<&Option<Item>>
-        ensures { option_copied result ≡ tree.get self.now name.now }
+    /// What stood at a name, where it was changed. No memory.
+    pub fn get(&self, name: &str) -> Option<Option<&Item>>
+        ensures { option_map option_copied result ≡ tree.get self.now name.now }
     {
-        self.items.get(name)
+        match self.items.get(name) {
+            Some(stood) => Some(lent(stood.as_ref())),
+            None => None,
+        }
     }
 
     /// Whether a name was changed. No memory.
-    pub fn holds(&self, name: &[u8]) -> bool
+    pub fn holds(&self, name: &str) -> bool
         ensures { result ≡ is_some (tree.get self.now name.now) }
     {
         match self.get(name) {
@@ -56,32 +60,34 @@ impl Former {
         }
     }
 
-    /// Notes that nothing stood at a name.
-    pub fn mark(&mut self, key: Vec<u8>) -> Result<(), NoMemory>
-        ensures ok { OnOk result (self.new ≡ tree.insert self.old key.items None) }
+    /// Notes what stood at a name. Where memory is refused both come back.
+    pub fn note(
+        &mut self,
+        key: String,
+        was: Option<Box<Item>>,
+    ) -> Result<(), AllocFailed<(String, Option<Box<Item>>)>>
+        ensures ok { OnOk result (self.new ≡ tree.insert self.old (string_bytes key) (option_map unboxed was)) }
+        ensures absent { OnErr result (tree.get self.old (string_bytes key) ≡ None) }
+        ensures back { IfErr result (λ refused. refused.value ≡ (key, was)) }
         ensures err { OnErr result (self.new ≡ self.old) }
     {
-        let was = self.items.insert(key, None)?;
-        drop(was);
-        Ok(())
-    }
-
-    /// Notes what stood at a name that is marked. No memory.
-    pub fn fill(&mut self, key: Vec<u8>, item: Option<Item>)
-        requires marked { is_some (tree.get self.old key.items) ≡ true }
-        ensures { self.new ≡ tree.insert self.old key.items item }
-    {
-        match self.items.insert(key, item) {
-            Ok(was) => drop(was),
-            Err(_) => unreachable!(),
+        match self.items.insert(key, was) {
+            Ok(former) => {
+                drop(former);
+                Ok(())
+            }
+            Err(refused) => Err(refused),
         }
     }
 
-    /// Takes a mark away. No memory.
-    pub fn unmark(&mut self, name: &[u8])
-        ensures { self.new ≡ tree.remove self.old name.now }
+    /// Notes what stood at a name that is marked. No memory.
+    pub fn fill(&mut self, key: String, was: Option<Box<Item>>)
+        requires marked { is_some (tree.get self.old (string_bytes key)) ≡ true }
+        ensures { self.new ≡ tree.insert self.old (string_bytes key) (option_map unboxed was) }
     {
-        let was = self.items.remove(name);
-        drop(was);
+        match self.note(key, was) {
+            Ok(()) => {}
+            Err(_) => unreachable!(),
+        }
     }
 }

@@ -1,11 +1,11 @@
 //! The image of a machine.
 
-ghost use Rattle.std.specs.Prelude.{◌≡◌, List, ℕ, Some, false, IfSome, IfNone, IfOk, OnOk, OnErr, map, filter, nat_eq};
+ghost use Rattle.std.specs.Prelude.{◌≡◌, List, ℕ, Some, true, false, is_some, IfSome, IfNone, IfOk, OnOk, OnErr, map, filter, nat_eq, string_bytes};
 ghost use Rattle.std.specs.Option.{option_copied, option_map};
 ghost use Rattle.std.specs.List.{list_any, starts_with};
 ghost use Rattle.std.specs.FinMap as tree;
 ghost use Rattle.std.specs.Ordering.{is_le};
-ghost use Rattle.mi_text.specs.Maps.{Map, name_cmp};
+ghost use Rattle.mi_text.specs.Maps.{Map, name_cmp, set_to};
 ghost use Rattle.mi_base.specs.System.{is_system_property};
 ghost use Rattle.mi_image.specs.Items.{unboxed, machine_over, MayStand, AreRight};
 ghost use Rattle.mi_image.specs.declared.item.Item as item_value;
@@ -26,7 +26,7 @@ use std::ops::Bound;
 /// since nodes of the tree have room for more than they hold.
 #[derive(Drop)]
 pub struct Image {
-    items: BTreeMap<Vec<u8>, Box<Item>>,
+    items: BTreeMap<String, Box<Item>>,
 }
 
 impl Model for Image {
@@ -44,22 +44,12 @@ impl Model for Image {
     ghost invariant = { λ a. AreRight (items_of a.items.entries) };
 }
 
-// The item in its box.
-fn lent(item: Option<&Box<Item>>) -> Option<&Item>
+/// The item in its box.
+pub(crate) fn lent(item: Option<&Box<Item>>) -> Option<&Item>
     ensures { option_copied result ≡ option_map unboxed (option_copied item.entry) }
 {
     match item {
         Some(item) => Some(item.as_ref()),
-        None => None,
-    }
-}
-
-// The item out of its box.
-fn taken_out(was: Option<Box<Item>>) -> Option<Item>
-    ensures { result ≡ option_map unboxed was }
-{
-    match was {
-        Some(item) => Some(Box::into_inner(item)),
         None => None,
     }
 }
@@ -81,7 +71,7 @@ fn boxed(alloc: Global, item: Item) -> Result<Box<Item>, NoMemory>
 /// byte order, each is compared with its neighbours alone.
 #[derive(Drop)]
 pub(crate) struct Gathered {
-    pairs: Vec<(Vec<u8>, Box<Item>)>,
+    pairs: Vec<(String, Box<Item>)>,
 }
 
 impl Model for Gathered {
@@ -116,7 +106,7 @@ impl Gathered {
         ensures ok { OnOk result (self.new ≡ tree.insert self.old name.now item) }
     {
         let item = boxed(alloc, item)?;
-        let key = Vec::from_slice(alloc, name.as_bytes())?;
+        let key = String::from_str(alloc, name.as_str())?;
         self.pairs.push((key, item))?;
         Ok(())
     }
@@ -137,7 +127,7 @@ impl Image {
         ensures right { AreRight self.now }
     {
         let items = &self.items;
-        lent(items.get(name?.as_slice()))
+        lent(items.get(name?.as_str()))
     }
 
     /// Whether a property of the system is held, which takes no memory: their names are the last.
@@ -145,30 +135,30 @@ impl Image {
         ensures { result ≡ list_any is_system_property (tree.keys self.now) }
     {
         match self.items.keys().next_back() {
-            Some(name) => name.as_slice().starts_with(b"y/"),
+            Some(name) => name.as_bytes().starts_with(b"y/"),
             None => false,
         }
     }
 
-    /// What stands at the names that begin with some bytes, in byte order.
-    pub(crate) fn under(&self, alloc: Global, front: &[u8]) -> Result<Vec<&Item>, NoMemory>
+    /// What stands at the names that begin so, in byte order.
+    pub(crate) fn under(&self, alloc: Global, front: &str) -> Result<Vec<&Item>, NoMemory>
         ensures found { IfOk result (λ found. map (λ i. i.now) found.items ≡ map (λ e. e.1) (filter (λ e. starts_with nat_eq e.0 front.now) (tree.entries self.now))) }
         ensures right { AreRight self.now }
     {
         items_under(alloc, &self.items, front)
     }
 
-    /// The names that begin with some bytes, in byte order, lent (this project's own). One search and what is listed.
-    pub fn names(&self, alloc: Global, front: &[u8]) -> Result<Vec<&[u8]>, NoMemory>
+    /// The names that begin so, in byte order, lent (this project's own). One search and what is listed.
+    pub fn names(&self, alloc: Global, front: &str) -> Result<Vec<&str>, NoMemory>
         ensures { (held files : Map (List ℕ)) → IfOk result (λ names. map (λ n. n.now) names.items ≡ filter (λ q. starts_with nat_eq q front.now) (tree.keys (machine_over held files self.now))) }
     {
         names_under(alloc, &self.items, front)
     }
 
-    /// What stands at the first name that isn't below these bytes. No memory.
-    pub(crate) fn first_from(&self, from: &Vec<u8>) -> Option<(&Vec<u8>, &Item)>
-        ensures none { IfNone result ((q : List ℕ) (i : item_value.Item) → tree.get self.now q ≡ Some i → is_le (name_cmp from.now.items q) ≡ false) }
-        ensures first { IfSome result (λ e. IsFirstOf self.now from.now.items e.0.now.items e.1.now) }
+    /// What stands at the first name that isn't below this one. No memory.
+    pub(crate) fn first_from(&self, from: &String) -> Option<(&String, &Item)>
+        ensures none { IfNone result ((q : List ℕ) (i : item_value.Item) → tree.get self.now q ≡ Some i → is_le (name_cmp (string_bytes from.now) q) ≡ false) }
+        ensures first { IfSome result (λ e. IsFirstOf self.now (string_bytes from.now) (string_bytes e.0.now) e.1.now) }
         ensures right { AreRight self.now }
     {
         let items = &self.items;
@@ -184,7 +174,7 @@ impl Image {
         ensures ok { OnOk result (self.new ≡ tree.insert self.old name.now item) }
         ensures err { OnErr result (self.new ≡ self.old) }
     {
-        match Vec::from_slice(alloc, name.as_bytes()) {
+        match String::from_str(alloc, name.as_str()) {
             Ok(key) => self.put_at(alloc, key, item),
             Err(_) => {
                 drop(item);
@@ -193,9 +183,9 @@ impl Image {
         }
     }
 
-    fn put_at(&mut self, alloc: Global, key: Vec<u8>, item: Item) -> Result<(), NoMemory>
-        requires { MayStand key.items item }
-        ensures ok { OnOk result (self.new ≡ tree.insert self.old key.items item) }
+    fn put_at(&mut self, alloc: Global, key: String, item: Item) -> Result<(), NoMemory>
+        requires { MayStand (string_bytes key) item }
+        ensures ok { OnOk result (self.new ≡ tree.insert self.old (string_bytes key) item) }
         ensures err { OnErr result (self.new ≡ self.old) }
     {
         let former = self.exchange(alloc, key, item)?;
@@ -207,30 +197,57 @@ impl Image {
     pub(crate) fn exchange(
         &mut self,
         alloc: Global,
-        key: Vec<u8>,
+        key: String,
         item: Item,
-    ) -> Result<Option<Item>, NoMemory>
-        requires { MayStand key.items item }
-        ensures value { IfOk result (λ was. was ≡ tree.get self.old key.items) }
-        ensures ok { OnOk result (self.new ≡ tree.insert self.old key.items item) }
+    ) -> Result<Option<Box<Item>>, NoMemory>
+        requires { MayStand (string_bytes key) item }
+        ensures value { IfOk result (λ was. option_map unboxed was ≡ tree.get self.old (string_bytes key)) }
+        ensures right { IfOk result (λ _. AreRight self.old) }
+        ensures ok { OnOk result (self.new ≡ tree.insert self.old (string_bytes key) item) }
         ensures err { OnErr result (self.new ≡ self.old) }
     {
         let item = boxed(alloc, item)?;
         let was = self.items.insert(key, item)?;
-        Ok(taken_out(was))
+        Ok(was)
+    }
+
+    // Sets what stands at a name where something stands. No memory.
+    fn replace(&mut self, key: String, item: Box<Item>)
+        requires set { is_some (tree.get self.old (string_bytes key)) ≡ true }
+        requires may { MayStand (string_bytes key) (unboxed item) }
+        ensures { self.new ≡ tree.insert self.old (string_bytes key) (unboxed item) }
+    {
+        match self.items.insert(key, item) {
+            Ok(was) => drop(was),
+            Err(_) => unreachable!(),
+        }
+    }
+
+    /// Puts back what stood at a name that was set. No memory.
+    pub(crate) fn put_back(&mut self, key: String, was: Option<Box<Item>>)
+        requires set { is_some (tree.get self.old (string_bytes key)) ≡ true }
+        requires may { (i : item_value.Item) → option_map unboxed was ≡ Some i → MayStand (string_bytes key) i }
+        ensures { self.new ≡ set_to self.old (string_bytes key) (option_map unboxed was) }
+    {
+        match was {
+            Some(item) => self.replace(key, item),
+            None => {
+                let set = self.take(key.as_str());
+                drop(set);
+            }
+        }
     }
 
     /// Takes away what stands at a name, and hands it out. No memory.
-    pub(crate) fn take(&mut self, name: &[u8]) -> Option<Item>
-        ensures value { result ≡ tree.get self.old name.now }
+    pub(crate) fn take(&mut self, name: &str) -> Option<Box<Item>>
+        ensures value { option_map unboxed result ≡ tree.get self.old name.now }
         ensures gone { self.new ≡ tree.remove self.old name.now }
     {
-        let was = self.items.remove(name);
-        taken_out(was)
+        self.items.remove(name)
     }
 
     /// What stands at a name of the volume (this project's own). No memory.
-    pub fn get(&self, name: &[u8]) -> Option<&Item>
+    pub fn get(&self, name: &str) -> Option<&Item>
         ensures value { option_copied result ≡ tree.get self.now name.now }
         ensures right { AreRight self.now }
     {

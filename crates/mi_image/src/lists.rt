@@ -23,7 +23,7 @@ impl Image {
     pub fn products(&self, alloc: Global) -> Result<Vec<Product>, NoMemory>
         ensures { (held files : Map (List ℕ)) → IfOk result (λ products. products.items ≡ products_of (machine_over held files self.now)) }
     {
-        let items = self.under(alloc, b"p/")?;
+        let items = self.under(alloc, "p/")?;
         pick_all(alloc, items.as_slice(), &EachProduct)
     }
 
@@ -31,7 +31,7 @@ impl Image {
     pub fn clients(&self, alloc: Global) -> Result<Vec<Client>, NoMemory>
         ensures { (held files : Map (List ℕ)) → IfOk result (λ clients. clients.items ≡ clients_of (machine_over held files self.now)) }
     {
-        let items = self.under(alloc, b"c/")?;
+        let items = self.under(alloc, "c/")?;
         pick_all(alloc, items.as_slice(), &EachClient)
     }
 
@@ -41,7 +41,7 @@ impl Image {
     {
         let mut front = Text::copy_of(alloc, "c/")?;
         front.push_str(component.print(alloc)?.as_str())?;
-        let items = self.under(alloc, front.as_bytes())?;
+        let items = self.under(alloc, front.as_str())?;
         pick_all(alloc, items.as_slice(), &ClientsOf(component))
     }
 
@@ -80,14 +80,14 @@ impl Image {
         ensures right { IfOk result (λ found. AreRight self.now) }
     {
         let name = value_front(alloc, root, key.len(), key)?;
-        let mut found = self.under(alloc, name.as_slice())?;
+        let mut found = self.under(alloc, name.as_str())?;
         if key.len() >= KEY_LIMIT {
             return Ok(found);
         }
         let mut last = key.len();
         while let Some(size) = self.next_length(alloc, root, last + 1, front)? {
             let name = value_front(alloc, root, size, front)?;
-            let items = self.under(alloc, name.as_slice())?;
+            let items = self.under(alloc, name.as_str())?;
             found.extend_from_slice(items.as_slice())?;
             last = size;
         }

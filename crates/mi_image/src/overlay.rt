@@ -1,9 +1,11 @@
 //! An image that a plan changes, beside what it was before.
 
-ghost use Rattle.std.specs.Prelude.{◌≡◌, List, ℕ, IfOk, OnOk, OnErr, None};
-ghost use Rattle.std.specs.Option.{option_copied};
+ghost use Rattle.std.specs.Prelude.{◌≡◌, IfOk, OnOk, OnErr, Some, None, is_some, true, string_bytes};
+ghost use Rattle.std.specs.Option.{option_copied, option_map};
 ghost use Rattle.std.specs.FinMap as tree;
-ghost use Rattle.mi_image.specs.Items.{MayStand};
+ghost use Rattle.mi_text.specs.Maps.{set_to};
+ghost use Rattle.mi_image.specs.declared.item.Item as item_value;
+ghost use Rattle.mi_image.specs.Items.{MayStand, unboxed};
 ghost use Rattle.mi_image.specs.Overlays.{before, former_items, present_items};
 
 use crate::former::Former;
@@ -34,91 +36,96 @@ impl Model for Overlay {
     ghost view = { λ o. (before o.image o.former, o.image) };
 }
 
-// Sets what stands at a name that wasn't changed yet: it is marked first, so that what stood there is noted without
+// Notes what stood at a name that was set, or puts it back where there is no memory for a note.
+fn note_or_put_back(
+    image: &mut Image,
+    former: &mut Former,
+    key: String,
+    was: Option<Box<Item>>,
+) -> Result<(), NoMemory>
+    requires set { is_some (tree.get image.old (string_bytes key)) ≡ true }
+    requires may { (i : item_value.Item) → option_map unboxed was ≡ Some i → MayStand (string_bytes key) i }
+    ensures stays { OnOk result (image.new ≡ image.old) }
+    ensures noted { OnOk result (former.new ≡ tree.insert former.old (string_bytes key) (option_map unboxed was)) }
+    ensures back { OnErr result (image.new ≡ set_to image.old (string_bytes key) (option_map unboxed was)) }
+    ensures err { OnErr result (former.new ≡ former.old) }
+{
+    match former.note(key, was) {
+        Ok(()) => Ok(()),
+        Err(refused) => {
+            let (key, was) = refused.value;
+            image.put_back(key, was);
+            Err(NoMemory)
+        }
+    }
+}
+
+// Sets what stands at a name that wasn't changed yet. What stood there is noted last, since it can be put back without
 // memory.
 fn put_first(
     alloc: Global,
     image: &mut Image,
     former: &mut Former,
-    keys: (Vec<u8>, Vec<u8>, Vec<u8>),
+    keys: (String, String),
     item: Item,
 ) -> Result<(), NoMemory>
-    requires may { MayStand keys.0.items item }
-    requires second { keys.1.items ≡ keys.0.items }
-    requires third { keys.2.items ≡ keys.0.items }
-    requires new { tree.get former.old keys.0.items ≡ None }
-    ensures ok { OnOk result (image.new ≡ tree.insert image.old keys.0.items item) }
+    requires may { MayStand (string_bytes keys.0) item }
+    requires same { string_bytes keys.1 ≡ string_bytes keys.0 }
+    requires new { tree.get former.old (string_bytes keys.0) ≡ None }
+    ensures ok { OnOk result (image.new ≡ tree.insert image.old (string_bytes keys.0) item) }
     ensures err { OnErr result (image.new ≡ image.old) }
     ensures before { before image.new former.new ≡ before image.old former.old }
 {
-    let (key, mark, name) = keys;
-    match former.mark(mark) {
-        Ok(()) => {}
-        Err(_) => {
-            drop(key);
-            drop(name);
-            drop(item);
-            return Err(NoMemory);
-        }
-    }
+    let (key, name) = keys;
     match image.exchange(alloc, key, item) {
         Ok(was) => {
-            former.fill(name, was);
+            note_or_put_back(image, former, name, was)?;
             Ok(())
         }
         Err(_) => {
-            former.unmark(name.as_slice());
             drop(name);
             Err(NoMemory)
         }
     }
 }
 
-// Takes away what stands at a name that wasn't changed yet.
+// Takes away what stands at a name that wasn't changed yet: it is marked first, so that what stood there is noted
+// without memory.
 fn take_first(
     image: &mut Image,
     former: &mut Former,
-    mark: Vec<u8>,
-    name: Vec<u8>,
+    mark: String,
+    name: String,
 ) -> Result<(), NoMemory>
-    requires same { name.items ≡ mark.items }
-    requires new { tree.get former.old mark.items ≡ None }
-    ensures ok { OnOk result (image.new ≡ tree.remove image.old mark.items) }
+    requires same { string_bytes name ≡ string_bytes mark }
+    requires new { tree.get former.old (string_bytes mark) ≡ None }
+    ensures ok { OnOk result (image.new ≡ tree.remove image.old (string_bytes mark)) }
     ensures err { OnErr result (image.new ≡ image.old) }
     ensures before { before image.new former.new ≡ before image.old former.old }
 {
-    match former.mark(mark) {
+    match former.note(mark, None) {
         Ok(()) => {
-            let was = image.take(name.as_slice());
+            let was = image.take(name.as_str());
             former.fill(name, was);
             Ok(())
         }
-        Err(_) => {
+        Err(refused) => {
+            drop(refused);
             drop(name);
             Err(NoMemory)
         }
     }
 }
 
-// Three copies of a name.
-fn three_of(alloc: Global, name: &[u8]) -> Result<(Vec<u8>, Vec<u8>, Vec<u8>), NoMemory>
-    ensures first { IfOk result (λ keys. keys.0.items ≡ name.now) }
-    ensures second { IfOk result (λ keys. keys.1.items ≡ name.now) }
-    ensures third { IfOk result (λ keys. keys.2.items ≡ name.now) }
+// Two copies of a name.
+fn two_of(alloc: Global, name: &str) -> Result<(String, String), NoMemory>
+    ensures first { IfOk result (λ keys. string_bytes keys.0 ≡ name.now) }
+    ensures second { IfOk result (λ keys. string_bytes keys.1 ≡ name.now) }
 {
     Ok((
-        Vec::from_slice(alloc, name)?,
-        Vec::from_slice(alloc, name)?,
-        Vec::from_slice(alloc, name)?,
+        String::from_str(alloc, name)?,
+        String::from_str(alloc, name)?,
     ))
-}
-
-// Two copies of a name.
-fn two_of(alloc: Global, name: &[u8]) -> Result<(Vec<u8>, Vec<u8>), NoMemory>
-    ensures first { IfOk result (λ keys. keys.0.items ≡ name.now) }
-    ensures second { IfOk result (λ keys. keys.1.items ≡ name.now) }
-{
-    Ok((Vec::from_slice(alloc, name)?, Vec::from_slice(alloc, name)?))
 }
 
 impl Overlay {
@@ -141,11 +148,11 @@ impl Overlay {
     }
 
     /// What stood at a name before the changes. No memory.
-    pub fn was(&self, name: &[u8]) -> Option<&Item>
+    pub fn was(&self, name: &str) -> Option<&Item>
         ensures { option_copied result ≡ tree.get (former_items self.now) name.now }
     {
         match self.former.get(name) {
-            Some(stood) => stood.as_ref(),
+            Some(stood) => stood,
             None => self.image.get(name),
         }
     }
@@ -157,10 +164,10 @@ impl Overlay {
         ensures err { OnErr result (present_items self.new ≡ present_items self.old) }
         ensures former { former_items self.new ≡ former_items self.old }
     {
-        if self.former.holds(name.as_bytes()) {
+        if self.former.holds(name.as_str()) {
             return self.image.put(alloc, name, item);
         }
-        match three_of(alloc, name.as_bytes()) {
+        match two_of(alloc, name.as_str()) {
             Ok(keys) => put_first(alloc, &mut self.image, &mut self.former, keys, item),
             Err(_) => {
                 drop(item);
@@ -175,12 +182,12 @@ impl Overlay {
         ensures err { OnErr result (present_items self.new ≡ present_items self.old) }
         ensures former { former_items self.new ≡ former_items self.old }
     {
-        if self.former.holds(name.as_bytes()) {
-            let was = self.image.take(name.as_bytes());
+        if self.former.holds(name.as_str()) {
+            let was = self.image.take(name.as_str());
             drop(was);
             return Ok(());
         }
-        let (mark, key) = two_of(alloc, name.as_bytes())?;
+        let (mark, key) = two_of(alloc, name.as_str())?;
         take_first(&mut self.image, &mut self.former, mark, key)
     }
 }

@@ -50,7 +50,7 @@ impl Image {
         }
         let mut front = Text::copy_of(alloc, kind)?;
         front.push_str(fold(alloc, folder.as_str())?.as_str())?;
-        let items = self.under(alloc, front.as_bytes())?;
+        let items = self.under(alloc, front.as_str())?;
         pick_all(alloc, items.as_slice(), pick)
     }
 
@@ -83,14 +83,14 @@ impl Image {
     }
 
     // What stands at a name, and at the names that begin with it and a backslash.
-    fn at_and_below(&self, alloc: Global, name: &[u8]) -> Result<Vec<&Item>, NoMemory>
+    fn at_and_below(&self, alloc: Global, name: &str) -> Result<Vec<&Item>, NoMemory>
         ensures found { IfOk result (λ found. map (λ i. i.now) found.items ≡ map (λ e. e.1) (filter (λ e. same_name name.now e.0 || starts_with nat_eq e.0 (name.now ++ 92 ∷ [])) (entries self.now))) }
         ensures right { IfOk result (λ _. AreRight self.now) }
     {
-        let mut front = Vec::from_slice(alloc, name)?;
-        front.push(b'\\')?;
+        let mut front = String::from_str(alloc, name)?;
+        front.push_str("\\")?;
         let mut found = found_there(alloc, self.get(name))?;
-        let below = self.under(alloc, front.as_slice())?;
+        let below = self.under(alloc, front.as_str())?;
         found.extend_from_slice(below.as_slice())?;
         Ok(found)
     }
@@ -102,7 +102,7 @@ impl Image {
         // No key has a greater root than 3.
         let key = fold(alloc, key)?;
         let name = key_front(alloc, root.min(9), key.as_str())?;
-        let items = self.at_and_below(alloc, name.as_slice())?;
+        let items = self.at_and_below(alloc, name.as_str())?;
         pick_all(alloc, items.as_slice(), &EachKey)
     }
 }

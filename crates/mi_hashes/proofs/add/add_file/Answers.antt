@@ -13,7 +13,7 @@ returns-in_ok-add_content-in-Some-Head-clause-adds g c = λ told source there m 
     let q = c.args.name.now in
     let h = c.in-Some-Head.head in
     let content = c.in-Some-Head.content in
-    let at : get items q ≡ Some (Head h content) = found_at items c.as_bytes.result.now q c.in-Some-Head.field-0.now (Head h content) c.in-Some-Head.ensures.value c.as_bytes.ensures.bytes c.in-Some-Head.field-0-is in
+    let at : get items q ≡ Some (Head h content) = found_at items c.as_str.result.now q c.in-Some-Head.field-0.now (Head h content) c.in-Some-Head.ensures.value c.as_str.ensures.text c.in-Some-Head.field-0-is in
     holds_with _ m _ _ (content_there held files items q h content c.get.ensures.right at)
     (c.in_ok-add_content-in-Some-Head.ensures.adds told source (as_stated held files items q h content c.get.ensures.right there at) m holds)
 
@@ -24,7 +24,7 @@ returns-in-Some-Whole-clause-adds g c = λ told source there m holds.
     let items = c.args.image.now in
     let q = c.args.name.now in
     let e = c.in-Some-Whole.field-0-0 in
-    let at : get items q ≡ Some (Whole e) = found_at items c.as_bytes.result.now q c.in-Some-Whole.field-0.now (Whole e) c.in-Some-Whole.ensures.value c.as_bytes.ensures.bytes c.in-Some-Whole.field-0-is in
+    let at : get items q ≡ Some (Whole e) = found_at items c.as_str.result.now q c.in-Some-Whole.field-0.now (Whole e) c.in-Some-Whole.ensures.value c.as_str.ensures.text c.in-Some-Whole.field-0-is in
     holds_same c.args.hasher.now m _ (bytes_of_whole held files items q e c.get.ensures.right at) holds
 
 pub returns-in-None-clause-adds : goal.returns-in-None-clause-adds
@@ -33,5 +33,5 @@ returns-in-None-clause-adds g c = λ told source there m holds.
     let files = g.S.Source.files c.args.src.now in
     let items = c.args.image.now in
     let q = c.args.name.now in
-    let at : get items q ≡ None = missing_at items c.as_bytes.result.now q c.in-None.ensures.value c.as_bytes.ensures.bytes in
+    let at : get items q ≡ None = missing_at items c.as_str.result.now q c.in-None.ensures.value c.as_str.ensures.text in
     holds_same c.args.hasher.now m _ (bytes_of_none held files items q at) holds

@@ -6,15 +6,15 @@ use Rattle.mi_text.specs.Guid.{guid_text}
 use Rattle.mi_image.proofs.buffer.NameBuffer.push_code.Goals as goal
 
 -- what was written is the code's text
-written : (written text xs : List ℕ) (n : ℕ) → written ≡ text → text ≡ braced_text upper xs → xs ≡ to_be_bytes w128 n → written ≡ guid_text n
-written w text xs n a b e = a ∙ b ∙ ap (braced_text upper) e
+written : (text xs : List ℕ) (n : ℕ) → text ≡ braced_text upper xs → xs ≡ to_be_bytes w128 n → text ≡ guid_text n
+written text xs n is bytes = is ∙ ap (braced_text upper) bytes
 
 pub returns-clause-fits : goal.returns-clause-fits
 returns-clause-fits c =
-    let is = written c.as_bytes.result.now c.encode_upper-text.result.now c.braced-braced.result c.args.code.number c.as_bytes.ensures.value c.encode_upper-text.ensures.text (c.braced-braced.ensures ∙ c.from_u128.ensures) in
-    subst (λ (t : List ℕ). OnTrue c.push_all.result (c.push_all.new.self ≡ c.args.self.now ++ t)) is c.push_all.ensures.fits
+    let is = written c.encode_upper-text.result.now c.braced-braced.result c.args.code.number c.encode_upper-text.ensures.text (c.braced-braced.ensures ∙ c.from_u128.ensures) in
+    subst (λ (t : List ℕ). OnTrue c.push_str.result (c.push_str.new.self ≡ c.args.self.now ++ t)) is c.push_str.ensures.fits
 
 pub returns-clause-full : goal.returns-clause-full
 returns-clause-full c =
-    let is = written c.as_bytes.result.now c.encode_upper-text.result.now c.braced-braced.result c.args.code.number c.as_bytes.ensures.value c.encode_upper-text.ensures.text (c.braced-braced.ensures ∙ c.from_u128.ensures) in
-    subst (λ (t : List ℕ). OnFalse c.push_all.result (1024 < length c.args.self.now + length t)) is c.push_all.ensures.full
+    let is = written c.encode_upper-text.result.now c.braced-braced.result c.args.code.number c.encode_upper-text.ensures.text (c.braced-braced.ensures ∙ c.from_u128.ensures) in
+    subst (λ (t : List ℕ). OnFalse c.push_str.result (1024 < length c.args.self.now + length t)) is c.push_str.ensures.full

@@ -16,7 +16,7 @@ stands : (c : goal.In_ok-push) → items_of (reverse c.push.new.self.items) ≡ 
 stands c =
     ap (λ (ps : List (Key × Boxed)). items_of (reverse ps)) c.in_ok-push.ensures.items
     ∙ put_last c.self.inside.pairs.items (c.in_ok-key.key, c.in_ok-item.item)
-    ∙ ap (λ (n : List ℕ). map.insert (before c) n (unboxed c.in_ok-item.item)) (c.in_ok-key.ensures.items ∙ c.as_bytes.ensures.bytes)
+    ∙ ap (λ (n : List ℕ). map.insert (before c) n (unboxed c.in_ok-item.item)) (c.in_ok-key.ensures.ok ∙ c.as_str.ensures.text)
     ∙ ap (λ (i : Item). map.insert (before c) c.args.name.now i) c.in_ok-item.ensures
 
 pub invariant_of-self : goal.invariant_of-self

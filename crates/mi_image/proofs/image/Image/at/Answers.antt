@@ -10,8 +10,8 @@ use Rattle.mi_image.proofs.image.Image.at.Goals as goal
 
 pub returns-clause-value : goal.returns-clause-value
 returns-clause-value c q composed =
-    let named : c.as_slice.result.now ≡ q = c.as_slice.ensures ∙ subst (IsComposed q) c.in_ok-name.was composed in
-    c.lent.ensures ∙ ap (option_map unboxed) c.get.ensures.value ∙ sym (get-items c.self.inside.items.entries c.as_slice.result.now) ∙ ap (λ m. map.get m c.as_slice.result.now) c.self.view_is ∙ ap (map.get c.args.self.now) named
+    let named : c.as_str.result.now ≡ q = c.as_str.ensures ∙ subst (IsComposed q) c.in_ok-name.was composed in
+    c.lent.ensures ∙ ap (option_map unboxed) c.get.ensures.value ∙ sym (get-items c.self.inside.items.entries c.as_str.result.now) ∙ ap (λ m. map.get m c.as_str.result.now) c.self.view_is ∙ ap (map.get c.args.self.now) named
 
 pub returns-clause-right : goal.returns-clause-right
 returns-clause-right c = subst (λ m. AreRight m) c.self.view_is c.self.invariant

@@ -8,7 +8,7 @@ use Rattle.mi_image.proofs.image.Image.has_system.Goals as goal
 pub returns-in-Some : goal.returns-in-Some
 returns-in-Some c =
     let right : AreRight c.args.self.now = subst (λ (m : Items). AreRight m) c.self.view_is c.self.invariant in
-    c.starts_with.ensures.value ∙ ap (λ (n : List ℕ). starts_with nat_eq n (codes "y/")) c.as_slice.ensures.value
+    c.starts_with.ensures.value ∙ ap (λ (n : List ℕ). starts_with nat_eq n (codes "y/")) c.as_bytes.ensures.value
     ∙ held_at_last c.self.inside.items c.args.self.now c.next_back.new.self c.in-Some.name.now c.self.view_is right c.keys.ensures.ordered (sym c.keys.ensures.rest ∙ c.in-Some.ensures.steps)
 
 pub returns-in-None : goal.returns-in-None

@@ -9,7 +9,7 @@ use Rattle.mi_image.proofs.overlay.Overlay.was.Goals as goal
 pub returns-in-Some : goal.returns-in-Some
 returns-in-Some c =
     let name = c.args.name.now in
-    c.as_ref.ensures.value ∙ ap (λ (s : Option (Option Item)). unwrap_or s (map.get c.self.inside.image name)) c.in-Some.ensures
+    ap (λ (s : Option (Option Item)). unwrap_or s (map.get c.self.inside.image name)) c.in-Some.ensures
     ∙ sym (get-before c.self.inside.image c.self.inside.former name) ∙ ap (λ (o : Overlaid). map.get o.0 name) c.self.view_is
 
 pub returns-in-None : goal.returns-in-None
