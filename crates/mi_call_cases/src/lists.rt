@@ -58,15 +58,15 @@ pub fn list_values(image: &Image, call: &mut Call<'_>) {
     }
 }
 
-fn push_names(names: &[&[u8]], call: &mut Call<'_>) {
+fn push_names(names: &[&str], call: &mut Call<'_>) {
     for name in names {
-        call.say(name);
+        call.say_word(name);
     }
 }
 
 /// Adds the names of the volume that begin so.
 pub fn list_names(image: &Image, call: &mut Call<'_>) {
-    let front = call.bytes(0);
+    let front = call.text(0);
     match &image.names(call.alloc(), front) {
         Ok(names) => push_names(names.as_slice(), call),
         Err(NoMemory) => call.no_memory(),

@@ -94,7 +94,7 @@ fn number_in(entry: &Entry) -> u32
 fn number_at(image: &Image, name: &Name) -> u32
     ensures { (held files : Map (List ℕ)) → result ≡ count_in (get (machine_over held files image.now) name.now) }
 {
-    match image.get(name.as_bytes()) {
+    match image.get(name.as_str()) {
         Some(item) => match item {
             Item::Whole(entry) => number_in(entry),
             Item::Head(_, _) => 0,
@@ -199,7 +199,7 @@ fn lowered_at(alloc: Global, image: &Image, name: &Name) -> Result<Option<Entry>
     ensures left { (held files : Map (List ℕ)) → IfOk result (λ o. option_or o (get (machine_over held files image.now) name.now) ≡ lowered (get (machine_over held files image.now) name.now)) }
     ensures right { IfOk result (λ o. IfSome o (MayStandAt name.now)) }
 {
-    match image.get(name.as_bytes()) {
+    match image.get(name.as_str()) {
         Some(item) => match item {
             Item::Whole(entry) => lowered(alloc, entry),
             Item::Head(_, _) => Ok(None),

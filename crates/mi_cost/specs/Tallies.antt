@@ -1,6 +1,6 @@
 -- What the program counts: sizes that records state, the greatest for each name, and what they come to over the items of an image.
 -- (This project's own.)
-use Rattle.std.specs.Prelude.{ℕ, Bool, ◌+◌, ◌*◌, ◌-◌, max, List, [], ◌∷◌, length, map, fold, sum_by, Option, Some, None, option_map, is_some, unwrap_or, Vec, if◌then◌else◌}
+use Rattle.std.specs.Prelude.{ℕ, Bool, ◌+◌, ◌*◌, ◌-◌, max, List, [], ◌∷◌, length, map, fold, sum_by, Option, Some, None, option_map, is_some, unwrap_or, String, string_bytes, if◌then◌else◌}
 use Rattle.std.specs.List.{list_all}
 use Rattle.std.specs.declared.alloc.Global.{Global}
 use Rattle.std.specs.FinMap.{get, insert, empty, from_entries}
@@ -26,11 +26,11 @@ abbrev pub Sizes : Type 0
 Sizes = Map ℕ
 
 -- an entry of the program's tree
-abbrev pub pair_of : Vec ℕ Global × ℕ → Name × ℕ
-pair_of e = (e.0.items, e.1)
+abbrev pub pair_of : String Global × ℕ → Name × ℕ
+pair_of e = (string_bytes e.0, e.1)
 
 -- what these entries make
-abbrev pub sizes_of : List (Vec ℕ Global × ℕ) → Sizes
+abbrev pub sizes_of : List (String Global × ℕ) → Sizes
 sizes_of es = from_entries (map pair_of es)
 
 abbrev pub size_in : Sizes → Name → ℕ

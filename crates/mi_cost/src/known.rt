@@ -19,7 +19,7 @@ use std::marker::Model;
 /// For each name the greatest size that a record has stated of it so far (this project's own).
 #[derive(Drop)]
 pub struct Sizes {
-    sizes: BTreeMap<Vec<u8>, u128>,
+    sizes: BTreeMap<String, u128>,
 }
 
 impl Model for Sizes {
@@ -45,7 +45,7 @@ impl Sizes {
     }
 
     // What is known of a name.
-    fn size(&self, name: &[u8]) -> Option<u128>
+    fn size(&self, name: &str) -> Option<u128>
         ensures { result ≡ tree.get self.now name.now }
     {
         self.sizes.get(name).copied()
@@ -54,14 +54,14 @@ impl Sizes {
     fn knows(&self, rec: &Rec) -> bool
         ensures { result ≡ is_known self.now (name_at rec.now) }
     {
-        self.size(rec.name().as_bytes()).is_some()
+        self.size(rec.name().as_str()).is_some()
     }
 
-    fn set(&mut self, alloc: Global, name: &[u8], size: u128) -> Result<(), NoMemory>
+    fn set(&mut self, alloc: Global, name: &str, size: u128) -> Result<(), NoMemory>
         ensures ok { OnOk result (self.new ≡ tree.insert self.old name.now size) }
         ensures err { OnErr result (self.new ≡ self.old) }
     {
-        let key = Vec::from_slice(alloc, name)?;
+        let key = String::from_str(alloc, name)?;
         let _ = self.sizes.insert(key, size)?;
         Ok(())
     }
@@ -69,7 +69,7 @@ impl Sizes {
     fn note(&mut self, alloc: Global, rec: &Rec) -> Result<(), NoMemory>
         ensures { OnOk result (self.new ≡ with_record self.old rec.now) }
     {
-        let name = rec.name().as_bytes();
+        let name = rec.name().as_str();
         let size = self.size(name).unwrap_or(0).max(stated_size(rec));
         self.set(alloc, name, size)?;
         Ok(())

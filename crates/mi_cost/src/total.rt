@@ -1,6 +1,6 @@
 //! What names cost over an image.
 
-ghost use Rattle.std.specs.Prelude.{◌≡◌, ◌+◌, ◌-◌, ◌*◌, ◌<◌, ◌≤◌, ◌^◌, IfOk, IfSome, IsErrOf, map, sum_by};
+ghost use Rattle.std.specs.Prelude.{◌≡◌, ◌+◌, ◌-◌, ◌*◌, ◌<◌, ◌≤◌, ◌^◌, IfOk, IfSome, IsErrOf, map, string_bytes, sum_by};
 ghost use Rattle.std.specs.BTreeMap.{IsOrdered};
 ghost use Rattle.mi_text.specs.Maps.{name_cmp};
 ghost use Rattle.mi_cost.specs.Tallies.{note_length, held_size, length_at, counted, pair_of};
@@ -25,7 +25,7 @@ fn plus(sum: u64, more: u128) -> Result<u64, CostError>
 }
 
 // The bytes of the record that a name had.
-fn length_before(alloc: Global, image: &Image, name: &[u8]) -> Result<Option<u128>, NoMemory>
+fn length_before(alloc: Global, image: &Image, name: &str) -> Result<Option<u128>, NoMemory>
     ensures bytes { IfOk result (λ o. o ≡ length_at image.now name.now) }
     ensures bound { IfOk result (λ o. IfSome o (λ n. n < 2 ^ 67)) }
 {
@@ -36,7 +36,7 @@ fn length_before(alloc: Global, image: &Image, name: &[u8]) -> Result<Option<u12
 }
 
 // The bytes of a name's note.
-fn note_length(name: &[u8], before: Option<u128>) -> u128
+fn note_length(name: &str, before: Option<u128>) -> u128
     requires { IfSome before (λ n. n < 2 ^ 67) }
     ensures { result ≡ note_length name.now before }
 {
@@ -47,7 +47,7 @@ fn note_length(name: &[u8], before: Option<u128>) -> u128
 }
 
 // How much a name gets greater than it was.
-fn growth(name: &[u8], before: Option<u128>, greatest: u128) -> u128
+fn growth(name: &str, before: Option<u128>, greatest: u128) -> u128
     requires { IfSome before (λ n. n < 2 ^ 67) }
     ensures { result ≡ greatest - held_size name.now before }
 {
@@ -62,7 +62,7 @@ fn count(
     alloc: Global,
     image: &Image,
     sum: u64,
-    name: &[u8],
+    name: &str,
     greatest: u128,
 ) -> Result<u64, CostError>
     ensures ok { IfOk result (λ n. n ≡ sum + counted image.now (name.now, greatest)) }
@@ -77,15 +77,15 @@ fn count(
 fn count_names(
     alloc: Global,
     image: &Image,
-    sizes: &BTreeMap<Vec<u8>, u128>,
+    sizes: &BTreeMap<String, u128>,
 ) -> Result<u64, CostError>
     ensures ok { IfOk result (λ n. n ≡ sum_by (counted image.now) (map pair_of sizes.now.entries)) }
     ensures too_big { IsErrOf result CostError.TooBig → 2 ^ 64 ≤ sum_by (counted image.now) (map pair_of sizes.now.entries) }
-    ensures ordered { IsOrdered (λ a b. name_cmp a.items b.items) sizes.now }
+    ensures ordered { IsOrdered (λ a b. name_cmp (string_bytes a) (string_bytes b)) sizes.now }
 {
     let mut sum = 0;
     for (name, greatest) in sizes.iter() {
-        sum = count(alloc, image, sum, name.as_slice(), *greatest)?;
+        sum = count(alloc, image, sum, name.as_str(), *greatest)?;
     }
     Ok(sum)
 }
@@ -95,11 +95,11 @@ pub fn count_all(
     alloc: Global,
     image: &Image,
     entries: u64,
-    sizes: &BTreeMap<Vec<u8>, u128>,
+    sizes: &BTreeMap<String, u128>,
 ) -> Result<u64, CostError>
     ensures ok { IfOk result (λ n. n ≡ 4 + 25 * entries + sum_by (counted image.now) (map pair_of sizes.now.entries)) }
     ensures too_big { IsErrOf result CostError.TooBig → 2 ^ 64 ≤ 4 + 25 * entries + sum_by (counted image.now) (map pair_of sizes.now.entries) }
-    ensures ordered { IsOrdered (λ a b. name_cmp a.items b.items) sizes.now }
+    ensures ordered { IsOrdered (λ a b. name_cmp (string_bytes a) (string_bytes b)) sizes.now }
 {
     let names = count_names(alloc, image, sizes)?;
     plus(names, 4 + 25 * entries as u128)

@@ -55,7 +55,7 @@ fn require_product(loaded: &Package, image: &Image, recorded: bool) -> Result<()
 fn items_stand(image: &Image)
     ensures { AreRight image.now }
 {
-    let _ = image.get(b"");
+    let _ = image.get("");
 }
 
 /// The properties before any action.

@@ -87,7 +87,7 @@ pub fn held_variable<'a>(image: &'a Image, name: &str) -> Option<&'a Variable>
     ensures value { (held files : Map (List ℕ)) → option_copied result ≡ as_variable (get (machine_over held files image.now) name.now) }
     ensures named { IfSome result (λ variable. IsHeldAt name.now variable.now) }
 {
-    match image.get(name.as_bytes()) {
+    match image.get(name) {
         Some(item) => whole_variable(item),
         None => None,
     }

@@ -81,7 +81,7 @@ fn head_at<'a>(image: &'a Image, name: &Name) -> Option<&'a FileHead>
     ensures length { option_copied result ≡ head_in (get image.now name.now) }
     ensures fits { IfSome result (λ head. fits (entry.File (with_bytes head.now [])) ≡ true) }
 {
-    match image.get(name.as_bytes()) {
+    match image.get(name.as_str()) {
         Some(Item::Head(head, _)) => Some(head),
         Some(Item::Whole(_)) => None,
         None => None,

@@ -38,7 +38,7 @@ pub struct Taking<'a> {
 fn stands_right(image: &Image)
     ensures { AreRight image.now }
 {
-    let _none = image.get(b"");
+    let _none = image.get("");
 }
 
 // Whether a file lies directly in a folder, whose path is folded, under a name of a pattern.

@@ -19,7 +19,7 @@ use std::alloc::Global;
 fn stands_right(image: &Image)
     ensures { AreRight image.now }
 {
-    let _none = image.get(b"");
+    let _none = image.get("");
 }
 
 fn names_of_values(alloc: Global, values: &[ValueKey]) -> Result<Vec<Name>, NoMemory>

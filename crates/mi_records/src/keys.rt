@@ -48,7 +48,7 @@ fn is_missing(alloc: Global, image: &Image, entry: &Entry) -> Result<bool, NoMem
     ensures { IfOk result (λ missing. missing ≡ is_none (get image.now (name_of entry.now))) }
 {
     let name = name_of(alloc, entry)?;
-    Ok(image.get(name.as_bytes()).is_none())
+    Ok(image.get(name.as_str()).is_none())
 }
 
 // Puts an entry that isn't a file, where nothing stands at its name.

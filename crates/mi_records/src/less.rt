@@ -99,7 +99,7 @@ fn less_at(alloc: Global, image: &Image, name: &Name, items: &[Text]) -> Result<
     ensures left { (held files : Map (List ℕ)) → IfOk result (λ rest. left_of rest (get (machine_over held files image.now) name.now) ≡ less_items items.now (get (machine_over held files image.now) name.now)) }
     ensures right { IfOk result (MayBeLeftAt name.now) }
 {
-    match image.get(name.as_bytes()) {
+    match image.get(name.as_str()) {
         Some(item) => match item {
             Item::Whole(entry) => less(alloc, entry, items),
             Item::Head(_, _) => Ok(Rest::Same),

@@ -78,7 +78,7 @@ fn is_folder_there(former: &Image, folder: &Option<PathText>) -> bool
     match folder {
         Some(folder) => former.folder(folder),
         // Nothing stands at the name of a folder without a path.
-        None => former.get(b"d/").is_some(),
+        None => former.get("d/").is_some(),
     }
 }
 

@@ -4,7 +4,7 @@ use Rattle.std.specs.Prelude.{option_map, IsOkAnd, filter, nat_eq}
 use Rattle.std.specs.List.{flat_map, starts_with}
 use Rattle.std.specs.FinMap.{get, keys, insert, find, get-insert, get-from_entries}
 use Rattle.std.proofs.lemmas.List.{map-append, take_more, take_all, drop_all}
-use Rattle.std.specs.Prelude.{Vec}
+use Rattle.std.specs.Prelude.{String, string_bytes}
 use Rattle.std.specs.declared.alloc.Global.{Global}
 use Rattle.std.specs.Ordering.{nat_cmp}
 use Rattle.std.specs.Cmp.Lexicographic.{slice_cmp}
@@ -156,22 +156,22 @@ pair_step {X} at held_old now_old held_new now_new xs i d out more start same_ol
 
 -- ---- the tree of a set
 
-firsts : (es : List (Vec ℕ Global × Unit {0})) → map (λ (e : Name × Unit {0}). e.0) (map (λ (e : Vec ℕ Global × Unit {0}). (e.0.items, e.1)) es) ≡ map (λ (e : Vec ℕ Global × Unit {0}). e.0.items) es
+firsts : (es : List (String Global × Unit {0})) → map (λ (e : Name × Unit {0}). e.0) (map (λ (e : String Global × Unit {0}). (string_bytes e.0, e.1)) es) ≡ map (λ (e : String Global × Unit {0}). string_bytes e.0) es
 firsts [] = refl
-firsts (e ∷ es) = ap (λ (l : List Name). e.0.items ∷ l) (firsts es)
+firsts (e ∷ es) = ap (λ (l : List Name). string_bytes e.0 ∷ l) (firsts es)
 
 -- the names of a tree, in order
-pub tree_names : (m : BTreeMap (Vec ℕ Global) (Unit {0})) (s : Map (Unit {0})) → set_of m.entries ≡ s → tree.IsOrdered (λ a b. slice_cmp nat_cmp a.items b.items) m → map (λ (e : Vec ℕ Global × Unit {0}). e.0.items) m.entries ≡ keys s
-tree_names m s is ordered = sym (ap (map (λ (e : Name × Unit {0}). e.0)) (entries-map_as (λ (k : Vec ℕ Global). k.items) m ordered) ∙ firsts m.entries) ∙ ap (λ (t : Map (Unit {0})). keys t) is
+pub tree_names : (m : BTreeMap (String Global) (Unit {0})) (s : Map (Unit {0})) → set_of m.entries ≡ s → tree.IsOrdered (λ a b. slice_cmp nat_cmp (string_bytes a) (string_bytes b)) m → map (λ (e : String Global × Unit {0}). string_bytes e.0) m.entries ≡ keys s
+tree_names m s is ordered = sym (ap (map (λ (e : Name × Unit {0}). e.0)) (entries-map_as (λ (k : String Global). string_bytes k) m ordered) ∙ firsts m.entries) ∙ ap (λ (t : Map (Unit {0})). keys t) is
 
-pub list_more : (list more : List (Bor (List ℕ))) (iter rest : List (Vec ℕ Global × Unit {0})) (k : Vec ℕ Global) (x : Unit {0}) (n : Bor (List ℕ)) (all : List Name)
-    → iter ≡ (k, x) ∷ rest → n.now ≡ k.items → more ≡ list ++ n ∷ []
-    → map now_of list ++ map (λ (e : Vec ℕ Global × Unit {0}). e.0.items) iter ≡ all → map now_of more ++ map (λ (e : Vec ℕ Global × Unit {0}). e.0.items) rest ≡ all
+pub list_more : (list more : List (Bor (List ℕ))) (iter rest : List (String Global × Unit {0})) (k : String Global) (x : Unit {0}) (n : Bor (List ℕ)) (all : List Name)
+    → iter ≡ (k, x) ∷ rest → n.now ≡ string_bytes k → more ≡ list ++ n ∷ []
+    → map now_of list ++ map (λ (e : String Global × Unit {0}). string_bytes e.0) iter ≡ all → map now_of more ++ map (λ (e : String Global × Unit {0}). string_bytes e.0) rest ≡ all
 list_more list more iter rest k x n all is named adds so =
-    let seen : Vec ℕ Global × Unit {0} → Name = λ e. e.0.items in
+    let seen : String Global × Unit {0} → Name = λ e. string_bytes e.0 in
     ap (λ (l : List (Bor (List ℕ))). map now_of l ++ map seen rest) adds
     ∙ ap (λ (l : List Name). l ++ map seen rest) (map-append now_of list (n ∷ []))
     ∙ append_assoc (map now_of list) (n.now ∷ []) (map seen rest)
     ∙ ap (λ (v : Name). map now_of list ++ v ∷ map seen rest) named
-    ∙ sym (ap (λ (es : List (Vec ℕ Global × Unit {0})). map now_of list ++ map seen es) is)
+    ∙ sym (ap (λ (es : List (String Global × Unit {0})). map now_of list ++ map seen es) is)
     ∙ so

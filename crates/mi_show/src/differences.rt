@@ -60,7 +60,7 @@ fn line_before<W: Volume>(
     alloc: Global,
     other: &mut W,
     before: &Image,
-    name: &[u8],
+    name: &str,
 ) -> Result<Option<Vec<u8>>, SideFault>
     ensures text { W.told → IsScanned (W.state other.old).held before.now
         → IfOk result (λ line. option_map (λ l. l.items) line ≡ line_at (machine_in (W.state other.old).held before.now) name.now) }
@@ -81,7 +81,7 @@ fn line_now<V: Volume>(
     alloc: Global,
     vol: &mut V,
     after: &Image,
-    name: &[u8],
+    name: &str,
 ) -> Result<Option<Vec<u8>>, SideFault>
     ensures text { V.told → IsScanned (V.state vol.old).held after.now
         → IfOk result (λ line. option_map (λ l. l.items) line ≡ line_at (machine_in (V.state vol.old).held after.now) name.now) }
@@ -105,7 +105,7 @@ fn push_difference<V: Volume, W: Volume>(
     after: &Image,
     other: &mut W,
     before: &Image,
-    name: &[u8],
+    name: &str,
 ) -> Result<(), SideFault>
     ensures text { V.told → W.told → IsScanned (V.state vol.old).held after.now → IsScanned (W.state other.old).held before.now
         → OnOk result (out.new.items ≡ out.old.items ++ difference (machine_in (W.state other.old).held before.now) (machine_in (V.state vol.old).held after.now) name.now) }
@@ -130,7 +130,7 @@ fn push_all<V: Volume, W: Volume>(
     after: &Image,
     other: &mut W,
     before: &Image,
-    names: &[&[u8]],
+    names: &[&str],
 ) -> Result<(), SideFault>
     ensures text { V.told → W.told → IsScanned (V.state vol.old).held after.now → IsScanned (W.state other.old).held before.now
         → OnOk result (out.new.items ≡ out.old.items ++ flat_map (λ n. difference (machine_in (W.state other.old).held before.now) (machine_in (V.state vol.old).held after.now) n.now) names.now) }
@@ -165,7 +165,7 @@ fn differences<V: Volume, W: Volume>(
     ensures passes_other { Passes (W.state other.old) (W.state other.new) }
     ensures fault_other { IsErrOf result SideFault.Other → Rose (W.state other.old) (W.state other.new) }
 {
-    let set = NameSet::of_either(alloc, before, after, front.as_bytes())?;
+    let set = NameSet::of_either(alloc, before, after, front)?;
     let names = set.list(alloc)?;
     let mut text = Vec::new(alloc);
     push_all(

@@ -50,11 +50,11 @@ pub fn push_other(alloc: Global, out: &mut Vec<u8>, entry: &Entry) -> Result<(),
 pub fn keeps_right(image: &Image)
     ensures { AreRight image.now }
 {
-    let _found = image.get(b"f/");
+    let _found = image.get("f/");
 }
 
 /// The entry that stands at a name, where that isn't a file.
-pub fn entry_at<'a>(image: &'a Image, name: &[u8]) -> Option<&'a Entry>
+pub fn entry_at<'a>(image: &'a Image, name: &str) -> Option<&'a Entry>
     ensures entry { option_copied result ≡ whole_of (get image.now name.now) }
     ensures right { AreRight image.now }
 {
@@ -75,7 +75,7 @@ fn push_entry(alloc: Global, out: &mut Vec<u8>, entry: Option<&Entry>) -> Result
 }
 
 /// Adds the line of what stands at a name, where that isn't a file.
-pub fn push_at(alloc: Global, out: &mut Vec<u8>, image: &Image, name: &[u8]) -> Result<(), NoMemory>
+pub fn push_at(alloc: Global, out: &mut Vec<u8>, image: &Image, name: &str) -> Result<(), NoMemory>
     ensures { OnOk result (out.new.items ≡ out.old.items ++ other_at (get (plain_machine image.now) name.now)) }
 {
     push_entry(alloc, out, entry_at(image, name))?;
@@ -87,7 +87,7 @@ fn push_all(
     alloc: Global,
     out: &mut Vec<u8>,
     image: &Image,
-    names: &[&[u8]],
+    names: &[&str],
 ) -> Result<(), NoMemory>
     ensures { OnOk result (out.new.items ≡ out.old.items ++ flat_map (λ n. codes "  " ++ other_at (get (plain_machine image.now) n.now)) names.now) }
 {
@@ -99,7 +99,7 @@ fn push_all(
 }
 
 // Adds the lines of what stands at the names that begin so.
-fn push_lines(alloc: Global, out: &mut Vec<u8>, image: &Image, front: &[u8]) -> Result<(), NoMemory>
+fn push_lines(alloc: Global, out: &mut Vec<u8>, image: &Image, front: &str) -> Result<(), NoMemory>
     ensures { OnOk result (out.new.items ≡ out.old.items ++ lines front.now (plain_machine image.now)) }
 {
     let names = image.names(alloc, front)?;
@@ -113,7 +113,7 @@ pub fn push_section(
     out: &mut Vec<u8>,
     image: &Image,
     title: &str,
-    front: &[u8],
+    front: &str,
 ) -> Result<(), NoMemory>
     ensures { OnOk result (out.new.items ≡ out.old.items ++ section title.now (lines front.now (plain_machine image.now))) }
 {

@@ -115,7 +115,7 @@ fn push_file<V: Volume>(
 }
 
 // The head of the file that stands at a name.
-fn head_at<'a>(image: &'a Image, name: &[u8]) -> Option<&'a FileHead>
+fn head_at<'a>(image: &'a Image, name: &str) -> Option<&'a FileHead>
     ensures head { option_copied result ≡ head_in (get image.now name.now) }
     ensures right { AreRight image.now }
 {
@@ -157,7 +157,7 @@ fn push_tree<V: Volume>(
     out: &mut Vec<u8>,
     vol: &mut V,
     image: &Image,
-    names: &[&[u8]],
+    names: &[&str],
 ) -> Result<(), HashError>
     ensures text { V.told → IsScanned (V.state vol.old).held image.now
         → OnOk result (out.new.items ≡ out.old.items ++ heads_tree (machine_in (V.state vol.old).held image.now) [] (heads_of image.now (map (λ n. n.now) names.now))) }
@@ -187,7 +187,7 @@ pub fn push_files<V: Volume>(
     ensures source { ¬ IsErrOf result HashError.Source }
 {
     keeps_right(image);
-    let names = image.names(alloc, b"f/")?;
+    let names = image.names(alloc, "f/")?;
     push_tree(alloc, out, vol, image, names.as_slice())?;
     Ok(())
 }

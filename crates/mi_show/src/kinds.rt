@@ -1,6 +1,6 @@
 //! The registry of an image.
 
-ghost use Rattle.std.specs.Prelude.{◌≡◌, ◌<◌, ◌++◌, ◌∷◌, [], List, ℕ, IfOk, OnOk, Some, length, codes};
+ghost use Rattle.std.specs.Prelude.{◌≡◌, ◌<◌, ◌++◌, ◌∷◌, [], List, ℕ, IfOk, OnOk, Some, length, codes, string_bytes};
 ghost use Rattle.std.specs.Option.{option_copied};
 ghost use Rattle.std.specs.List.{flat_map};
 ghost use Rattle.std.specs.FinMap.{get};
@@ -30,9 +30,10 @@ fn push_four(out: &mut Vec<u8>, number: usize) -> Result<(), NoMemory>
     Ok(())
 }
 
-// How the names of the values of a key begin. A root that no key has is answered by want of memory.
-fn value_front(alloc: Global, root: u8, key: &str) -> Result<Vec<u8>, NoMemory>
-    ensures { IfOk result (λ front. front.items ≡ value_front root (length (folded key.now)) (folded key.now)) }
+// How the names of the values of a key begin. A root that no key has is answered by want of memory, and so are bytes that
+// are no text, which these always are.
+fn value_front(alloc: Global, root: u8, key: &str) -> Result<String, NoMemory>
+    ensures { IfOk result (λ front. string_bytes front ≡ value_front root (length (folded key.now)) (folded key.now)) }
 {
     if root > 9 {
         return Err(NoMemory);
@@ -43,7 +44,10 @@ fn value_front(alloc: Global, root: u8, key: &str) -> Result<Vec<u8>, NoMemory>
     front.push(48 + root)?;
     push_four(&mut front, key.len())?;
     front.extend_from_slice(key.as_bytes())?;
-    Ok(front)
+    match String::from_utf8(front) {
+        Ok(front) => Ok(front),
+        Err(_) => Err(NoMemory),
+    }
 }
 
 // Adds an entry that is a value.
@@ -65,7 +69,7 @@ fn push_exported_at(
     alloc: Global,
     out: &mut Vec<u8>,
     image: &Image,
-    name: &[u8],
+    name: &str,
 ) -> Result<(), NoMemory>
     ensures { OnOk result (out.new.items ≡ out.old.items ++ exported_at (get (plain_machine image.now) name.now)) }
 {
@@ -78,7 +82,7 @@ fn push_exported_all(
     alloc: Global,
     out: &mut Vec<u8>,
     image: &Image,
-    names: &[&[u8]],
+    names: &[&str],
 ) -> Result<(), NoMemory>
     ensures { OnOk result (out.new.items ≡ out.old.items ++ flat_map (λ n. exported_at (get (plain_machine image.now) n.now)) names.now) }
 {
@@ -93,7 +97,7 @@ fn push_values_at(
     alloc: Global,
     out: &mut Vec<u8>,
     image: &Image,
-    front: &[u8],
+    front: &str,
 ) -> Result<(), NoMemory>
     ensures { OnOk result (out.new.items ≡ out.old.items ++ flat_map (λ q. exported_at (get (plain_machine image.now) q)) (names_of front.now (plain_machine image.now))) }
 {
@@ -113,7 +117,7 @@ fn push_values(
     ensures { OnOk result (out.new.items ≡ out.old.items ++ flat_map (λ q. exported_at (get (plain_machine image.now) q)) (values_of root key.now (plain_machine image.now))) }
 {
     let front = value_front(alloc, root, key)?;
-    push_values_at(alloc, out, image, front.as_slice())?;
+    push_values_at(alloc, out, image, front.as_str())?;
     Ok(())
 }
 
@@ -149,7 +153,7 @@ fn push_key_entry(
 }
 
 // Adds the key that stands at a name, and its values.
-fn push_key_at(alloc: Global, out: &mut Vec<u8>, image: &Image, name: &[u8]) -> Result<(), NoMemory>
+fn push_key_at(alloc: Global, out: &mut Vec<u8>, image: &Image, name: &str) -> Result<(), NoMemory>
     ensures { OnOk result (out.new.items ≡ out.old.items ++ key_with_values (plain_machine image.now) (get (plain_machine image.now) name.now)) }
 {
     push_key_entry(alloc, out, image, entry_at(image, name))?;
@@ -199,7 +203,7 @@ fn push_stray_at(
     alloc: Global,
     out: &mut Vec<u8>,
     image: &Image,
-    name: &[u8],
+    name: &str,
 ) -> Result<(), NoMemory>
     ensures { OnOk result (out.new.items ≡ out.old.items ++ stray_at (plain_machine image.now) (get (plain_machine image.now) name.now)) }
 {
@@ -212,7 +216,7 @@ fn push_keys_all(
     alloc: Global,
     out: &mut Vec<u8>,
     image: &Image,
-    names: &[&[u8]],
+    names: &[&str],
 ) -> Result<(), NoMemory>
     ensures { OnOk result (out.new.items ≡ out.old.items ++ flat_map (λ n. key_with_values (plain_machine image.now) (get (plain_machine image.now) n.now)) names.now) }
 {
@@ -227,7 +231,7 @@ fn push_strays_all(
     alloc: Global,
     out: &mut Vec<u8>,
     image: &Image,
-    names: &[&[u8]],
+    names: &[&str],
 ) -> Result<(), NoMemory>
     ensures { OnOk result (out.new.items ≡ out.old.items ++ flat_map (λ n. stray_at (plain_machine image.now) (get (plain_machine image.now) n.now)) names.now) }
 {
@@ -240,7 +244,7 @@ fn push_strays_all(
 fn push_keys(alloc: Global, out: &mut Vec<u8>, image: &Image) -> Result<(), NoMemory>
     ensures { OnOk result (out.new.items ≡ out.old.items ++ flat_map (λ q. key_with_values (plain_machine image.now) (get (plain_machine image.now) q)) (names_of (codes "k/") (plain_machine image.now))) }
 {
-    let names = image.names(alloc, b"k/")?;
+    let names = image.names(alloc, "k/")?;
     push_keys_all(alloc, out, image, names.as_slice())?;
     Ok(())
 }
@@ -248,7 +252,7 @@ fn push_keys(alloc: Global, out: &mut Vec<u8>, image: &Image) -> Result<(), NoMe
 fn push_strays(alloc: Global, out: &mut Vec<u8>, image: &Image) -> Result<(), NoMemory>
     ensures { OnOk result (out.new.items ≡ out.old.items ++ flat_map (λ q. stray_at (plain_machine image.now) (get (plain_machine image.now) q)) (names_of (codes "v/") (plain_machine image.now))) }
 {
-    let names = image.names(alloc, b"v/")?;
+    let names = image.names(alloc, "v/")?;
     push_strays_all(alloc, out, image, names.as_slice())?;
     Ok(())
 }

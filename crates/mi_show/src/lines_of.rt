@@ -79,7 +79,7 @@ pub fn line_at<V: Volume>(
     alloc: Global,
     vol: &mut V,
     image: &Image,
-    name: &[u8],
+    name: &str,
 ) -> Result<Option<Vec<u8>>, HashError>
     ensures text { V.told → IsScanned (V.state vol.old).held image.now
         → IfOk result (λ line. option_map (λ l. l.items) line ≡ line_at (machine_in (V.state vol.old).held image.now) name.now) }

@@ -16,7 +16,7 @@ use std::marker::Model;
 /// A set of names (this project's own).
 #[derive(Drop)]
 pub struct NameSet {
-    names: BTreeMap<Vec<u8>, ()>,
+    names: BTreeMap<String, ()>,
 }
 
 impl Model for NameSet {
@@ -44,17 +44,17 @@ impl NameSet {
     }
 
     // Adds a name.
-    fn add(&mut self, alloc: Global, name: &[u8]) -> Result<(), NoMemory>
+    fn add(&mut self, alloc: Global, name: &str) -> Result<(), NoMemory>
         ensures { OnOk result (self.new ≡ tree.insert self.old name.now tt) }
     {
-        let key = Vec::from_slice(alloc, name)?;
+        let key = String::from_str(alloc, name)?;
         let was = self.names.insert(key, ())?;
         drop(was);
         Ok(())
     }
 
     // Adds these names.
-    fn add_all(&mut self, alloc: Global, names: &[&[u8]]) -> Result<(), NoMemory>
+    fn add_all(&mut self, alloc: Global, names: &[&str]) -> Result<(), NoMemory>
         ensures { (had : List Name) → self.old ≡ name_set had → OnOk result (self.new ≡ name_set (had ++ map (λ n. n.now) names.now)) }
     {
         for name in names {
@@ -64,12 +64,12 @@ impl NameSet {
     }
 
     /// The names, in byte order.
-    pub fn list(&self, alloc: Global) -> Result<Vec<&[u8]>, NoMemory>
+    pub fn list(&self, alloc: Global) -> Result<Vec<&str>, NoMemory>
         ensures { IfOk result (λ names. map (λ n. n.now) names.items ≡ tree.keys self.now) }
     {
         let mut list = Vec::new(alloc);
         for (name, _) in self.names.iter() {
-            list.push(name.as_slice())?;
+            list.push(name.as_str())?;
         }
         Ok(list)
     }
@@ -79,7 +79,7 @@ impl NameSet {
         alloc: Global,
         before: &Image,
         after: &Image,
-        front: &[u8],
+        front: &str,
     ) -> Result<NameSet, NoMemory>
         ensures { IfOk result (λ set. set ≡ name_set (names_of front.now (plain_machine before.now) ++ names_of front.now (plain_machine after.now))) }
     {

@@ -79,12 +79,12 @@ fn push_registry_section(alloc: Global, out: &mut Vec<u8>, image: &Image) -> Res
 fn push_others(alloc: Global, out: &mut Vec<u8>, image: &Image) -> Result<(), NoMemory>
     ensures { OnOk result (out.new.items ≡ out.old.items ++ others (plain_machine image.now)) }
 {
-    push_section(alloc, out, image, "Folders", b"d/")?;
+    push_section(alloc, out, image, "Folders", "d/")?;
     push_registry_section(alloc, out, image)?;
-    push_section(alloc, out, image, "Shortcuts", b"s/")?;
-    push_section(alloc, out, image, "Environment", b"n/")?;
-    push_section(alloc, out, image, "Clients", b"c/")?;
-    push_section(alloc, out, image, "System", b"y/")
+    push_section(alloc, out, image, "Shortcuts", "s/")?;
+    push_section(alloc, out, image, "Environment", "n/")?;
+    push_section(alloc, out, image, "Clients", "c/")?;
+    push_section(alloc, out, image, "System", "y/")
 }
 
 // Adds the print of the machine of an image.
@@ -101,7 +101,7 @@ fn push_machine<V: Volume>(
     ensures fault { IsErrOf result HashError.Volume → Rose (V.state vol.old) (V.state vol.new) }
     ensures source { ¬ IsErrOf result HashError.Source }
 {
-    push_section(alloc, out, image, "Products", b"p/")?;
+    push_section(alloc, out, image, "Products", "p/")?;
     push_files_section(alloc, out, vol, image)?;
     push_others(alloc, out, image)?;
     Ok(())

@@ -27,11 +27,11 @@ fn keeping(
     alloc: Global,
     tree: Tree,
     touched: &Places,
-    name: &[u8],
+    name: &str,
 ) -> Result<Option<Bytes>, NoMemory>
     ensures { IfOk result (λ place. place ≡ keeps touched.now (seat_in tree name.now)) }
 {
-    match place_in(alloc, tree, name)? {
+    match place_in(alloc, tree, name.as_bytes())? {
         Place::Holder(place) if touched.are_on_way(place.as_slice()) => Ok(None),
         Place::Holder(place) => Ok(Some(place)),
         Place::Leaf(place) => Ok(Some(place)),
@@ -44,7 +44,7 @@ fn all_keeping(
     alloc: Global,
     tree: Tree,
     touched: &Places,
-    names: &[&[u8]],
+    names: &[&str],
 ) -> Result<Vec<Bytes>, NoMemory>
     ensures { IfOk result (λ places. places.items ≡ filter_map (λ q. keeps touched.now (seat_in tree q)) (map (λ n. n.now) names.now)) }
 {
@@ -68,10 +68,10 @@ struct Rule {
 }
 
 // Whether a name goes.
-fn goes(alloc: Global, rule: &Rule, name: &[u8]) -> Result<bool, NoMemory>
+fn goes(alloc: Global, rule: &Rule, name: &str) -> Result<bool, NoMemory>
     ensures { IfOk result (λ b. b ≡ passes rule.now.touched rule.now.protected rule.now.kept (seat_in rule.now.tree name.now)) }
 {
-    match place_in(alloc, rule.tree, name)? {
+    match place_in(alloc, rule.tree, name.as_bytes())? {
         Place::Holder(place) => Ok(
             rule.touched.are_on_way(place.as_slice())
                 && !rule.protected.are_on_way(place.as_slice())
@@ -106,7 +106,7 @@ fn name_of_item(alloc: Global, item: &Item) -> Result<Name, NoMemory>
 }
 
 // A name of an image.
-fn held_name(alloc: Global, image: &Image, name: &[u8]) -> Result<Name, NoMemory>
+fn held_name(alloc: Global, image: &Image, name: &str) -> Result<Name, NoMemory>
     requires { is_some (get image.now name.now) ≡ true }
     ensures { IfOk result (λ own. own ≡ name.now) }
 {
@@ -117,7 +117,7 @@ fn held_name(alloc: Global, image: &Image, name: &[u8]) -> Result<Name, NoMemory
 }
 
 // A name, where it goes.
-fn gone(alloc: Global, image: &Image, rule: &Rule, name: &[u8]) -> Result<Option<Name>, NoMemory>
+fn gone(alloc: Global, image: &Image, rule: &Rule, name: &str) -> Result<Option<Name>, NoMemory>
     requires { is_some (get image.now name.now) ≡ true }
     ensures { IfOk result (λ n. n ≡ (if passes rule.now.touched rule.now.protected rule.now.kept (seat_in rule.now.tree name.now) then Some name.now else None)) }
 {
@@ -133,7 +133,7 @@ fn all_gone(
     alloc: Global,
     image: &Image,
     rule: &Rule,
-    names: &[&[u8]],
+    names: &[&str],
 ) -> Result<Vec<Name>, NoMemory>
     requires { map (λ n. n.now) names.now ≡ keys image.now }
     ensures { IfOk result (λ gone. gone.items ≡ filter (λ q. passes rule.now.touched rule.now.protected rule.now.kept (seat_in rule.now.tree q)) (keys image.now)) }
@@ -157,7 +157,7 @@ fn names_gone(
 ) -> Result<Vec<Name>, NoMemory>
     ensures { (held files : Map (List ℕ)) → IfOk result (λ gone. gone.items ≡ filter (goes (seat_in tree) (keys (machine_over held files image.now)) touched protected) (keys (machine_over held files image.now))) }
 {
-    let names = image.names(alloc, b"")?;
+    let names = image.names(alloc, "")?;
     let kept = Places::of(all_keeping(alloc, tree, &touched, names.as_slice())?);
     let rule = Rule {
         tree,

@@ -31,7 +31,7 @@ fn is_record(alloc: Global, entry: &Entry, own: &[u8]) -> Result<bool, NoMemory>
 }
 
 // Whether what stands at a name, which isn't a file's, has this record.
-fn stands(alloc: Global, image: &Image, name: &[u8], own: &[u8]) -> Result<bool, NoMemory>
+fn stands(alloc: Global, image: &Image, name: &str, own: &[u8]) -> Result<bool, NoMemory>
     requires { is_file_name name.now ≡ false }
     ensures { (held files : Map (List ℕ)) → IfOk result (λ b. same_record (Some own.now) (get (volume_of (machine_over held files image.now)) name.now) ≡ b) }
 {
@@ -72,7 +72,7 @@ pub fn note_put(
     ensures ok { (held files : Map (List ℕ)) → OnOk result (script.new ≡ script.old ++ (if same_record (Some bytes) (get (volume_of (machine_over held files image.now)) name.now) then [] else record_of_script.Put name.now bytes ∷ [])) }
     ensures grows { Grows script.old script.new }
 {
-    let stays = stands(alloc, image, name.as_bytes(), bytes.as_slice())?;
+    let stays = stands(alloc, image, name.as_str(), bytes.as_slice())?;
     push_put(alloc, script, name, bytes, stays)
 }
 

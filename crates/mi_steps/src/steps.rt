@@ -80,7 +80,7 @@ impl Plan {
         ensures former { former_items self.new.overlay ≡ former_items self.old.overlay }
         ensures grows { Grows self.old.script self.new.script }
     {
-        if self.overlay.image().get(name.as_bytes()).is_none() {
+        if self.overlay.image().get(name.as_str()).is_none() {
             return Ok(());
         }
         push_drop(alloc, &mut self.script, name)?;

@@ -77,14 +77,14 @@ fn as_system(entry: &Entry) -> Option<(&Text, &Text)>
     }
 }
 
-fn system_at<'a>(image: &'a Image, name: &[u8]) -> Option<(&'a Text, &'a Text)>
+fn system_at<'a>(image: &'a Image, name: &str) -> Option<(&'a Text, &'a Text)>
     ensures { option_map both_now result ≡ system_at image.now name.now }
 {
     as_system(image.get(name)?.whole()?)
 }
 
 // The property of the system that stands at a name.
-fn pair_at(alloc: Global, image: &Image, name: &[u8]) -> Result<Option<(Text, Text)>, NoMemory>
+fn pair_at(alloc: Global, image: &Image, name: &str) -> Result<Option<(Text, Text)>, NoMemory>
     ensures { IfOk result (λ o. o ≡ system_at image.now name.now) }
 {
     match system_at(image, name) {
@@ -96,7 +96,7 @@ fn pair_at(alloc: Global, image: &Image, name: &[u8]) -> Result<Option<(Text, Te
     }
 }
 
-fn pairs_at(alloc: Global, image: &Image, names: &[&[u8]]) -> Result<Vec<(Text, Text)>, NoMemory>
+fn pairs_at(alloc: Global, image: &Image, names: &[&str]) -> Result<Vec<(Text, Text)>, NoMemory>
     ensures { IfOk result (λ v. v.items ≡ filter_map (system_at image.now) (map (λ n. n.now) names.now)) }
 {
     let mut pairs = Vec::new(alloc);
@@ -115,7 +115,7 @@ fn pairs_at(alloc: Global, image: &Image, names: &[&[u8]]) -> Result<Vec<(Text, 
 fn listed_pairs(
     alloc: Global,
     image: &Image,
-    names: &[&[u8]],
+    names: &[&str],
 ) -> Result<Vec<(Text, Text)>, NoMemory>
     ensures { IfOk result (λ v. v.items ≡ listed_in image.now names.now) }
 {
@@ -132,7 +132,7 @@ fn system_pairs(alloc: Global, image: &Image) -> Result<Vec<(Text, Text)>, NoMem
     ensures { (held files : Map (List ℕ)) → IfOk result (λ v. v.items ≡ system_properties (machine_over held files image.now)) }
 {
     stands_right(image);
-    let names = image.names(alloc, b"y/")?;
+    let names = image.names(alloc, "y/")?;
     let pairs = listed_pairs(alloc, image, &names)?;
     Ok(pairs)
 }

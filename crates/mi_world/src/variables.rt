@@ -91,11 +91,11 @@ fn as_variable(entry: &Entry) -> Option<&Variable>
 pub(crate) fn stands_right(image: &Image)
     ensures { AreRight image.now }
 {
-    let _ = image.get(b"");
+    let _ = image.get("");
 }
 
 // The variable that stands at a name.
-fn variable_at_name<'a>(image: &'a Image, name: &[u8]) -> Option<&'a Variable>
+fn variable_at_name<'a>(image: &'a Image, name: &str) -> Option<&'a Variable>
     ensures { option_copied result ≡ variable_at_name image.now name.now }
 {
     as_variable(image.get(name)?.whole()?)
@@ -110,7 +110,7 @@ fn pair_of(alloc: Global, variable: &Variable) -> Result<(Text, Text), NoMemory>
 }
 
 // The folded name and the value of the variable at a name.
-fn pair_at(alloc: Global, image: &Image, name: &[u8]) -> Result<Option<(Text, Text)>, NoMemory>
+fn pair_at(alloc: Global, image: &Image, name: &str) -> Result<Option<(Text, Text)>, NoMemory>
     ensures { IfOk result (λ o. o ≡ pair_at image.now name.now) }
 {
     match variable_at_name(image, name) {
@@ -120,7 +120,7 @@ fn pair_at(alloc: Global, image: &Image, name: &[u8]) -> Result<Option<(Text, Te
 }
 
 // The variables at these names: their folded names and values.
-fn pairs_of(alloc: Global, image: &Image, names: &[&[u8]]) -> Result<Vec<(Text, Text)>, NoMemory>
+fn pairs_of(alloc: Global, image: &Image, names: &[&str]) -> Result<Vec<(Text, Text)>, NoMemory>
     ensures { IfOk result (λ v. v.items ≡ filter_map (pair_at image.now) (map (λ n. n.now) names.now)) }
 {
     let mut pairs = Vec::new(alloc);
@@ -136,10 +136,10 @@ fn pairs_of(alloc: Global, image: &Image, names: &[&[u8]]) -> Result<Vec<(Text, 
 }
 
 // What the names of variables begin with.
-fn front(system: bool) -> &'static [u8]
+fn front(system: bool) -> &'static str
     ensures { result.now ≡ front system }
 {
-    if system { b"n/1" } else { b"n/0" }
+    if system { "n/1" } else { "n/0" }
 }
 
 // The system's variables, or the user's.

@@ -10,4 +10,4 @@ pub returns : goal.returns
 returns c =
     let m = plain_machine c.args.image.now in
     c.in_ok-push_values_at.ensures
-    ∙ ap (λ (f : Name). c.args.out.now.items ++ flat_map (λ q. exported_at (get m q)) (names_of f m)) (c.as_slice.ensures.value ∙ c.in_ok-front.ensures)
+    ∙ ap (λ (f : Name). c.args.out.now.items ++ flat_map (λ q. exported_at (get m q)) (names_of f m)) (c.as_str.ensures.value ∙ c.in_ok-front.ensures)
