@@ -83,12 +83,7 @@ pub fn push_at(alloc: Global, out: &mut Vec<u8>, image: &Image, name: &str) -> R
 }
 
 // Adds the lines of what stands at these names.
-fn push_all(
-    alloc: Global,
-    out: &mut Vec<u8>,
-    image: &Image,
-    names: &[&str],
-) -> Result<(), NoMemory>
+fn push_all(alloc: Global, out: &mut Vec<u8>, image: &Image, names: &[&str]) -> Result<(), NoMemory>
     ensures { OnOk result (out.new.items ≡ out.old.items ++ flat_map (λ n. codes "  " ++ other_at (get (plain_machine image.now) n.now)) names.now) }
 {
     for name in names {

@@ -112,11 +112,7 @@ fn pairs_at(alloc: Global, image: &Image, names: &[&str]) -> Result<Vec<(Text, T
 }
 
 // The properties that stand at these names; where there are no names, the default ones.
-fn listed_pairs(
-    alloc: Global,
-    image: &Image,
-    names: &[&str],
-) -> Result<Vec<(Text, Text)>, NoMemory>
+fn listed_pairs(alloc: Global, image: &Image, names: &[&str]) -> Result<Vec<(Text, Text)>, NoMemory>
     ensures { IfOk result (λ v. v.items ≡ listed_in image.now names.now) }
 {
     if names.is_empty() {
