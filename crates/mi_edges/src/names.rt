@@ -3,7 +3,7 @@
 //! A name is the file whose path is its bytes in lower-case hexadecimal, in parts of 200 digits joined by `/`.
 //! Each part but the last has a `+` behind it, so that no file and folder share a path.
 
-ghost use Rattle.std.specs.Prelude.{◌≤◌, length};
+ghost use Rattle.std.specs.Prelude.{◌<◌, ◌≤◌, length};
 
 use crate::trouble::Trouble;
 use std::alloc::AllocError;
@@ -17,20 +17,28 @@ pub const LONGEST_NAME: usize = 1_024;
 /// The longest path of a name below the folder, in bytes: 2,048 digits in eleven parts.
 pub const LONGEST_PATH: usize = 2_068;
 
-// The digits by their values.
-const DIGITS: &[u8; 16] = b"0123456789abcdef";
-
 // The digits of a part.
 const PART_DIGITS: usize = 200;
 
-// Puts the digits of bytes side by side.
+// The digit of a value below 16.
+fn digit_of(value: u8) -> u8
+    requires { value < 16 }
+{
+    if value < 10 {
+        b'0' + value
+    } else {
+        b'a' + (value - 10)
+    }
+}
+
+// Puts the digits of bytes side by side. Nothing is looked up and nothing ends early, so that many are put at once.
 fn put_digits(digits: &mut [u8; PART_DIGITS], part: &[u8])
     requires { length part.now ≤ PART_BYTES }
 {
     for at in 0..part.len() {
         let byte = part[at];
-        digits[2 * at] = DIGITS[usize::from(byte >> 4)];
-        digits[2 * at + 1] = DIGITS[usize::from(byte & 15)];
+        digits[2 * at] = digit_of(byte >> 4);
+        digits[2 * at + 1] = digit_of(byte & 15);
     }
 }
 
@@ -47,9 +55,7 @@ pub fn push_digits(path: &mut String, part: &[u8]) -> Result<(), Trouble>
 }
 
 // The value of a digit, and 16 of any other byte.
-fn value_of(digit: u8) -> u8
-    ensures { result ≤ 16 }
-{
+fn value_of(digit: u8) -> u8 {
     match digit {
         b'0'..=b'9' => digit - b'0',
         b'a'..=b'f' => digit - b'a' + 10,
@@ -57,19 +63,19 @@ fn value_of(digit: u8) -> u8
     }
 }
 
-// Puts the bytes that pairs of digits spell side by side; false where one spells none.
+// Puts the bytes that pairs of digits spell side by side; false where one spells none. It ends behind the last pair in
+// either case, so that many are put at once.
 fn put_bytes(bytes: &mut [u8; PART_BYTES], digits: &[u8]) -> bool
     requires { length digits.now ≤ PART_DIGITS }
 {
+    let mut values = 0u8;
     for at in 0..digits.len() / 2 {
         let high = value_of(digits[2 * at]);
         let low = value_of(digits[2 * at + 1]);
-        if high == 16 || low == 16 {
-            return false;
-        }
         bytes[at] = (high << 4) | low;
+        values |= high | low;
     }
-    true
+    values < 16
 }
 
 /// Adds the bytes that the digits of a part spell; false where they spell none.
