@@ -59,26 +59,30 @@ fn status(refusal: Option<EdgeFault>, answer: &Answer) -> u8 {
     }
 }
 
-fn main(rt: HostRuntime) -> ExitCode {
-    let alloc = rt.alloc();
-    let words = match words_of(&rt) {
-        Ok(words) => words,
-        Err(error) => return ExitCode::from(words_status(&error)),
-    };
-    let Ok(mut volume) = FolderVolume::deferred(rt, alloc, MACHINE) else {
-        return ExitCode::from(NO_MEMORY);
-    };
+// Carries out the words on the machine of a volume; the status of the answer. The answer is wide, so a call drops it.
+fn carried_out(rt: HostRuntime, words: &[String], volume: &mut FolderVolume<HostRuntime>) -> u8 {
     let mut source = FolderSource::new(rt);
     let mut sink = StdSink::new(rt);
     let now = seconds(&rt);
-    let answer = run(
-        alloc,
-        words.as_slice(),
-        &mut source,
-        &mut volume,
-        &mut sink,
-        now,
-    );
+    let answer = run(rt.alloc(), words, &mut source, volume, &mut sink, now);
     volume.close();
-    ExitCode::from(status(volume.refusal(), &answer))
+    let status = status(volume.refusal(), &answer);
+    drop(answer);
+    status
+}
+
+// Carries out the words on the machine of the folder; the status of the answer.
+fn status_of(rt: HostRuntime, words: &[String]) -> u8 {
+    match FolderVolume::deferred(rt, rt.alloc(), MACHINE) {
+        Ok(mut volume) => carried_out(rt, words, &mut volume),
+        Err(_) => NO_MEMORY,
+    }
+}
+
+fn main(rt: HostRuntime) -> ExitCode {
+    let status = match words_of(&rt) {
+        Ok(words) => status_of(rt, words.as_slice()),
+        Err(error) => words_status(&error),
+    };
+    ExitCode::from(status)
 }
