@@ -56,10 +56,13 @@ fn refuse_with(work: &mut Work, action: Option<Text>, fault: Fault) -> Result<Tu
     ensures fails { FailsOnly ⊥ ⊥ result }
 {
     match action {
-        Some(action) => {
-            work.begun.push(action)?;
-            Ok(Turn::Ended(Some(Cause::Table(fault))))
-        }
+        Some(action) => match work.begun.push(action) {
+            Ok(()) => Ok(Turn::Ended(Some(Cause::Table(fault)))),
+            Err(_) => {
+                drop(fault);
+                Err(WalkError::NoMemory)
+            }
+        },
         None => Ok(Turn::Ended(Some(Cause::Table(fault)))),
     }
 }

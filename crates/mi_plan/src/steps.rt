@@ -121,8 +121,14 @@ fn begin<S: Source, V: Volume>(
     ensures asks { Asks V.told (V.state vol.old) (V.state vol.new) (S.files src.old) (S.files src.new) (S.faults src.old) (S.faults src.new) }
     ensures fails { FailsOnly (volume.Rose (V.state vol.old) (V.state vol.new)) (Rose (S.faults src.old) (S.faults src.new)) result }
 {
-    let action = Text::copy_of(alloc, step.action())?;
-    work.begun.push(action)?;
+    let Ok(action) = Text::copy_of(alloc, step.action()) else {
+        drop(step);
+        return Err(WalkError::NoMemory);
+    };
+    let Ok(()) = work.begun.push(action) else {
+        drop(step);
+        return Err(WalkError::NoMemory);
+    };
     take(alloc, work, folder, step, src, vol)
 }
 
