@@ -99,6 +99,7 @@ fn work<S: Source, V: Volume>(
         Ok(area) => area,
         Err(refused) => {
             let Refused { vol: _, fault } = refused;
+            drop(refusal);
             return Carried {
                 kind: give_up(Stop::from(fault)),
                 reached: first_reached(parts, begun),

@@ -70,7 +70,13 @@ pub fn carry_walk<S: Source, V: Volume>(
     ensures source_stays { S.files src.new ≡ S.files src.old }
     ensures source_counts { S.faults src.old ≤ S.faults src.new }
 {
-    carry_parts(alloc, area, src, parts)?;
+    match carry_parts(alloc, area, src, parts) {
+        Ok(()) => {}
+        Err(stopped) => {
+            drop(refusal);
+            return Err(Halt::from(stopped));
+        }
+    }
     match refusal {
         Some(cause) => Err(Halt::Back(Stopped {
             why: Stop::Refuse(cause),

@@ -1,61 +1,56 @@
 use Rattle.std.proofs.Common.{inr}
-use Rattle.std.proofs.lemmas.Result.{err_from_is_err_and}
 use Rattle.mi_carry.proofs.EndLemmas.{free_then}
 use Rattle.mi_carry.proofs.HaltLemmas.{stopped_goes, refused_goes, stop_caused, done_goes, failed_goes}
 use Rattle.mi_carry.proofs.RoomLemmas.{stopped_room, done_room, failed_room}
 use Rattle.mi_carry.proofs.walk.carry_walk.Goals as goal
 
-pub returns-in_err-carry_parts-clause-goes : goal.returns-in_err-carry_parts-clause-goes
-returns-in_err-carry_parts-clause-goes g c = λ t F w.
-    let p = err_from_is_err_and c.from_residual.result c.from_residual.ensures.1 in
-    rw (p.1, p.2) (stopped_goes g.S.Source.told _ _ _ F _ c.args.refusal _ _ (c.in_err-carry_parts.ensures.along t F w))
-
-pub returns-in_err-carry_parts-clause-caused : goal.returns-in_err-carry_parts-clause-caused
-returns-in_err-carry_parts-clause-caused g c =
-    let p = err_from_is_err_and c.from_residual.result c.from_residual.ensures.1 in
-    rw (p.1, p.2) (stop_caused _ _ _ c.args.refusal c.args.begun _ _ _ _ c.in_err-carry_parts.ensures.stopped)
-
-pub returns-in_err-carry_parts-clause-reached : goal.returns-in_err-carry_parts-clause-reached
-returns-in_err-carry_parts-clause-reached g c =
-    let p = err_from_is_err_and c.from_residual.result c.from_residual.ensures.1 in
-    rw (p.1, p.2) (inr c.in_err-carry_parts.ensures.reached)
-
-pub commit-requires-clause-works : goal.commit-requires-clause-works
-commit-requires-clause-works g c = λ t. let w = c.requires.works t in (w.0, (c.in_ok-carry_parts.ensures.along t w.0 w.1).works)
-
-pub returns-in-Some-clause-goes : goal.returns-in-Some-clause-goes
-returns-in-Some-clause-goes g c = λ t F w. refused_goes g.S.Source.told _ _ _ F _ c.args.refusal _ _ (c.in_ok-carry_parts.ensures.along t F w)
-
-pub returns-in-Ok-clause-goes : goal.returns-in-Ok-clause-goes
-returns-in-Ok-clause-goes g c = λ t F w.
-    let along = c.in_ok-carry_parts.ensures.along t F w in
-    let commits = c.in-Ok.ensures.commits t F along.works in
-    rw c.in-None.is
-    (done_goes g.S.Source.told (g.V.Volume.state c.args.area.now.vol.now) (g.V.Volume.state c.carry_parts.new.area.vol.now) (g.V.Volume.state c.commit.new.self.vol.now) c.commit.new.self.kept F _ along.goes
-    c.carry_parts.ensures.passes.faults c.commit.ensures.passes.faults (λ s. c.in_ok-carry_parts.ensures.map t s F w) _ _ commits (free_then _ _ _ c.carry_parts.ensures.passes.faults commits.free))
-
 pub returns-in-Err-clause-goes : goal.returns-in-Err-clause-goes
 returns-in-Err-clause-goes g c = λ t F w.
-    let along = c.in_ok-carry_parts.ensures.along t F w in
-    let commits = c.in-Err.ensures.commits t F along.works in
+    rw c.from.ensures (stopped_goes g.S.Source.told _ _ _ F _ c.args.refusal _ _ (c.in-Err.ensures.along t F w))
+
+pub returns-in-Err-clause-caused : goal.returns-in-Err-clause-caused
+returns-in-Err-clause-caused g c =
+    rw c.from.ensures (stop_caused _ _ _ c.args.refusal c.args.begun _ _ _ _ c.in-Err.ensures.stopped)
+
+pub returns-in-Err-clause-reached : goal.returns-in-Err-clause-reached
+returns-in-Err-clause-reached g c =
+    rw c.from.ensures (inr c.in-Err.ensures.reached)
+
+pub commit-requires-clause-works : goal.commit-requires-clause-works
+commit-requires-clause-works g c = λ t. let w = c.requires.works t in (w.0, (c.in-Ok.ensures.along t w.0 w.1).works)
+
+pub returns-in-Some-clause-goes : goal.returns-in-Some-clause-goes
+returns-in-Some-clause-goes g c = λ t F w. refused_goes g.S.Source.told _ _ _ F _ c.args.refusal _ _ (c.in-Ok.ensures.along t F w)
+
+pub returns-in-Ok-commit-clause-goes : goal.returns-in-Ok-commit-clause-goes
+returns-in-Ok-commit-clause-goes g c = λ t F w.
+    let along = c.in-Ok.ensures.along t F w in
+    let commits = c.in-Ok-commit.ensures.commits t F along.works in
+    rw c.in-None.is
+    (done_goes g.S.Source.told (g.V.Volume.state c.args.area.now.vol.now) (g.V.Volume.state c.carry_parts.new.area.vol.now) (g.V.Volume.state c.commit.new.self.vol.now) c.commit.new.self.kept F _ along.goes
+    c.carry_parts.ensures.passes.faults c.commit.ensures.passes.faults (λ s. c.in-Ok.ensures.map t s F w) _ _ commits (free_then _ _ _ c.carry_parts.ensures.passes.faults commits.free))
+
+pub returns-in-Err-commit-clause-goes : goal.returns-in-Err-commit-clause-goes
+returns-in-Err-commit-clause-goes g c = λ t F w.
+    let along = c.in-Ok.ensures.along t F w in
+    let commits = c.in-Err-commit.ensures.commits t F along.works in
     rw (c.in-None.is, c.of.ensures)
     (failed_goes g.S.Source.told (g.V.Volume.state c.args.area.now.vol.now) (g.V.Volume.state c.carry_parts.new.area.vol.now) (g.V.Volume.state c.commit.new.self.vol.now) c.commit.new.self.kept F _ along.goes
-    c.carry_parts.ensures.passes.faults c.commit.ensures.passes.faults (λ s. c.in_ok-carry_parts.ensures.map t s F w) c.in-Err.fault _ commits c.in-Err.ensures.undoable)
-
-pub returns-in_err-carry_parts-clause-roomy : goal.returns-in_err-carry_parts-clause-roomy
-returns-in_err-carry_parts-clause-roomy g c = λ t F w roomy.
-    let p = err_from_is_err_and c.from_residual.result c.from_residual.ensures.1 in
-    rw (p.1, p.2) (stopped_room _ _ F _ (c.in_err-carry_parts.ensures.roomy t F w roomy))
-
-pub returns-in-Some-clause-roomy : goal.returns-in-Some-clause-roomy
-returns-in-Some-clause-roomy g c = λ t F w roomy. stopped_room _ _ F _ (c.in_ok-carry_parts.ensures.roomy t F w roomy)
-
-pub returns-in-Ok-clause-roomy : goal.returns-in-Ok-clause-roomy
-returns-in-Ok-clause-roomy g c = λ t F w roomy.
-    let stays = c.in_ok-carry_parts.ensures.roomy t F w roomy in
-    done_room _ _ (g.V.Volume.state c.commit.new.self.vol.now) F stays _ _ (c.in-Ok.ensures.room t F stays.back.n (c.in_ok-carry_parts.ensures.along t F w).works stays.back.takes)
+    c.carry_parts.ensures.passes.faults c.commit.ensures.passes.faults (λ s. c.in-Ok.ensures.map t s F w) c.in-Err-commit.fault _ commits c.in-Err-commit.ensures.undoable)
 
 pub returns-in-Err-clause-roomy : goal.returns-in-Err-clause-roomy
 returns-in-Err-clause-roomy g c = λ t F w roomy.
-    let stays = c.in_ok-carry_parts.ensures.roomy t F w roomy in
-    rw c.of.ensures (failed_room _ _ (g.V.Volume.state c.commit.new.self.vol.now) F stays c.in-Err.fault _ (c.in-Err.ensures.room t F stays.back.n (c.in_ok-carry_parts.ensures.along t F w).works stays.back.takes))
+    rw c.from.ensures (stopped_room _ _ F _ (c.in-Err.ensures.roomy t F w roomy))
+
+pub returns-in-Some-clause-roomy : goal.returns-in-Some-clause-roomy
+returns-in-Some-clause-roomy g c = λ t F w roomy. stopped_room _ _ F _ (c.in-Ok.ensures.roomy t F w roomy)
+
+pub returns-in-Ok-commit-clause-roomy : goal.returns-in-Ok-commit-clause-roomy
+returns-in-Ok-commit-clause-roomy g c = λ t F w roomy.
+    let stays = c.in-Ok.ensures.roomy t F w roomy in
+    done_room _ _ (g.V.Volume.state c.commit.new.self.vol.now) F stays _ _ (c.in-Ok-commit.ensures.room t F stays.back.n (c.in-Ok.ensures.along t F w).works stays.back.takes)
+
+pub returns-in-Err-commit-clause-roomy : goal.returns-in-Err-commit-clause-roomy
+returns-in-Err-commit-clause-roomy g c = λ t F w roomy.
+    let stays = c.in-Ok.ensures.roomy t F w roomy in
+    rw c.of.ensures (failed_room _ _ (g.V.Volume.state c.commit.new.self.vol.now) F stays c.in-Err-commit.fault _ (c.in-Err-commit.ensures.room t F stays.back.n (c.in-Ok.ensures.along t F w).works stays.back.takes))
