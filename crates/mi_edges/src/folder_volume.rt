@@ -142,7 +142,10 @@ where
         let mut volume = FolderVolume::deferred(rt, alloc, folder)?;
         match volume.opened() {
             Ok(()) => Ok(volume),
-            Err(fault) => Err(fault),
+            Err(fault) => {
+                drop(volume);
+                Err(fault)
+            }
         }
     }
 
@@ -173,10 +176,21 @@ where
     /// can't be opened, where something else stands there, and where another process has the lock.
     pub fn to_read(rt: R, alloc: Global, folder: &str) -> Result<FolderVolume<R>, EdgeFault> {
         let mut volume = FolderVolume::deferred(rt, alloc, folder)?;
-        match volume.disk.open_to_read() {
+        match volume.opened_to_read() {
+            Ok(()) => Ok(volume),
+            Err(fault) => {
+                drop(volume);
+                Err(fault)
+            }
+        }
+    }
+
+    // Opens the folder to be read only.
+    fn opened_to_read(&mut self) -> Result<(), EdgeFault> {
+        match self.disk.open_to_read() {
             Ok(()) => {
-                volume.opened = true;
-                Ok(volume)
+                self.opened = true;
+                Ok(())
             }
             Err(Trouble::NoMemory) => Err(EdgeFault::NoMemory),
             Err(_) => Err(EdgeFault::Folder),

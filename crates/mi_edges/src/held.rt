@@ -164,23 +164,44 @@ impl Held {
     /// These names, of which no length is known. `is_whole` says whether nothing stands at the path of any other name.
     pub fn of(alloc: Global, names: Vec<String>, is_whole: bool) -> Result<Held, Trouble> {
         let mut held = Held {
-            known: Vec::with_capacity(alloc, names.len())?,
-            sorted: Vec::with_capacity(alloc, names.len())?,
+            known: Vec::new(alloc),
+            sorted: Vec::new(alloc),
             others: BTreeMap::new(alloc),
             is_whole,
             at: 0,
             gap: 0..0,
             bytes: Vec::new(alloc),
-            above: String::with_capacity(alloc, LONGEST_NAME)?,
+            above: String::new(alloc),
             written: Vec::new(alloc),
-            removed: Vec::with_capacity(alloc, names.len())?,
+            removed: Vec::new(alloc),
             round: 1,
         };
-        for name in sort_names(alloc, names)? {
-            held.push(name)?;
+        match held.fill(alloc, names) {
+            Ok(()) => Ok(held),
+            Err(trouble) => {
+                drop(held);
+                Err(trouble)
+            }
         }
-        held.at = 0;
-        Ok(held)
+    }
+
+    // Takes the room for so many names, and for the longest.
+    fn take_room(&mut self, count: usize) -> Result<(), Trouble> {
+        self.known.reserve(count)?;
+        self.sorted.reserve(count)?;
+        self.removed.reserve(count)?;
+        self.above.reserve(LONGEST_NAME)?;
+        Ok(())
+    }
+
+    // Adds these names, which are in no order, where there is none yet.
+    fn fill(&mut self, alloc: Global, names: Vec<String>) -> Result<(), Trouble> {
+        self.take_room(names.len())?;
+        for name in sort_names(alloc, names)? {
+            self.push(name)?;
+        }
+        self.at = 0;
+        Ok(())
     }
 
     // Adds a name that is held, above all others. A folder that another program changes may be listed with a name twice.
