@@ -61,6 +61,14 @@ head_at bytes = do
 abbrev pub put_at : Name × List ℕ → Result (Rec × List ℕ) RecFault
 put_at name = long_at name.1 >>= λ bytes. Ok (Put name.0 bytes.0, bytes.1)
 
+-- what a Copy of this name and with this head has behind them
+abbrev pub copy_behind : Name → FileHead → List ℕ → Result (Rec × List ℕ) RecFault
+copy_behind name h bytes = do
+  file ← text_at bytes
+  path ← text_at file.1
+  n ← number_at w64 path.1
+  Ok (Copy name h file.0 path.0 n.0, n.1)
+
 abbrev pub copy_at : Name × List ℕ → Result (Rec × List ℕ) RecFault
 copy_at name = do
   h ← head_at name.1

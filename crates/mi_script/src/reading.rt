@@ -4,8 +4,10 @@ ghost use Rattle.std.specs.Prelude.{◌≡◌, None, IfOk, true};
 ghost use Rattle.std.specs.Int.{w16};
 ghost use Rattle.mi_text.specs.Fold.{IsNameLength};
 ghost use Rattle.mi_text.specs.Path.{is_path};
+ghost use Rattle.mi_base.specs.declared.entry.FileHead.{FileHead};
 ghost use Rattle.mi_base.specs.Reading.{Gives, number_at, items_at};
-ghost use Rattle.mi_script.specs.Reading.{is_name, text_at, in_any_order, long_at, text_where, long_numbers_at, head_in, head_at, put_at, copy_at, dup_at, kind_at, rec_at, script_of};
+ghost use Rattle.mi_script.specs.declared.rec.Rec.TheVariants.{Copy};
+ghost use Rattle.mi_script.specs.Reading.{is_name, text_at, in_any_order, long_at, text_where, long_numbers_at, head_in, head_at, put_at, copy_behind, copy_at, dup_at, kind_at, rec_at, script_of};
 
 use crate::rec::Rec;
 use crate::script::Script;
@@ -176,20 +178,49 @@ fn put_at<'a>(alloc: Global, name: &str, bytes: &'a [u8]) -> Result<(Rec, &'a [u
     Ok((Rec::Put(name, value), rest))
 }
 
+// The name of a Copy, and what it has behind its head.
+fn copy_texts<'a>(
+    alloc: Global,
+    name: &str,
+    bytes: &'a [u8],
+) -> Result<((Name, Text, Text, u64), &'a [u8]), RecError>
+    requires { IsNameLength name.now }
+    ensures { (head : FileHead) → Gives (λ x. (Copy x.0.0 head x.0.1 x.0.2 x.0.3, x.1.now)) result (copy_behind name.now head bytes.now) }
+{
+    let (file, rest) = text_at(bytes)?;
+    let (path, rest) = text_at(rest)?;
+    let (length, rest) = u64_at(rest)?;
+    let name = name_of(alloc, name)?;
+    let Ok(file) = Text::copy_of(alloc, file) else {
+        drop(name);
+        return Err(RecError::NoMemory);
+    };
+    let Ok(path) = Text::copy_of(alloc, path) else {
+        drop(name);
+        drop(file);
+        return Err(RecError::NoMemory);
+    };
+    Ok(((name, file, path, length), rest))
+}
+
 // What a Copy has behind its name.
 fn copy_at<'a>(alloc: Global, name: &str, bytes: &'a [u8]) -> Result<(Rec, &'a [u8]), RecError>
     requires { IsNameLength name.now }
     ensures { Gives (λ x. (x.0, x.1.now)) result (copy_at (name.now, bytes.now)) }
 {
     let (head, rest) = head_at(alloc, bytes)?;
-    let (file, rest) = text_at(rest)?;
-    let (path, rest) = text_at(rest)?;
-    let (length, rest) = u64_at(rest)?;
+    let ((name, file, path, length), rest) = match copy_texts(alloc, name, rest) {
+        Ok(read) => read,
+        Err(error) => {
+            drop(head);
+            return Err(error);
+        }
+    };
     let copy = Rec::Copy {
-        name: name_of(alloc, name)?,
+        name,
         head,
-        file: Text::copy_of(alloc, file)?,
-        path: Text::copy_of(alloc, path)?,
+        file,
+        path,
         length,
     };
     Ok((copy, rest))
