@@ -260,12 +260,23 @@ pub fn read_rows<K: Key, R: TableRow<K>>(
         Answers ⊥ (rows_fault (table_as layout.now) (keys_of rows) [] 1 (meaning table.now).rows) (λ held. held.entries ≡ keyed K.key R.value rows) result }
 {
     let keys = keys_asked(alloc, layout, table)?;
-    let mut rows = IndexMap::with_capacity(alloc, table.rows.len())?;
+    let Ok(mut rows) = IndexMap::with_capacity(alloc, table.rows.len()) else {
+        drop(keys);
+        return Err(LoadError::NoMemory);
+    };
     let mut seen = Seen::new(alloc, keys);
     let mut draft = Draft {
         fields: Vec::new(alloc),
         take: Take::new(alloc),
     };
-    fill_rows(alloc, layout, table, &mut seen, &mut draft, &mut rows)?;
-    Ok(rows)
+    let filled = fill_rows(alloc, layout, table, &mut seen, &mut draft, &mut rows);
+    drop(draft);
+    drop(seen);
+    match filled {
+        Ok(()) => Ok(rows),
+        Err(error) => {
+            drop(rows);
+            Err(error)
+        }
+    }
 }

@@ -11,5 +11,5 @@ use Rattle.mi_schema.proofs.row.read_rows.Goals as goal
 pub keys_asked-requires-clause-columns : goal.keys_asked-requires-clause-columns
 keys_asked-requires-clause-columns g c = has_begun (table_as c.args.layout.now).columns (meaning c.args.table.now) c.requires.columns
 
-pub fill_rows-requires-clause-knows : goal.fill_rows-requires-clause-knows
-fill_rows-requires-clause-knows g c = subst (λ (texts : HashSet (String Global) _). KnowsKeys texts (keys_asked (table_as c.args.layout.now) (meaning c.args.table.now))) (sym c.new-seen.ensures.keys) c.in_ok-keys.ensures
+pub fill_rows-filled-requires-clause-knows : goal.fill_rows-filled-requires-clause-knows
+fill_rows-filled-requires-clause-knows g c = subst (λ (texts : HashSet (String Global) _). KnowsKeys texts (keys_asked (table_as c.args.layout.now) (meaning c.args.table.now))) (sym c.new-seen.ensures.keys) c.in_ok-keys.ensures
