@@ -101,7 +101,9 @@ fn chosen_of<E: BoundedEnv>(
 {
     let path = key_path_of(alloc, env, loaded, dirs, row)?;
     let coming = choice.is_coming(row, path.is_there(former));
-    let key_path = path.text(alloc)?;
+    let text = path.text(alloc);
+    drop(path);
+    let key_path = text?;
     let leaving = choice.is_leaving(row, has_other_count(loaded, former, row, key_path.as_str()));
     let name = String::from_str(alloc, row.component.as_str())?;
     Ok((
