@@ -6,7 +6,7 @@ ghost use Rattle.mi_text.specs.Guid.{guid_text};
 ghost use Rattle.mi_report.specs.Fields.{field_words};
 ghost use Rattle.mi_model.specs.Lines.{shown, spaced, idt_words, fault_words, cause_words, settled_words, place_words, result_words, result_line};
 
-use mi_base::{Cause, Fault, Guid, IdtFault, Kind, NoMemory, Place, Settled};
+use mi_base::{Cause, Fault, Guid, IdtFault, Kind, NoMemory, Place, Settled, Text};
 use std::alloc::Global;
 
 /// Adds a text; bytes below 32 are written as `?`.
@@ -163,12 +163,12 @@ fn push_idt(alloc: Global, out: &mut Vec<u8>, fault: &IdtFault) -> Result<(), No
 #[derive(Clone, Copy)]
 enum Fields<'a> {
     None,
-    Text(&'a str),
-    Texts(&'a str, &'a str),
-    Number(u64),
-    Row(&'a str, u64),
-    Cell(&'a str, u64, u64),
-    Nested(&'a str, &'a IdtFault),
+    Text(&'a Text),
+    Texts(&'a Text, &'a Text),
+    Number(u32),
+    Row(&'a Text, u32),
+    Cell(&'a Text, u64, u64),
+    Nested(&'a Text, &'a IdtFault),
 }
 
 /// The name of a fault, and what stands behind it.
@@ -176,47 +176,44 @@ fn fault_fields(fault: &Fault) -> (&'static str, Fields<'_>)
     ensures { result.0.now ∷ field_words result.1 ≡ fault_words fault.now }
 {
     match fault {
-        Fault::MissingTable(table) => ("MissingTable", Fields::Text(table.as_str())),
-        Fault::Idt(table, nested) => ("Idt", Fields::Nested(table.as_str(), nested)),
-        Fault::Columns(table) => ("Columns", Fields::Text(table.as_str())),
-        Fault::Unsupported(table) => ("Unsupported", Fields::Text(table.as_str())),
+        Fault::MissingTable(table) => ("MissingTable", Fields::Text(table)),
+        Fault::Idt(table, nested) => ("Idt", Fields::Nested(table, nested)),
+        Fault::Columns(table) => ("Columns", Fields::Text(table)),
+        Fault::Unsupported(table) => ("Unsupported", Fields::Text(table)),
         Fault::Value(table, row, column) => (
             "Value",
-            Fields::Cell(table.as_str(), u64::from(*row), u64::from(*column)),
+            Fields::Cell(table, u64::from(*row), u64::from(*column)),
         ),
         Fault::Condition(table, row, place) => (
             "Condition",
-            Fields::Cell(table.as_str(), u64::from(*row), *place),
+            Fields::Cell(table, u64::from(*row), *place),
         ),
-        Fault::MissingProperty(name) => ("MissingProperty", Fields::Text(name.as_str())),
+        Fault::MissingProperty(name) => ("MissingProperty", Fields::Text(name)),
         Fault::Reference(table, row, column) => (
             "Reference",
-            Fields::Cell(table.as_str(), u64::from(*row), u64::from(*column)),
+            Fields::Cell(table, u64::from(*row), u64::from(*column)),
         ),
-        Fault::Cycle(table, row) => ("Cycle", Fields::Row(table.as_str(), u64::from(*row))),
-        Fault::Compressed(file) => ("Compressed", Fields::Text(file.as_str())),
-        Fault::UnknownFeature(item) => ("UnknownFeature", Fields::Text(item.as_str())),
+        Fault::Cycle(table, row) => ("Cycle", Fields::Row(table, *row)),
+        Fault::Compressed(file) => ("Compressed", Fields::Text(file)),
+        Fault::UnknownFeature(item) => ("UnknownFeature", Fields::Text(item)),
         Fault::AddSource => ("AddSource", Fields::None),
-        Fault::BadProperty(name) => ("BadProperty", Fields::Text(name.as_str())),
-        Fault::BadPath(table, row) => ("BadPath", Fields::Row(table.as_str(), u64::from(*row))),
-        Fault::TooDeep(table, row) => ("TooDeep", Fields::Row(table.as_str(), u64::from(*row))),
-        Fault::BadKey(table, row) => ("BadKey", Fields::Row(table.as_str(), u64::from(*row))),
-        Fault::BadValue(table, row) => ("BadValue", Fields::Row(table.as_str(), u64::from(*row))),
-        Fault::BadEnvironment(row) => ("BadEnvironment", Fields::Number(u64::from(*row))),
-        Fault::SameTarget(former, later) => (
-            "SameTarget",
-            Fields::Texts(former.as_str(), later.as_str()),
-        ),
-        Fault::Missing(file) => ("Missing", Fields::Text(file.as_str())),
+        Fault::BadProperty(name) => ("BadProperty", Fields::Text(name)),
+        Fault::BadPath(table, row) => ("BadPath", Fields::Row(table, *row)),
+        Fault::TooDeep(table, row) => ("TooDeep", Fields::Row(table, *row)),
+        Fault::BadKey(table, row) => ("BadKey", Fields::Row(table, *row)),
+        Fault::BadValue(table, row) => ("BadValue", Fields::Row(table, *row)),
+        Fault::BadEnvironment(row) => ("BadEnvironment", Fields::Number(*row)),
+        Fault::SameTarget(former, later) => ("SameTarget", Fields::Texts(former, later)),
+        Fault::Missing(file) => ("Missing", Fields::Text(file)),
         Fault::SizeDiffers(file, stated, found) => (
             "SizeDiffers",
-            Fields::Cell(file.as_str(), *stated, *found),
+            Fields::Cell(file, *stated, *found),
         ),
-        Fault::UnknownAction(action) => ("UnknownAction", Fields::Text(action.as_str())),
-        Fault::Executable(action) => ("Executable", Fields::Text(action.as_str())),
-        Fault::SequenceOrder(action) => ("SequenceOrder", Fields::Text(action.as_str())),
+        Fault::UnknownAction(action) => ("UnknownAction", Fields::Text(action)),
+        Fault::Executable(action) => ("Executable", Fields::Text(action)),
+        Fault::SequenceOrder(action) => ("SequenceOrder", Fields::Text(action)),
         Fault::NoFinalize => ("NoFinalize", Fields::None),
-        Fault::BadName(action) => ("BadName", Fields::Text(action.as_str())),
+        Fault::BadName(action) => ("BadName", Fields::Text(action)),
     }
 }
 
@@ -244,12 +241,19 @@ fn push_fields(
 {
     match fields {
         Fields::None => push_word(out, name),
-        Fields::Text(text) => push_named(out, name, text),
-        Fields::Texts(first, second) => push_pair(out, name, first, second),
-        Fields::Number(number) => push_numbered(alloc, out, name, number),
-        Fields::Row(table, row) => push_row(alloc, out, name, table, row),
-        Fields::Cell(table, first, second) => push_cell(alloc, out, name, table, first, second),
-        Fields::Nested(table, fault) => push_nested(alloc, out, name, table, fault),
+        Fields::Text(text) => push_named(out, name, text.as_str()),
+        Fields::Texts(first, second) => push_pair(out, name, first.as_str(), second.as_str()),
+        Fields::Number(number) => push_numbered(alloc, out, name, u64::from(number)),
+        Fields::Row(table, row) => push_row(alloc, out, name, table.as_str(), u64::from(row)),
+        Fields::Cell(table, first, second) => push_cell(
+            alloc,
+            out,
+            name,
+            table.as_str(),
+            first,
+            second,
+        ),
+        Fields::Nested(table, fault) => push_nested(alloc, out, name, table.as_str(), fault),
     }
 }
 
