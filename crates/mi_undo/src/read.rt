@@ -127,16 +127,25 @@ fn read_number<V: Volume>(
     let Ok(gate) = gate_of(alloc, number) else {
         return Err(VolFault::NoMemory);
     };
+    let open = is_open(alloc, vol, &gate);
+    drop(gate);
+    if !open? {
+        return Ok(Turn::Shut);
+    }
     let Ok(entry) = entry_of(alloc, number) else {
         return Err(VolFault::NoMemory);
     };
-    if !is_open(alloc, vol, &gate)? {
-        return Ok(Turn::Shut);
+    match read_entry(alloc, vol, &entry, number, places, seen) {
+        Ok(true) => {
+            drop(entry);
+            Ok(Turn::Read)
+        }
+        Ok(false) => Ok(Turn::Bad(entry)),
+        Err(fault) => {
+            drop(entry);
+            Err(fault)
+        }
     }
-    if !read_entry(alloc, vol, &entry, number, places, seen)? {
-        return Ok(Turn::Bad(entry));
-    }
-    Ok(Turn::Read)
 }
 
 /// Reads the entries up to the first gate that is shut. Answers the places of their notes, and how

@@ -46,14 +46,21 @@ pub(crate) fn remove_unread<V: Volume>(
 {
     let mut after = entries_of(alloc)?;
     for _ in 0..u64::MAX {
-        let Some(name) = vol.next(alloc, Some(&after))? else {
+        let found = vol.next(alloc, Some(&after));
+        drop(after);
+        let Some(name) = found? else {
             return Ok(());
         };
         if !is_entry_like(&name) {
+            drop(name);
             return Ok(());
         }
-        remove_entry(vol, entries, &name)?;
+        let Ok(()) = remove_entry(vol, entries, &name) else {
+            drop(name);
+            return Err(UndoError::Fault);
+        };
         after = name;
     }
+    drop(after);
     Err(UndoError::NoMemory)
 }

@@ -11,23 +11,23 @@ use Rattle.mi_undo.proofs.unread.remove_unread.Goals as goal
 pub returns-in_err-name-clause-spares : goal.returns-in_err-name-clause-spares
 returns-in_err-name-clause-spares g c = λ told F ns spare.
     let far = c.loop.invariant.spares told F ns spare in
-    spares_then (g.V.Volume.state c.args.vol.now) (g.V.Volume.state c.loop.vol) (g.V.Volume.state c.next.new.self) F ns c.args.entries far (spares_looked (g.V.Volume.state c.loop.vol) (g.V.Volume.state c.next.new.self) F ns c.args.entries far.spare c.next.ensures.moments (c.next.ensures.stays told))
+    spares_then (g.V.Volume.state c.args.vol.now) (g.V.Volume.state c.loop.vol) (g.V.Volume.state c.next-found.new.self) F ns c.args.entries far (spares_looked (g.V.Volume.state c.loop.vol) (g.V.Volume.state c.next-found.new.self) F ns c.args.entries far.spare c.next-found.ensures.moments (c.next-found.ensures.stays told))
 
 pub returns-in_default-clause-spares : goal.returns-in_default-clause-spares
 returns-in_default-clause-spares g c = λ told F ns spare.
     let far = c.loop.invariant.spares told F ns spare in
-    spares_then (g.V.Volume.state c.args.vol.now) (g.V.Volume.state c.loop.vol) (g.V.Volume.state c.next.new.self) F ns c.args.entries far (spares_looked (g.V.Volume.state c.loop.vol) (g.V.Volume.state c.next.new.self) F ns c.args.entries far.spare c.next.ensures.moments (c.next.ensures.stays told))
+    spares_then (g.V.Volume.state c.args.vol.now) (g.V.Volume.state c.loop.vol) (g.V.Volume.state c.next-found.new.self) F ns c.args.entries far (spares_looked (g.V.Volume.state c.loop.vol) (g.V.Volume.state c.next-found.new.self) F ns c.args.entries far.spare c.next-found.ensures.moments (c.next-found.ensures.stays told))
 
 pub returns-then-not-is_entry_like-clause-spares : goal.returns-then-not-is_entry_like-clause-spares
 returns-then-not-is_entry_like-clause-spares g c = λ told F ns spare.
     let far = c.loop.invariant.spares told F ns spare in
-    spares_then (g.V.Volume.state c.args.vol.now) (g.V.Volume.state c.loop.vol) (g.V.Volume.state c.next.new.self) F ns c.args.entries far (spares_looked (g.V.Volume.state c.loop.vol) (g.V.Volume.state c.next.new.self) F ns c.args.entries far.spare c.next.ensures.moments (c.next.ensures.stays told))
+    spares_then (g.V.Volume.state c.args.vol.now) (g.V.Volume.state c.loop.vol) (g.V.Volume.state c.next-found.new.self) F ns c.args.entries far (spares_looked (g.V.Volume.state c.loop.vol) (g.V.Volume.state c.next-found.new.self) F ns c.args.entries far.spare c.next-found.ensures.moments (c.next-found.ensures.stays told))
 
-pub returns-in_err-remove_entry-clause-spares : goal.returns-in_err-remove_entry-clause-spares
-returns-in_err-remove_entry-clause-spares g c = λ told F ns spare.
+pub returns-in_default-remove_entry-clause-spares : goal.returns-in_default-remove_entry-clause-spares
+returns-in_default-remove_entry-clause-spares g c = λ told F ns spare.
     let far = c.loop.invariant.spares told F ns spare in
-    let looked = spares_then (g.V.Volume.state c.args.vol.now) (g.V.Volume.state c.loop.vol) (g.V.Volume.state c.next.new.self) F ns c.args.entries far (spares_looked (g.V.Volume.state c.loop.vol) (g.V.Volume.state c.next.new.self) F ns c.args.entries far.spare c.next.ensures.moments (c.next.ensures.stays told)) in
-    spares_then (g.V.Volume.state c.args.vol.now) (g.V.Volume.state c.next.new.self) (g.V.Volume.state c.remove_entry.new.vol) F ns c.args.entries looked (c.remove_entry.ensures.spares told F ns looked.spare)
+    let looked = spares_then (g.V.Volume.state c.args.vol.now) (g.V.Volume.state c.loop.vol) (g.V.Volume.state c.next-found.new.self) F ns c.args.entries far (spares_looked (g.V.Volume.state c.loop.vol) (g.V.Volume.state c.next-found.new.self) F ns c.args.entries far.spare c.next-found.ensures.moments (c.next-found.ensures.stays told)) in
+    spares_then (g.V.Volume.state c.args.vol.now) (g.V.Volume.state c.next-found.new.self) (g.V.Volume.state c.remove_entry.new.vol) F ns c.args.entries looked (c.remove_entry.ensures.spares told F ns looked.spare)
 
 pub loop-init : goal.loop-init
 loop-init g c = record {
@@ -39,14 +39,14 @@ loop-init g c = record {
 
 pub returns-in_default-clause-away : goal.returns-in_default-clause-away
 returns-in_default-clause-away g c = λ told.
-    let s = g.V.Volume.state c.loop.vol in let t = g.V.Volume.state c.next.new.self in
-    let held = (c.next.ensures.stays told).held in
+    let s = g.V.Volume.state c.loop.vol in let t = g.V.Volume.state c.next-found.new.self in
+    let held = (c.next-found.ensures.stays told).held in
     none_behind t.held c.args.entries c.loop.after (gone_same s.held t.held c.args.entries c.loop.after held (c.loop.invariant.gone told)) (still_next s.held t.held c.loop.after _ held (sym (c.in_ok-name.ensures.value told) ∙ c.in_default.is))
 
 pub returns-then-not-is_entry_like-clause-away : goal.returns-then-not-is_entry_like-clause-away
 returns-then-not-is_entry_like-clause-away g c = λ told.
-    let s = g.V.Volume.state c.loop.vol in let t = g.V.Volume.state c.next.new.self in
-    let held = (c.next.ensures.stays told).held in
+    let s = g.V.Volume.state c.loop.vol in let t = g.V.Volume.state c.next-found.new.self in
+    let held = (c.next-found.ensures.stays told).held in
     let above = above_some _ c.loop.after c.in-Some.name c.in-Some.is c.in_ok-name.ensures.above in
     past_entries t.held c.args.entries c.loop.after (gone_same s.held t.held c.args.entries c.loop.after held (c.loop.invariant.gone told)) c.in-Some.name (still_next s.held t.held c.loop.after _ held (sym (c.in_ok-name.ensures.value told) ∙ c.in-Some.is))
     c.loop.invariant.like (sym c.is_entry_like.ensures ∙ c.if-not-is_entry_like.true) (ap is_gt (names_total.antisymm c.in-Some.name c.loop.after ∙ ap ordering_reverse above))
@@ -55,13 +55,13 @@ pub loop-preserved : goal.loop-preserved
 loop-preserved g c = record {
   spares = λ told F ns spare.
       let far = c.loop.invariant.spares told F ns spare in
-      let looked = spares_then (g.V.Volume.state c.args.vol.now) (g.V.Volume.state c.loop.vol) (g.V.Volume.state c.next.new.self) F ns c.args.entries far (spares_looked (g.V.Volume.state c.loop.vol) (g.V.Volume.state c.next.new.self) F ns c.args.entries far.spare c.next.ensures.moments (c.next.ensures.stays told)) in
-      spares_then (g.V.Volume.state c.args.vol.now) (g.V.Volume.state c.next.new.self) (g.V.Volume.state c.remove_entry.new.vol) F ns c.args.entries looked (c.remove_entry.ensures.spares told F ns looked.spare);
+      let looked = spares_then (g.V.Volume.state c.args.vol.now) (g.V.Volume.state c.loop.vol) (g.V.Volume.state c.next-found.new.self) F ns c.args.entries far (spares_looked (g.V.Volume.state c.loop.vol) (g.V.Volume.state c.next-found.new.self) F ns c.args.entries far.spare c.next-found.ensures.moments (c.next-found.ensures.stays told)) in
+      spares_then (g.V.Volume.state c.args.vol.now) (g.V.Volume.state c.next-found.new.self) (g.V.Volume.state c.remove_entry.new.vol) F ns c.args.entries looked (c.remove_entry.ensures.spares told F ns looked.spare);
   like = sym c.is_entry_like.ensures ∙ c.if-not-is_entry_like.false;
   gone = λ told.
-      let s = g.V.Volume.state c.loop.vol in let t = g.V.Volume.state c.next.new.self in
-      let held = (c.next.ensures.stays told).held in
+      let s = g.V.Volume.state c.loop.vol in let t = g.V.Volume.state c.next-found.new.self in
+      let held = (c.next-found.ensures.stays told).held in
       gone_more t.held c.args.entries c.loop.after (gone_same s.held t.held c.args.entries c.loop.after held (c.loop.invariant.gone told)) c.in-Some.name (still_next s.held t.held c.loop.after _ held (sym (c.in_ok-name.ensures.value told) ∙ c.in-Some.is))
-      (g.V.Volume.state c.remove_entry.new.vol).held (c.in_ok-remove_entry.ensures.away told) (c.in_ok-remove_entry.ensures.still told);
-  passes = then_passes _ _ _ (then_passes _ _ _ c.loop.invariant.passes (passes _ _ _ c.next.ensures.moments)) c.remove_entry.ensures.passes;
+      (g.V.Volume.state c.remove_entry.new.vol).held (c.in-Ok.ensures.away told) (c.in-Ok.ensures.still told);
+  passes = then_passes _ _ _ (then_passes _ _ _ c.loop.invariant.passes (passes _ _ _ c.next-found.ensures.moments)) c.remove_entry.ensures.passes;
 }
