@@ -43,15 +43,22 @@ fn sweep_above<V: Volume>(
 {
     let mut after = top;
     for _ in 0..u64::MAX {
-        let Some(name) = vol.next(alloc, Some(&after))? else {
+        let found = vol.next(alloc, Some(&after));
+        drop(after);
+        let Some(name) = found? else {
             return Ok(());
         };
         if !is_within(&name) {
+            drop(name);
             return Ok(());
         }
-        sweep_name(vol, marker_name, &name)?;
+        let Ok(()) = sweep_name(vol, marker_name, &name) else {
+            drop(name);
+            return Err(UndoError::Fault);
+        };
         after = name;
     }
+    drop(after);
     Err(UndoError::NoMemory)
 }
 
