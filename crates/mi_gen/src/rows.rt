@@ -52,8 +52,7 @@ pub fn push_component(alloc: Global, out: &mut Vec<u8>, file: u32) -> Result<(),
             Field::Null,
             Field::Text(key_path.as_str()),
         ],
-    )?;
-    Ok(())
+    )
 }
 
 /// Adds the row that gives this component to the feature.
@@ -65,8 +64,7 @@ pub fn push_feature_component(alloc: Global, out: &mut Vec<u8>, file: u32) -> Re
         alloc,
         out,
         &[Field::Text("Main"), Field::Text(component.as_str())],
-    )?;
-    Ok(())
+    )
 }
 
 /// Adds the row of a file.
@@ -90,8 +88,7 @@ pub fn push_file(alloc: Global, out: &mut Vec<u8>, file: u32) -> Result<(), NoMe
             Field::Null,
             Field::Number(file + 1),
         ],
-    )?;
-    Ok(())
+    )
 }
 
 /// Adds the row of a file's value.
@@ -113,6 +110,5 @@ pub fn push_registry(alloc: Global, out: &mut Vec<u8>, file: u32) -> Result<(), 
             Field::Text(value.as_str()),
             Field::Text(component.as_str()),
         ],
-    )?;
-    Ok(())
+    )
 }

@@ -1,4 +1,5 @@
-use Rattle.std.proofs.Common.{◌≡◌, ◌∙◌, ◌++◌, ◌+◌, suc, [], ◌∷◌, List, ℕ, pos, codes, arith}
+use Rattle.std.proofs.Common.{◌≡◌, ◌∙◌, ◌++◌, ◌+◌, suc, [], ◌∷◌, List, ℕ, pos, codes, subst, arith}
+use Rattle.std.specs.Prelude.{OnOk}
 use Rattle.mi_idt.specs.Cells.{Nothing, Text, Number}
 use Rattle.mi_idt.specs.Written.{written_row, with_ends}
 use Rattle.mi_model.specs.Selftest.{numbered, component_of, name_of_file}
@@ -12,4 +13,4 @@ returns c =
     let component : c.as_str-2.result.now ≡ component_of c.args.file = c.as_str-2.ensures ∙ c.in_ok-component.ensures in
     let name : c.as_str-3.result.now ≡ name_of_file c.args.file = c.as_str-3.ensures ∙ c.in_ok-name.ensures in
     let next : c.args.file + 1 ≡ suc c.args.file = omega arith in
-    c.in_ok-push_row.ensures ∙ (λ i. line (key i) (component i) (name i) (next i))
+    subst (λ (written : List ℕ). OnOk c.push_row.result (c.push_row.new.out.items ≡ written)) (λ i. line (key i) (component i) (name i) (next i)) c.push_row.ensures

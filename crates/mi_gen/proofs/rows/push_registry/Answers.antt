@@ -1,4 +1,5 @@
-use Rattle.std.proofs.Common.{◌≡◌, ◌∙◌, ◌++◌, [], ◌∷◌, List, ℕ, pos, codes}
+use Rattle.std.proofs.Common.{◌≡◌, ◌∙◌, ◌++◌, [], ◌∷◌, List, ℕ, pos, codes, subst}
+use Rattle.std.specs.Prelude.{OnOk}
 use Rattle.mi_base.specs.Names.{four_digits}
 use Rattle.mi_idt.specs.Cells.{Text, Number}
 use Rattle.mi_idt.specs.Written.{written_row, with_ends}
@@ -13,4 +14,4 @@ returns c =
     let name : c.as_str-2.result.now ≡ numbered (codes "v") c.args.file = c.as_str-2.ensures ∙ c.in_ok-name.ensures in
     let value : c.as_str-3.result.now ≡ four_digits c.args.file = c.as_str-3.ensures ∙ c.in_ok-value.ensures in
     let component : c.as_str-4.result.now ≡ component_of c.args.file = c.as_str-4.ensures ∙ c.in_ok-component.ensures in
-    c.in_ok-push_row.ensures ∙ (λ i. line (key i) (name i) (value i) (component i))
+    subst (λ (written : List ℕ). OnOk c.push_row.result (c.push_row.new.out.items ≡ written)) (λ i. line (key i) (name i) (value i) (component i)) c.push_row.ensures
