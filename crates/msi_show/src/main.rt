@@ -146,15 +146,22 @@ fn print(rt: HostRuntime, text: &[u8]) -> Result<(), Stop> {
     }
 }
 
-fn print_machine(rt: HostRuntime, folder: &str) -> Result<(), Stop> {
+// Prints the machine of a volume.
+fn print_volume<V: Volume>(rt: HostRuntime, volume: &mut V) -> Result<(), Stop> {
     let alloc = rt.alloc();
-    let mut volume = FolderVolume::to_read(rt, alloc, folder)?;
-    let waits = is_waiting(alloc, &mut volume)?;
-    let text = show(alloc, &mut volume)?;
+    let waits = is_waiting(alloc, volume)?;
+    let text = show(alloc, volume)?;
     if waits {
         print(rt, WAITING.as_bytes())?;
     }
     print(rt, text.as_slice())
+}
+
+fn print_machine(rt: HostRuntime, folder: &str) -> Result<(), Stop> {
+    let mut volume = FolderVolume::to_read(rt, rt.alloc(), folder)?;
+    let printed = print_volume(rt, &mut volume);
+    drop(volume);
+    printed
 }
 
 // Whether a run was stopped in the folder that is compared with.
@@ -166,13 +173,16 @@ fn is_other_waiting<V: Volume>(alloc: Global, other: &mut V) -> Result<bool, Sto
     }
 }
 
-fn print_difference(rt: HostRuntime, other: &str, folder: &str) -> Result<(), Stop> {
+// Prints what differs from the machine of the first volume to that of the second.
+fn print_changes<B: Volume, V: Volume>(
+    rt: HostRuntime,
+    before: &mut B,
+    volume: &mut V,
+) -> Result<(), Stop> {
     let alloc = rt.alloc();
-    let mut before = FolderVolume::to_read(rt, alloc, other)?;
-    let mut volume = FolderVolume::to_read(rt, alloc, folder)?;
-    let before_waits = is_other_waiting(alloc, &mut before)?;
-    let waits = is_waiting(alloc, &mut volume)?;
-    let text = diff(alloc, &mut volume, &mut before)?;
+    let before_waits = is_other_waiting(alloc, before)?;
+    let waits = is_waiting(alloc, volume)?;
+    let text = diff(alloc, volume, before)?;
     if before_waits {
         print(rt, OTHER_WAITING.as_bytes())?;
     }
@@ -180,6 +190,21 @@ fn print_difference(rt: HostRuntime, other: &str, folder: &str) -> Result<(), St
         print(rt, WAITING.as_bytes())?;
     }
     print(rt, text.as_slice())
+}
+
+// Prints what differs from the machine of a volume to that of a folder.
+fn print_compared<B: Volume>(rt: HostRuntime, before: &mut B, folder: &str) -> Result<(), Stop> {
+    let mut volume = FolderVolume::to_read(rt, rt.alloc(), folder)?;
+    let printed = print_changes(rt, before, &mut volume);
+    drop(volume);
+    printed
+}
+
+fn print_difference(rt: HostRuntime, other: &str, folder: &str) -> Result<(), Stop> {
+    let mut before = FolderVolume::to_read(rt, rt.alloc(), other)?;
+    let printed = print_compared(rt, &mut before, folder);
+    drop(before);
+    printed
 }
 
 fn carry_out(rt: HostRuntime) -> Result<(), Stop> {
