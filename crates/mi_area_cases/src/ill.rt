@@ -7,7 +7,7 @@ use std::num::ParseIntError;
 use std::str::Utf8Error;
 
 /// Why a step can't be carried out.
-#[derive(Clone, Copy, Debug, PartialEq, Eq)]
+#[derive(Clone, Copy)]
 pub enum Ill {
     /// Memory ran out.
     NoMemory,

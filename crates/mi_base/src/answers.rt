@@ -20,7 +20,7 @@ pub enum Kind {
 }
 
 /// Where a run was suspended.
-#[derive(Clone, Copy, Debug, PartialEq, Eq)]
+#[derive(Clone, Copy)]
 pub enum Place {
     /// While the old bytes were put back.
     InRollback,

@@ -16,7 +16,7 @@ use std::hash::{Hash, Hasher};
 use std::marker::Model;
 
 /// Texts in order.
-#[derive(Debug, Drop)]
+#[derive(Drop)]
 pub struct Texts {
     items: Vec<Text>,
 }
@@ -133,7 +133,7 @@ impl Hash for Texts {
 }
 
 /// Languages in order (File table, column Language).
-#[derive(Debug, Drop)]
+#[derive(Drop)]
 pub struct Languages {
     items: Vec<u16>,
 }

@@ -16,7 +16,7 @@ pub enum RecFault {
 }
 
 /// Why a record can't be read.
-#[derive(Clone, Copy, Debug, PartialEq, Eq, Error)]
+#[derive(Clone, Copy, Debug, Error)]
 pub enum RecError {
     #[error("out of memory")]
     NoMemory,
@@ -58,7 +58,7 @@ impl<T: Drop> From<AllocFailed<T>> for RecError {
 }
 
 /// Why an entry has no record.
-#[derive(Clone, Copy, Debug, PartialEq, Eq)]
+#[derive(Clone, Copy)]
 pub enum EncError {
     NoMemory,
     /// A text, list, number or key breaks a limit or rule.

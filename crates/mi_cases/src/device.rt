@@ -10,7 +10,7 @@ use mi_volume::{Failed, MemVolume, PutFault, VolFault, Volume};
 use std::alloc::Global;
 
 /// The calls of a volume that change it.
-#[derive(Clone, Copy, Debug, PartialEq, Eq)]
+#[derive(Clone, Copy)]
 pub enum CallKind {
     Put,
     Append,

@@ -8,7 +8,7 @@ use mi_text::{Bytes, NoMemory};
 use std::alloc::Global;
 
 /// Want of room: the bytes that a run needs, and the bytes that are free.
-#[derive(Clone, Copy, Debug, PartialEq, Eq)]
+#[derive(Clone, Copy, PartialEq, Eq)]
 pub struct Full {
     pub need: u64,
     pub free: u64,

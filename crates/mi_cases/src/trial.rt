@@ -262,7 +262,7 @@ fn is_wrong(bench: &Bench, told: &Told) -> bool {
 }
 
 /// Which calls a trial is of.
-#[derive(Clone, Copy, Debug, PartialEq, Eq)]
+#[derive(Clone, Copy)]
 pub enum Device {
     Volume,
     Source,

@@ -9,7 +9,7 @@ use std::alloc::{AllocError, AllocFailed};
 
 /// Why a text is no condition, with the length in bytes of its longest front that begins a condition
 /// (Conditional Statement Syntax; the limit of 64 is this project's own).
-#[derive(Clone, Copy, PartialEq, Eq)]
+#[derive(Clone, Copy)]
 pub enum CondFault {
     /// No condition goes on with the next byte, or the text ends before the condition does.
     Syntax(u64),
@@ -18,7 +18,7 @@ pub enum CondFault {
 }
 
 /// Why `Cond::read` gives no condition.
-#[derive(Clone, Copy, PartialEq, Eq)]
+#[derive(Clone, Copy)]
 pub enum CondError {
     NoMemory,
     Fault(CondFault),

@@ -14,7 +14,7 @@ pub enum Operator {
 
 /// What a comparison asks of its two sides (Conditional Statement Syntax, "Comparison Operators",
 /// "Substring Operators" and "Bitwise Numeric Operators").
-#[derive(Clone, Copy, PartialEq, Eq)]
+#[derive(Clone, Copy)]
 pub enum Relation {
     /// `=`
     Equal,

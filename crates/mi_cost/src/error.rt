@@ -3,7 +3,7 @@
 use mi_base::NoMemory;
 
 /// Why the cost of scripts isn't told (this project's own).
-#[derive(Clone, Copy, Debug, PartialEq, Eq)]
+#[derive(Clone, Copy)]
 pub enum CostError {
     NoMemory,
     /// It is more than 64 bits count.

@@ -7,7 +7,7 @@ use mi_text::NoMemory;
 use std::alloc::{AllocError, AllocFailed};
 
 /// Why directories are refused. Rows count from 1; the greatest u32 stands for every later row.
-#[derive(Clone, Copy, Debug, PartialEq, Eq)]
+#[derive(Clone, Copy)]
 pub enum DirFault {
     /// The first row whose chain of parents doesn't end.
     Cycle(u32),
@@ -16,7 +16,7 @@ pub enum DirFault {
 }
 
 /// Want of memory, or why directories are refused.
-#[derive(Clone, Copy, Debug, PartialEq, Eq)]
+#[derive(Clone, Copy)]
 pub enum DirError {
     NoMemory,
     Fault(DirFault),

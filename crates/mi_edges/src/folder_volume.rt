@@ -18,7 +18,7 @@ use std::fs::Files;
 use thiserror::Error;
 
 /// Why a folder can't be a volume.
-#[derive(Clone, Copy, Debug, PartialEq, Eq, Error)]
+#[derive(Clone, Copy, Debug, Error)]
 pub enum EdgeFault {
     /// The folder can't be made or locked, or what an earlier process wrote can't be synced.
     #[error("the folder can't be made, locked or synced")]

@@ -6,7 +6,7 @@ use std::io::ErrorKind;
 use std::{fs, io};
 
 /// What stands at a path. A link is never followed.
-#[derive(Clone, Copy, Debug, PartialEq, Eq)]
+#[derive(Clone, Copy, PartialEq, Eq)]
 pub enum Found {
     /// Nothing.
     Nothing,

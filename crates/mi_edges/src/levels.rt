@@ -15,7 +15,7 @@ fn parent_of(folder: &str) -> &str {
 }
 
 /// What is done with each level of a folder's path, the highest first.
-#[derive(Clone, Copy, Debug, PartialEq, Eq)]
+#[derive(Clone, Copy)]
 pub enum Levels {
     /// It is made where it isn't there, and then the entry that names it is synced. What stands there and is no folder,
     /// nor a link to one, is a failure.

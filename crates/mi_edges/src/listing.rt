@@ -9,7 +9,7 @@ use std::alloc::Global;
 use std::fs::Files;
 
 /// What is done with each folder that is listed.
-#[derive(Clone, Copy, Debug, PartialEq, Eq)]
+#[derive(Clone, Copy)]
 pub enum Folders {
     /// It is listed alone.
     Listed,

@@ -5,7 +5,7 @@ use std::io;
 use std::io::ErrorKind;
 
 /// Why a call of the system has failed.
-#[derive(Clone, Copy, Debug, PartialEq, Eq)]
+#[derive(Clone, Copy)]
 pub enum Trouble {
     /// There is no such file or folder.
     Absent,

@@ -1,7 +1,7 @@
 //! What becomes of a feature.
 
 /// What is asked of a feature (ADDLOCAL, REMOVE and REINSTALL Properties).
-#[derive(Clone, Copy, Debug, PartialEq, Eq)]
+#[derive(Clone, Copy)]
 pub enum Request {
     /// It is to be installed.
     Local,
@@ -12,7 +12,7 @@ pub enum Request {
 }
 
 /// What becomes of a feature.
-#[derive(Clone, Copy, Debug, PartialEq, Eq)]
+#[derive(Clone, Copy)]
 pub struct FeatureChoice {
     /// What is asked of it.
     pub request: Option<Request>,

@@ -7,14 +7,14 @@ ghost use Rattle.mi_format.specs.declared.error.LimitError.TheVariants.{NoMemory
 use mi_text::NoMemory;
 
 /// Why a text has no expansion.
-#[derive(Clone, Copy, Debug, PartialEq, Eq)]
+#[derive(Clone, Copy)]
 pub enum FormatFault {
     /// Some prefix of its tokens has more than 64 open marks whose groups don't end in it.
     TooDeep,
 }
 
 /// Why a text isn't expanded: want of memory, or the text.
-#[derive(Clone, Copy, Debug, PartialEq, Eq)]
+#[derive(Clone, Copy)]
 pub enum FormatError {
     NoMemory,
     Fault(FormatFault),
@@ -29,7 +29,7 @@ impl From<NoMemory> for FormatError {
 }
 
 /// Why a text has no expansion within a limit.
-#[derive(Clone, Copy, Debug, PartialEq, Eq)]
+#[derive(Clone, Copy)]
 pub enum LimitFault {
     /// Some prefix of its tokens has more than 64 open marks whose groups don't end in it.
     TooDeep,
@@ -38,7 +38,7 @@ pub enum LimitFault {
 }
 
 /// Why a text isn't expanded within a limit: want of memory, or the text.
-#[derive(Clone, Copy, Debug, PartialEq, Eq)]
+#[derive(Clone, Copy)]
 pub enum LimitError {
     NoMemory,
     Fault(LimitFault),

@@ -5,7 +5,7 @@ ghost use Rattle.std.specs.List.{list_all};
 ghost use Rattle.mi_fver.specs.LetterTests.{is_letter, has_letter};
 
 /// Which letters stand in a REINSTALLMODE (REINSTALLMODE property).
-#[derive(Clone, Copy, Debug, PartialEq, Eq)]
+#[derive(Clone, Copy)]
 pub struct Mode {
     /// Where the file is absent.
     pub p: bool,
@@ -28,7 +28,7 @@ pub struct Mode {
 }
 
 /// A letter isn't one of `p o e d a u m s v`.
-#[derive(Clone, Copy, Debug, PartialEq, Eq)]
+#[derive(Clone, Copy)]
 pub struct BadMode;
 
 const fn is_letter(letter: u8) -> bool

@@ -4,7 +4,7 @@ use mi_base::{Name, NoMemory};
 use mi_volume::{Failed, VolFault};
 
 /// Why a volume gives no image (this project's own).
-#[derive(Debug, Drop)]
+#[derive(Drop)]
 pub enum ImageError {
     NoMemory,
     /// The volume has failed, and counts it.

@@ -4,7 +4,7 @@ use mi_base::{Bytes, Entry, FileEntry, FileHead, Languages, Name, NoMemory, Path
 use std::alloc::{AllocError, AllocFailed, Global};
 
 /// What stops the making of names, which is want of memory alone.
-#[derive(Debug, Drop)]
+#[derive(Drop)]
 pub struct NotMade;
 
 impl From<NoMemory> for NotMade {

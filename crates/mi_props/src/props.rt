@@ -15,7 +15,7 @@ use std::collections::BTreeMap;
 use std::marker::Model;
 
 /// Why a property is refused.
-#[derive(Clone, Copy, Debug, PartialEq, Eq)]
+#[derive(Clone, Copy)]
 pub enum PropFault {
     /// A word of the command line sets a property whose name isn't public.
     PrivateName,
@@ -24,7 +24,7 @@ pub enum PropFault {
 }
 
 /// Want of memory, or why a property is refused.
-#[derive(Clone, Copy, Debug, PartialEq, Eq)]
+#[derive(Clone, Copy)]
 pub enum PropError {
     NoMemory,
     Fault(PropFault),

@@ -6,7 +6,7 @@ ghost use Rattle.mi_regval.specs.declared.error.ValueError.TheVariants.{NoMemory
 use mi_base::NoMemory;
 
 /// What is wrong with a text.
-#[derive(Clone, Copy, Debug, PartialEq, Eq)]
+#[derive(Clone, Copy)]
 pub enum ValueFault {
     /// What stands behind `#` is no integer, or none of 32 bits.
     BadInt,
@@ -15,7 +15,7 @@ pub enum ValueFault {
 }
 
 /// Why there is no value: want of memory, or the text.
-#[derive(Clone, Copy, Debug, PartialEq, Eq)]
+#[derive(Clone, Copy)]
 pub enum ValueError {
     NoMemory,
     Fault(ValueFault),

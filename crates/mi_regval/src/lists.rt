@@ -12,7 +12,7 @@ use mi_base::{NoMemory, Texts};
 use std::alloc::Global;
 
 /// Where the items of a text go beside a list that stood before (Registry table, column Value: `[~]`).
-#[derive(Clone, Copy, Debug, PartialEq, Eq)]
+#[derive(Clone, Copy)]
 pub enum Side {
     /// In its side: a byte 0 is a mark at both ends of the text, or at none.
     Instead,

@@ -4,7 +4,7 @@ ghost use Rattle.std.specs.Prelude.{◌≡◌, map};
 ghost use Rattle.mi_schema.specs.Tables.{listed, listed_as};
 
 /// A known table (Database Tables).
-#[derive(Clone, Copy, PartialEq, Eq)]
+#[derive(Clone, Copy)]
 pub enum Known {
     Component,
     Condition,
@@ -29,7 +29,7 @@ pub enum Known {
 }
 
 /// A table whose keys other tables name.
-#[derive(Clone, Copy, PartialEq, Eq)]
+#[derive(Clone, Copy)]
 pub enum Target {
     Component,
     Directory,

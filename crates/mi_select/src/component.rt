@@ -9,7 +9,7 @@ use mi_features::has_attribute;
 use mi_schema::ComponentRow;
 
 /// What is done to a component (Component Table).
-#[derive(Clone, Copy, Debug, PartialEq, Eq)]
+#[derive(Clone, Copy)]
 pub enum Action {
     /// It is installed, or repaired.
     MakeLocal,
@@ -18,7 +18,7 @@ pub enum Action {
 }
 
 /// What is done to a component, and what of it was there before the run.
-#[derive(Clone, Copy, Debug, PartialEq, Eq)]
+#[derive(Clone, Copy)]
 pub struct ComponentChoice {
     /// What is done to it.
     pub action: Option<Action>,

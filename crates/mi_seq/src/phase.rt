@@ -4,7 +4,7 @@ ghost use Rattle.std.specs.Prelude.{◌≡◌};
 ghost use Rattle.mi_seq.specs.Meaning.{phase_action};
 
 /// A standard action whose rows touch the machine (Standard Actions Reference).
-#[derive(Clone, Copy, Debug, PartialEq, Eq)]
+#[derive(Clone, Copy)]
 pub enum Phase {
     ProcessComponents,
     RemoveRegistryValues,

@@ -5,11 +5,11 @@ use std::alloc::{AllocError, AllocFailed};
 use thiserror::Error;
 
 /// The source or the sink has failed.
-#[derive(Clone, Copy, Debug, PartialEq, Eq)]
+#[derive(Clone, Copy, PartialEq, Eq)]
 pub struct Failed;
 
 /// Why a source doesn't answer.
-#[derive(Clone, Copy, Debug, PartialEq, Eq, Drop, Error)]
+#[derive(Clone, Copy, Debug, Drop, Error)]
 pub enum SrcFault {
     #[error("out of memory")]
     NoMemory,

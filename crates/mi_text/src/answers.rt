@@ -3,7 +3,7 @@
 use crate::text::Text;
 
 /// What settling the rollback area found.
-#[derive(Clone, Copy, Debug, PartialEq, Eq)]
+#[derive(Clone, Copy)]
 pub enum Settled {
     /// The marker wasn't open: nothing was undone.
     Clean,

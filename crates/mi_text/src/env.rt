@@ -4,7 +4,7 @@ ghost use Rattle.std.specs.Prelude.{◌≡◌};
 ghost use Rattle.mi_text.specs.Lookups.{Lookups};
 
 /// Which state is asked for (Conditional Statement Syntax, "Access Prefixes").
-#[derive(Clone, Copy, Debug, PartialEq, Eq)]
+#[derive(Clone, Copy)]
 pub enum Sign {
     /// `$`, the action of a component.
     Action,

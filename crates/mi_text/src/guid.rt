@@ -9,13 +9,13 @@ use std::alloc::Global;
 use uuid::Uuid;
 
 /// A product or component code (GUID): its sixteen bytes as one number, most significant first.
-#[derive(Clone, Copy, Debug, PartialEq, Eq, PartialOrd, Ord)]
+#[derive(Clone, Copy, PartialEq, Eq, PartialOrd, Ord)]
 pub struct Guid {
     pub number: u128,
 }
 
 /// The text isn't a code in braces.
-#[derive(Clone, Copy, Debug, PartialEq, Eq)]
+#[derive(Clone, Copy)]
 pub struct NotGuid;
 
 impl Guid {

@@ -16,13 +16,13 @@ use std::hash::{Hash, Hasher};
 use std::marker::Model;
 
 /// A name of the volume: a text of 1 to 1,024 bytes.
-#[derive(Debug, Drop)]
+#[derive(Drop)]
 pub struct Name {
     text: Text,
 }
 
 /// Why a text is no name.
-#[derive(Clone, Copy, Debug, PartialEq, Eq)]
+#[derive(Clone, Copy)]
 pub enum NameError {
     /// It has no bytes, or more than 1,024.
     Length,

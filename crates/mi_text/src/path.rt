@@ -12,7 +12,7 @@ use std::alloc::{AllocError, Global};
 use std::marker::Model;
 
 /// Why a text names no path.
-#[derive(Clone, Copy, Debug, PartialEq, Eq)]
+#[derive(Clone, Copy)]
 pub enum PathFault {
     /// It doesn't begin at the drive.
     NotAbsolute,
@@ -23,7 +23,7 @@ pub enum PathFault {
 }
 
 /// Why there is no path: want of memory, or the text.
-#[derive(Clone, Copy, Debug, PartialEq, Eq)]
+#[derive(Clone, Copy)]
 pub enum PathError {
     NoMemory,
     Fault(PathFault),
@@ -47,7 +47,7 @@ impl From<AllocError> for PathError {
 
 /// The canonical path of a folder or a file on the drive `C:`, of at most 259 bytes: a folder's ends with `\`, as `C:\`
 /// does, and a file's doesn't. Contracts see its bytes.
-#[derive(Debug, Drop)]
+#[derive(Drop)]
 pub struct PathText {
     text: Text,
 }

@@ -6,7 +6,7 @@ ghost use Rattle.mi_text.specs.Plain.{text_in, state_in};
 use crate::env::{Env, Sign};
 
 /// Look-ups in lists. The first item of a name counts.
-#[derive(Debug, Drop)]
+#[derive(Drop)]
 pub struct PlainEnv {
     pub properties: Vec<(String, String)>,
     pub variables: Vec<(String, String)>,

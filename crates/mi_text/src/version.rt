@@ -10,7 +10,7 @@ ghost use Rattle.mi_text.specs.VersionParts.{parts_left, IsNextNumber};
 use std::cmp::Ordering;
 
 /// A version of four numbers (File Versioning Rules; ProductVersion property). Its order is that of `compare`.
-#[derive(Clone, Copy, Debug, PartialEq, Eq, PartialOrd, Ord)]
+#[derive(Clone, Copy, PartialEq, Eq, PartialOrd, Ord)]
 pub struct Version {
     pub major: u16,
     pub minor: u16,
@@ -19,7 +19,7 @@ pub struct Version {
 }
 
 /// The text is no version.
-#[derive(Clone, Copy, Debug, PartialEq, Eq)]
+#[derive(Clone, Copy)]
 pub struct NotVersion;
 
 // The text before the first point, and what stands behind that point.

@@ -58,7 +58,7 @@ pub enum Shape {
 }
 
 /// What is done with a Directory table.
-#[derive(Clone, Copy, PartialEq, Eq)]
+#[derive(Clone, Copy)]
 pub enum DirectoryCall {
     /// Nothing, so that its memory is told apart from that of the calls.
     Make,

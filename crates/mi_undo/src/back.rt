@@ -25,7 +25,7 @@ use mi_volume::{Failed, PIECE, Volume};
 use std::alloc::Global;
 
 /// Where putting back has ended: the place of the note, and why.
-#[derive(Clone, Copy, Debug)]
+#[derive(Clone, Copy)]
 pub(crate) struct Stuck {
     pub(crate) at: usize,
     pub(crate) fault: OpFault,

@@ -10,7 +10,7 @@ use mi_volume::{Failed, PutFault, VolFault};
 use std::alloc::{AllocError, AllocFailed};
 
 /// Why a call of an area failed.
-#[derive(Clone, Copy, Debug, PartialEq, Eq)]
+#[derive(Clone, Copy)]
 pub enum OpFault {
     NoMemory,
     /// The volume has failed.
@@ -20,7 +20,7 @@ pub enum OpFault {
 }
 
 /// Why an area wasn't gone back over.
-#[derive(Clone, Copy, Debug, PartialEq, Eq)]
+#[derive(Clone, Copy)]
 pub enum BackFault {
     NoMemory,
     /// The volume has failed before the old bytes were on the disk.
@@ -30,7 +30,7 @@ pub enum BackFault {
 }
 
 /// How a commit failed.
-#[derive(Clone, Copy, Debug, PartialEq, Eq)]
+#[derive(Clone, Copy)]
 pub enum CommitFault {
     /// The changes couldn't be put on the disk. Going back is possible.
     Before,
@@ -42,7 +42,7 @@ pub enum CommitFault {
 }
 
 /// Why a volume wasn't settled.
-#[derive(Debug, Drop)]
+#[derive(Drop)]
 pub enum UndoError {
     NoMemory,
     /// The volume has failed.

@@ -4,7 +4,7 @@ use mi_text::Name;
 use std::collections::BTreeSet;
 
 /// A run of an entry's bytes, from `at` up to `end`.
-#[derive(Clone, Copy, Debug, PartialEq, Eq)]
+#[derive(Clone, Copy)]
 pub struct Span {
     pub at: u64,
     pub end: u64,
@@ -21,7 +21,7 @@ pub struct Place {
 }
 
 /// How far an area has come.
-#[derive(Clone, Copy, Debug, PartialEq, Eq)]
+#[derive(Clone, Copy)]
 pub enum Progress {
     /// No call has failed.
     Working,

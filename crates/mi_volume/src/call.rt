@@ -3,14 +3,14 @@
 use mi_text::Name;
 
 /// Whether a call put or appended (this project's own).
-#[derive(Clone, Copy, Debug, PartialEq, Eq)]
+#[derive(Clone, Copy)]
 pub enum CallKind {
     Put,
     Append,
 }
 
 /// A put or an append that was made (this project's own).
-#[derive(Debug, Drop)]
+#[derive(Drop)]
 pub struct Call {
     /// Whether it put or appended.
     pub kind: CallKind,

@@ -11,7 +11,7 @@ use mi_text::{Bytes, NoMemory};
 use std::alloc::Global;
 
 /// What a crash leaves at every dirty name (this project's own).
-#[derive(Clone, Copy, Debug, PartialEq, Eq)]
+#[derive(Clone, Copy)]
 pub enum Choice {
     /// What it held at the last good sync.
     Old,

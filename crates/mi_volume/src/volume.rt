@@ -13,11 +13,11 @@ use std::alloc::Global;
 use thiserror::Error;
 
 /// The volume has failed, and counts it (this project's own, as all of the volume).
-#[derive(Clone, Copy, Debug, PartialEq, Eq)]
+#[derive(Clone, Copy, PartialEq, Eq)]
 pub struct Failed;
 
 /// Why a name or its bytes can't be told.
-#[derive(Clone, Copy, Debug, Error, PartialEq, Eq)]
+#[derive(Clone, Copy, Debug, Error)]
 pub enum VolFault {
     /// No memory for the answer.
     #[error("out of memory")]
@@ -28,7 +28,7 @@ pub enum VolFault {
 }
 
 /// Why bytes can't be written.
-#[derive(Clone, Copy, Debug, Error, PartialEq, Eq)]
+#[derive(Clone, Copy, Debug, Error)]
 pub enum PutFault {
     /// No memory for the bytes, and nothing is changed.
     #[error("out of memory")]
