@@ -13,7 +13,8 @@ use Rattle.mi_dirs.specs.Rows.{source_from}
 use Rattle.mi_dirs.specs.Sources.{source_names, named_step, kept_source, down_to, or_above, above_from, above_step, above_in, AreAbove}
 use Rattle.mi_dirs.specs.Views.{places_in}
 use Rattle.mi_dirs.proofs.ChainLemmas.{along_step, ends_more}
-use Rattle.mi_dirs.proofs.TargetLemmas.{Filled, above_is, parent_here, same_function}
+use Rattle.mi_dirs.proofs.FilledLemmas.{Filled, above_is, same_function}
+use Rattle.mi_dirs.proofs.TargetLemmas.{parent_here}
 use Rattle.mi_dirs.proofs.SourceLemmas.{source_up, step_here, down-push}
 
 pub dir_at : (rows : List Dir) (k : ℕ) → k < length rows → (d : Dir) × (slice_get rows k ≡ Some d)

@@ -12,7 +12,8 @@ use Rattle.mi_dirs.specs.Order.{parent_in, AreRows}
 use Rattle.mi_dirs.specs.Places.{Place, parent_at, first_row}
 use Rattle.mi_dirs.specs.Rows.{parent_of, own_of, row_parent, row_with, Given, place, places_from, places_of, source_at}
 use Rattle.mi_dirs.specs.Views.{own_view, place_of_dir, places_in, bare, bare_dir, IsFolderOwn, OwnFolders}
-use Rattle.mi_dirs.proofs.TargetLemmas.{slice_get-places_in, same_function, slice_get-push}
+use Rattle.mi_dirs.proofs.FilledLemmas.{same_function}
+use Rattle.mi_dirs.proofs.TargetLemmas.{slice_get-places_in, slice_get-push}
 
 -- lists that answer alike are the same
 pub same_by_get : {A : Type 0} (xs ys : List A) → ((k : ℕ) → slice_get xs k ≡ slice_get ys k) → xs ≡ ys

@@ -15,7 +15,7 @@ use Rattle.mi_dirs.specs.Places.{Place, parent_at, target_from, target_step, tar
 use Rattle.mi_dirs.specs.Faults.{numbers_from, numbers, row_number, ends_at, cycle_fault, path_fault, IsEndless}
 use Rattle.mi_dirs.specs.Views.{own_view, place_of_dir, places_in, with_row_own}
 use Rattle.mi_dirs.proofs.ChainLemmas.{ends_within}
-use Rattle.mi_dirs.proofs.TargetLemmas.{same_function}
+use Rattle.mi_dirs.proofs.FilledLemmas.{same_function}
 
 -- ---- the first number that passes a test
 

@@ -15,7 +15,8 @@ use Rattle.mi_dirs.specs.Faults.{path_fault, row_number}
 use Rattle.mi_dirs.specs.Views.{own_view, place_of_dir, places_in, with_row_own, IsFolderOwn, TargetFolders}
 use Rattle.mi_dirs.specs.Sources.{sources_in, above_in, AreAbove}
 use Rattle.mi_dirs.specs.Keeps.{Keeps}
-use Rattle.mi_dirs.proofs.TargetLemmas.{slice_get-places_in, length-places_in, length-with_row_own, parent_at-own, same_function, slice_get-set, order_rows}
+use Rattle.mi_dirs.proofs.FilledLemmas.{same_function}
+use Rattle.mi_dirs.proofs.TargetLemmas.{slice_get-places_in, length-places_in, length-with_row_own, parent_at-own, slice_get-set, order_rows}
 use Rattle.mi_dirs.proofs.DirLemmas.{first_row_below}
 use Rattle.mi_dirs.proofs.SourceLemmas.{same_sources}
 use Rattle.mi_dirs.proofs.AboveLemmas.{same_above}

@@ -1,6 +1,7 @@
 pub mod ChainLemmas
 mod PathLemmas
 pub mod RowLemmas
+pub mod FilledLemmas
 mod TargetLemmas
 mod SourceLemmas
 mod AboveLemmas

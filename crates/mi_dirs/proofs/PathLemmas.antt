@@ -13,7 +13,7 @@ use Rattle.mi_dirs.specs.Chains.{root_or, ends_in}
 use Rattle.mi_dirs.specs.Order.{parent_in, AreRows, IsOrdered}
 use Rattle.mi_dirs.specs.Paths.{LeadsTo, AllBelow, IsPlaced, IsWayUp, ArePlaced, Places}
 use Rattle.mi_dirs.proofs.ChainLemmas.{ends_within, ends_later}
-use Rattle.mi_dirs.proofs.TargetLemmas.{slice_get-set_same}
+use Rattle.mi_dirs.proofs.FilledLemmas.{slice_get-set_same}
 
 -- ---- one more row of a way
 

@@ -22,7 +22,8 @@ use Rattle.mi_dirs.specs.Answers.{Answers, IfFault, IfCycle}
 use Rattle.mi_dirs.specs.Views.{places_in, with_row_own, bare, bare_dir, OwnFolders, TargetFolders}
 use Rattle.mi_dirs.specs.Sources.{source_names, sources_in}
 use Rattle.mi_dirs.specs.Keeps.{Keeps}
-use Rattle.mi_dirs.proofs.TargetLemmas.{length-places_in, same_function}
+use Rattle.mi_dirs.proofs.FilledLemmas.{same_function}
+use Rattle.mi_dirs.proofs.TargetLemmas.{length-places_in}
 use Rattle.mi_dirs.proofs.DirLemmas.{parent_in-parents, parents_are_rows, parent_at-places_of, length-places_from, places_same}
 use Rattle.mi_dirs.proofs.SourceLemmas.{slice_get-sources, given_source}
 use Rattle.mi_dirs.proofs.FaultLemmas.{path_fault_is, no_cycle, first_cycle, is_endless, target_at-sources, with_none_own}

@@ -13,7 +13,8 @@ use Rattle.mi_dirs.specs.Rows.{parent_of, row_parent, source_name, source_from, 
 use Rattle.mi_dirs.specs.Sources.{source_names, named_step, kept_source, sources_in, down_to}
 use Rattle.mi_dirs.specs.Views.{places_in}
 use Rattle.mi_dirs.proofs.ChainLemmas.{along_step}
-use Rattle.mi_dirs.proofs.TargetLemmas.{parent_here, same_function}
+use Rattle.mi_dirs.proofs.FilledLemmas.{same_function}
+use Rattle.mi_dirs.proofs.TargetLemmas.{parent_here}
 
 pub listed_parent : (rows : List DirRow) (parents : List (Option ℕ)) (row : ℕ) (r : DirRow) (d : Option ℕ) → parents ≡ map (parent_of rows) rows → row < length parents → slice_get rows row ≡ Some r → get_or parents row d ≡ parent_of rows r
 listed_parent rows parents row r d all lt is =

@@ -9,7 +9,7 @@ use Rattle.mi_text.specs.Maps.{Name}
 use Rattle.mi_dirs.specs.Chains.{along, ends_in}
 use Rattle.mi_dirs.specs.Order.{parent_in, IsOrder}
 use Rattle.mi_dirs.proofs.ChainLemmas.{along_step}
-use Rattle.mi_installs.proofs.FilledLemmas.{Filled, above_is, same_function}
+use Rattle.mi_dirs.proofs.FilledLemmas.{Filled, above_is, same_function}
 use Rattle.mi_schema.specs.Checks.{companion_of, parent_of_directory, chain_fault, required_fault, references_fault, cycles_fault, compressed_fault, package_fault}
 use Rattle.mi_schema.specs.Lawful.{IsLawful}
 use Rattle.mi_schema.specs.Rows.{◌or_else◌}

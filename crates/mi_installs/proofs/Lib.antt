@@ -1,7 +1,6 @@
 pub mod CallLemmas
 pub mod DecideLemmas
 pub mod EachLemmas
-pub mod FilledLemmas
 pub mod HashLemmas
 pub mod HeadLemmas
 pub mod InstallLemmas

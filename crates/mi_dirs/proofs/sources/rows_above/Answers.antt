@@ -5,7 +5,8 @@ use Rattle.std.proofs.lemmas.Option.{slice_get_read}
 use Rattle.mi_dirs.specs.Places.{parent_at}
 use Rattle.mi_dirs.specs.Sources.{source_names, above_from, above_in}
 use Rattle.mi_dirs.specs.Views.{places_in}
-use Rattle.mi_dirs.proofs.TargetLemmas.{parent_here, parent_below, filled_more, filled_whole}
+use Rattle.mi_dirs.proofs.FilledLemmas.{parent_below, filled_more, filled_whole}
+use Rattle.mi_dirs.proofs.TargetLemmas.{parent_here}
 use Rattle.mi_dirs.proofs.AboveLemmas.{next_above}
 use Rattle.mi_dirs.proofs.sources.rows_above.Goals as goal
 

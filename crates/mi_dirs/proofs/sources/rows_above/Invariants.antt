@@ -1,6 +1,6 @@
 use Rattle.std.proofs.Common.{◌≡◌, length}
 use Rattle.mi_dirs.specs.Sources.{above_in}
-use Rattle.mi_dirs.proofs.TargetLemmas.{Filled}
+use Rattle.mi_dirs.proofs.FilledLemmas.{Filled}
 use Rattle.mi_dirs.proofs.sources.rows_above.Given as goal
 
 abbrev pub invariant-loop-row : goal.invariant-loop-row

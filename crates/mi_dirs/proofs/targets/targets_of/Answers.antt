@@ -6,7 +6,8 @@ use Rattle.std.proofs.lemmas.Option.{slice_get_read}
 use Rattle.mi_dirs.specs.declared.dir.Own.{Own}
 use Rattle.mi_dirs.specs.Places.{parent_at, joined}
 use Rattle.mi_dirs.specs.Views.{own_view, places_in, IsFolderOwn}
-use Rattle.mi_dirs.proofs.TargetLemmas.{value_of, Chosen, changes, stays, parent_here, parent_below, next_target, filled_more, filled_whole, folders-set}
+use Rattle.mi_dirs.proofs.FilledLemmas.{parent_below, filled_more, filled_whole}
+use Rattle.mi_dirs.proofs.TargetLemmas.{value_of, Chosen, changes, stays, parent_here, next_target, folders-set}
 use Rattle.mi_dirs.proofs.targets.targets_of.Goals as goal
 use Rattle.mi_dirs.proofs.targets.targets_of.Goals.{then-row-changed, else-row-changed}
 

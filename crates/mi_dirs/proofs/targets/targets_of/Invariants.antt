@@ -1,6 +1,7 @@
 use Rattle.std.proofs.Common.{◌≡◌, length}
 use Rattle.mi_dirs.specs.Views.{TargetFolders}
-use Rattle.mi_dirs.proofs.TargetLemmas.{Filled, value_of}
+use Rattle.mi_dirs.proofs.FilledLemmas.{Filled}
+use Rattle.mi_dirs.proofs.TargetLemmas.{value_of}
 use Rattle.mi_dirs.proofs.targets.targets_of.Given as goal
 
 abbrev pub invariant-loop-row : goal.invariant-loop-row

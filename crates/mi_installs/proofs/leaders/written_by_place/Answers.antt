@@ -3,7 +3,7 @@ use Rattle.std.proofs.Math.ListN.{length-set}
 use Rattle.std.proofs.lemmas.Option.{slice_get-get_or}
 use Rattle.mi_dirs.specs.Order.{parent_in}
 use Rattle.mi_installs.specs.Leads.{led_step, written_at}
-use Rattle.mi_installs.proofs.FilledLemmas.{filled_more, filled_whole}
+use Rattle.mi_dirs.proofs.FilledLemmas.{filled_more, filled_whole}
 use Rattle.mi_installs.proofs.LeaderLemmas.{next_written}
 use Rattle.mi_installs.proofs.leaders.written_by_place.Goals as goal
 

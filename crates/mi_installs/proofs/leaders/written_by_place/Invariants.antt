@@ -1,5 +1,5 @@
 use Rattle.std.proofs.Common.{◌≡◌, length}
-use Rattle.mi_installs.proofs.FilledLemmas.{Filled}
+use Rattle.mi_dirs.proofs.FilledLemmas.{Filled}
 use Rattle.mi_installs.specs.Leads.{written_at}
 use Rattle.mi_installs.proofs.leaders.written_by_place.Given as goal
 

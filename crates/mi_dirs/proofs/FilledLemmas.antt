@@ -19,14 +19,14 @@ slice_get-set_same [] i v lt = absurd (omega arith)
 slice_get-set_same (x ∷ xs) zero v lt = refl
 slice_get-set_same (x ∷ xs) (suc i) v lt = slice_get-set_same xs i v (omega arith)
 
-slice_get-set_other : {A : Type 0} (xs : List A) (i k : ℕ) (v : A) → (k ≡ i → ⊥) → slice_get (set xs i v) k ≡ slice_get xs k
+pub slice_get-set_other : {A : Type 0} (xs : List A) (i k : ℕ) (v : A) → (k ≡ i → ⊥) → slice_get (set xs i v) k ≡ slice_get xs k
 slice_get-set_other [] i k v ne = refl
 slice_get-set_other (x ∷ xs) zero zero v ne = absurd (ne refl)
 slice_get-set_other (x ∷ xs) zero (suc k) v ne = refl
 slice_get-set_other (x ∷ xs) (suc i) zero v ne = refl
 slice_get-set_other (x ∷ xs) (suc i) (suc k) v ne = slice_get-set_other xs i k v (λ e. ne (ap suc e))
 
-not_eqb : (k n : ℕ) → eqb k n ≡ false → k ≡ n → ⊥
+pub not_eqb : (k n : ℕ) → eqb k n ≡ false → k ≡ n → ⊥
 not_eqb k n e is = grind (arith, nat_tests)
 
 below_next : (k n : ℕ) → k < n + 1 → eqb k n ≡ false → k < n
