@@ -4,8 +4,8 @@ use Rattle.mi_text.specs.Maps.{Name}
 use Rattle.mi_source.specs.Paths.{Files}
 use Rattle.mi_base.specs.declared.answers.Cause.{Cause}
 use Rattle.mi_base.specs.declared.answers.Cause.TheVariants.{VolumeFault, SourceFault, Table, UnknownProduct}
-use Rattle.mi_schema.specs.declared.error.LoadError.{LoadError}
-use Rattle.mi_schema.specs.declared.error.LoadError.TheVariants as load
+use Rattle.mi_rows.specs.declared.error.LoadError.{LoadError}
+use Rattle.mi_rows.specs.declared.error.LoadError.TheVariants as load
 use Rattle.mi_plan.specs.declared.planned.WalkPlan.{WalkPlan}
 use Rattle.mi_plan.specs.Made.{as_planned}
 use Rattle.mi_model.specs.Planning.{IsPlan}

@@ -1,7 +1,7 @@
 //! What is said of a feature by itself, and of it with its ancestors.
 
 ghost use Rattle.std.specs.Prelude.{◌≡◌, ◌&&◌, not, true, false};
-ghost use Rattle.mi_schema.specs.Values.{lacks};
+ghost use Rattle.mi_rows.specs.Values.{lacks};
 ghost use Rattle.mi_model.specs.Conditions.{has};
 ghost use Rattle.mi_features.specs.Lines.{asked, followed, by_lists, line_below};
 

@@ -6,7 +6,8 @@ use Rattle.mi_text.specs.Maps.{Name}
 use Rattle.mi_source.specs.Paths.{Files}
 use Rattle.mi_idt.specs.Cells.{Cell}
 use Rattle.mi_schema.specs.declared.known.Known.TheVariants as known
-use Rattle.mi_schema.specs.Tables.{Table, layout_of}
+use Rattle.mi_schema.specs.Tables.{layout_of}
+use Rattle.mi_rows.specs.Columns.{Table}
 use Rattle.mi_model.specs.Selftest.{file_of, properties, features, actions, directories, component, component_of, pair, file, registry}
 use Rattle.mi_gen.specs.declared.fixed.FixedTable.{FixedTable}
 use Rattle.mi_gen.specs.declared.fixed.FixedTable.TheVariants as fixed

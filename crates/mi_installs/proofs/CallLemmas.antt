@@ -25,7 +25,7 @@ use Rattle.mi_schema.specs.declared.package.Package.{Package}
 use Rattle.mi_schema.specs.declared.typed_rows.FileRow.{FileRow}
 use Rattle.mi_schema.specs.declared.typed_rows.MsiFileHashRow.{MsiFileHashRow}
 use Rattle.mi_schema.proofs.LawfulLaws.{of_tables}
-use Rattle.mi_schema.proofs.ListLemmas.{map_done_item}
+use Rattle.mi_rows.proofs.ListLemmas.{map_done_item}
 use Rattle.mi_schema.proofs.PackageLaws.{keys_stand, keys_apart}
 use Rattle.mi_source.specs.Paths.{Files}
 use Rattle.mi_source.specs.Counts as source

@@ -10,8 +10,8 @@ use Rattle.mi_base.specs.declared.entry.Entry.TheVariants as entry
 use Rattle.mi_base.specs.declared.entry.FileEntry.{FileEntry}
 use Rattle.mi_base.specs.Limits.{fits, are_few, rises}
 use Rattle.mi_idt.specs.Fields.{number_within}
-use Rattle.mi_schema.specs.Texts.{are_languages, is_language}
-use Rattle.mi_schema.specs.Values.{bits_of}
+use Rattle.mi_rows.specs.Texts.{are_languages, is_language}
+use Rattle.mi_rows.specs.Values.{bits_of}
 use Rattle.mi_schema.specs.declared.typed_rows.FileRow.{FileRow}
 use Rattle.mi_model.specs.World.{World}
 use Rattle.mi_model.specs.FileVersions.{version_of_row, languages_of_row}

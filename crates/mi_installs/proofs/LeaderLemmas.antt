@@ -12,7 +12,7 @@ use Rattle.mi_dirs.proofs.ChainLemmas.{along_step}
 use Rattle.mi_dirs.proofs.FilledLemmas.{Filled, above_is, same_function}
 use Rattle.mi_schema.specs.Checks.{companion_of, parent_of_directory, chain_fault, required_fault, references_fault, cycles_fault, compressed_fault, package_fault}
 use Rattle.mi_schema.specs.Lawful.{IsLawful}
-use Rattle.mi_schema.specs.Rows.{◌or_else◌}
+use Rattle.mi_rows.specs.Rows.{◌or_else◌}
 use Rattle.mi_schema.specs.RowsOf.{rows_in, behind}
 use Rattle.mi_schema.proofs.KnownTables.{directory, feature, file}
 use Rattle.mi_schema.specs.declared.package.Package.{Package}
@@ -21,8 +21,8 @@ use Rattle.mi_schema.specs.declared.typed_rows.FeatureRow.{FeatureRow}
 use Rattle.mi_schema.specs.declared.typed_rows.FileRow.{FileRow}
 use Rattle.mi_schema.proofs.ChainLaws.{chain_ends}
 use Rattle.mi_schema.proofs.LawfulLaws.{of_tables}
-use Rattle.mi_schema.proofs.ListLemmas.{next_item}
-use Rattle.mi_schema.proofs.SuitLemmas.{or_none}
+use Rattle.mi_rows.proofs.ListLemmas.{next_item}
+use Rattle.mi_rows.proofs.SuitLemmas.{or_none}
 use Rattle.mi_installs.specs.Leads.{place_of, leader_place, leaders_of, noted, all_noted, led_step, written_at, written_in}
 use Rattle.mi_installs.proofs.PlaceLemmas.{found_there}
 

@@ -8,7 +8,7 @@ use Rattle.std.specs.declared.cmp.Ordering.TheVariants.{Less, Equal, Greater}
 use Rattle.std.specs.FinMap.{insert, keys, entries, from_entries, same_map, nat_cmp-IsAntisymmetric, get-from_entries, get-insert, entries-insert, len-entries, len-empty}
 use Rattle.std.specs.FinMap.Entries.{find, put, by_order}
 use Rattle.std.specs.Cmp.{nat_cmp_total}
-use Rattle.mi_schema.proofs.ListLemmas.{map_done_item}
+use Rattle.mi_rows.proofs.ListLemmas.{map_done_item}
 use Rattle.mi_model.specs.FileVersions.{rising}
 use Rattle.mi_installs.specs.Languages.{with_number}
 use Rattle.std.specs.BTreeSet.{insert_key}

@@ -2,7 +2,7 @@
 use Rattle.std.specs.Prelude.{◌≡◌, true, IsTrue, IfSome}
 use Rattle.mi_text.specs.Path.{is_file_path}
 use Rattle.mi_schema.specs.declared.typed_rows.FileRow.{FileRow}
-use Rattle.mi_schema.specs.Texts.{are_languages}
+use Rattle.mi_rows.specs.Texts.{are_languages}
 use Rattle.mi_model.specs.InstallFiles as model
 use Rattle.mi_installs.specs.declared.placed.Placed.{Placed}
 

@@ -16,7 +16,7 @@ ghost use Rattle.mi_image.specs.Items.{AreThere, machine_over, bytes_of_file};
 ghost use Rattle.mi_schema.specs.Lawful.{IsLawful};
 ghost use Rattle.mi_schema.specs.RowsOf.{rows_in};
 ghost use Rattle.mi_schema.specs.TableRows.{row_of};
-ghost use Rattle.mi_schema.specs.Values.{bits_of};
+ghost use Rattle.mi_rows.specs.Values.{bits_of};
 ghost use Rattle.mi_schema.specs.declared.typed_rows.FileRow.{FileRow};
 ghost use Rattle.mi_schema.specs.declared.typed_rows.MsiFileHashRow as hash_row;
 ghost use Rattle.mi_model.specs.World.{World};

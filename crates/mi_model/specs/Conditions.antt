@@ -3,7 +3,7 @@ use Rattle.std.specs.Prelude.{ℕ, ℤ, not, Bool, true, Option, Some, None}
 use Rattle.mi_text.specs.Lookups.{Lookups}
 use Rattle.mi_cond.specs.Tree.{Tree}
 use Rattle.mi_cond.specs.Value.{value}
-use Rattle.mi_schema.specs.Values.{lacks}
+use Rattle.mi_rows.specs.Values.{lacks}
 
 -- a condition that is null, or true
 abbrev pub holds : Lookups → Option Tree → Bool

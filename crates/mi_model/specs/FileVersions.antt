@@ -18,7 +18,7 @@ use Rattle.mi_fver.specs.declared.new_file.NewFile.{NewFile}
 use Rattle.mi_fver.specs.Letters.{letters_in}
 use Rattle.mi_fver.specs.Rules.{replaces_of}
 use Rattle.mi_idt.specs.Fields.{number_within}
-use Rattle.mi_schema.specs.Values.{bits_of}
+use Rattle.mi_rows.specs.Values.{bits_of}
 use Rattle.mi_schema.specs.Checks.{companion_of}
 use Rattle.mi_schema.specs.declared.typed_rows.FileRow.{FileRow}
 use Rattle.mi_schema.specs.declared.typed_rows.MsiFileHashRow.{MsiFileHashRow}

@@ -9,7 +9,7 @@ use Rattle.mi_text.specs.Fold.{folded}
 use Rattle.mi_base.specs.declared.entry.FileEntry.{FileEntry}
 use Rattle.mi_base.specs.declared.entry.Entry.TheVariants as entry
 use Rattle.mi_base.specs.Names.{file_name}
-use Rattle.mi_schema.specs.Values.{bits_of}
+use Rattle.mi_rows.specs.Values.{bits_of}
 use Rattle.mi_schema.specs.declared.typed_rows.FileRow.{FileRow}
 use Rattle.mi_model.specs.Texts.{Text}
 use Rattle.mi_base.specs.declared.answers.Fault.{Fault}

@@ -4,7 +4,7 @@ use Rattle.mi_text.specs.Lookups.{Lookups}
 use Rattle.mi_base.specs.Names.{digit}
 use Rattle.mi_base.specs.Machine.{Machine, file_at, folder_at, value_at}
 use Rattle.mi_dirs.specs.Places.{Place, target_of}
-use Rattle.mi_schema.specs.Values.{lacks}
+use Rattle.mi_rows.specs.Values.{lacks}
 use Rattle.mi_schema.specs.declared.typed_rows.ComponentRow.{ComponentRow}
 use Rattle.mi_schema.specs.declared.typed_rows.FileRow.{FileRow}
 use Rattle.mi_schema.specs.declared.typed_rows.RegistryRow.{RegistryRow}

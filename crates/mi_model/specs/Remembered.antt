@@ -8,7 +8,7 @@ use Rattle.mi_text.specs.declared.guid.Guid.{Guid}
 use Rattle.mi_base.specs.declared.entry.Client.{Client}
 use Rattle.mi_base.specs.Machine.{client_at}
 use Rattle.mi_dirs.specs.Places.{Folder}
-use Rattle.mi_schema.specs.Values.{lacks}
+use Rattle.mi_rows.specs.Values.{lacks}
 use Rattle.mi_schema.specs.declared.typed_rows.ComponentRow.{ComponentRow}
 use Rattle.mi_schema.specs.declared.typed_rows.DirectoryRow.{DirectoryRow}
 use Rattle.mi_schema.specs.TableRows.{Numbered, in_key_order, product_code}

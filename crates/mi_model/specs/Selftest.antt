@@ -8,11 +8,12 @@ use Rattle.mi_base.specs.Names.{four_digits}
 use Rattle.mi_source.specs.Paths.{Files, path_in}
 use Rattle.mi_idt.specs.Cells.{Cell, Nothing, Text, Number, ColumnValue}
 use Rattle.mi_idt.specs.Written.{written}
-use Rattle.mi_schema.specs.declared.column.Kind.TheVariants.{Integer}
-use Rattle.mi_schema.specs.declared.column.Kind.{Kind}
+use Rattle.mi_rows.specs.declared.column.Kind.TheVariants.{Integer}
+use Rattle.mi_rows.specs.declared.column.Kind.{Kind}
 use Rattle.mi_schema.specs.declared.known.Known.TheVariants as known
-use Rattle.mi_schema.specs.Tables.{Table, Column, layout_of}
-use Rattle.mi_schema.specs.Rows.{key_places}
+use Rattle.mi_schema.specs.Tables.{layout_of}
+use Rattle.mi_rows.specs.Columns.{Table, Column}
+use Rattle.mi_rows.specs.Rows.{key_places}
 
 -- ---- tables
 

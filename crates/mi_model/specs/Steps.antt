@@ -3,7 +3,7 @@
 use Rattle.std.specs.Prelude.{ℕ, ◌==◌, ◌||◌, ◌&&◌, not, bit_and, Bool, List, [], ◌∷◌, map, find, codes, Option, Some, None, unwrap_or, Result, Ok, Err, if◌then◌else◌}
 use Rattle.mi_text.specs.Maps.{Name, same_name, is_among}
 use Rattle.mi_text.specs.Lookups.{Lookups}
-use Rattle.mi_schema.specs.Values.{bits_of, lacks}
+use Rattle.mi_rows.specs.Values.{bits_of, lacks}
 use Rattle.mi_schema.specs.declared.typed_rows.CustomActionRow.{CustomActionRow}
 use Rattle.mi_model.specs.Texts.{Text}
 use Rattle.mi_base.specs.declared.answers.Fault.{Fault}

@@ -13,7 +13,7 @@ use Rattle.mi_text.specs.Guid.{guid_of, guid_text}
 use Rattle.mi_text.proofs.GuidLemmas.{guid_of-guid_text}
 use Rattle.mi_text.proofs.MapLemmas.{from_same}
 use Rattle.mi_base.specs.Names.{client_name}
-use Rattle.mi_schema.specs.Texts.{is_zero_code, is_product_code}
+use Rattle.mi_rows.specs.Texts.{is_zero_code, is_product_code}
 use Rattle.mi_schema.specs.TableRows.{Rows, table_value, product_code}
 use Rattle.mi_plain.specs.PlainLaws.{HasProductCode}
 

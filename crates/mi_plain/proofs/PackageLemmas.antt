@@ -6,7 +6,7 @@ use Rattle.mi_text.proofs.MapLemmas.{from_same, same_itself}
 use Rattle.mi_schema.specs.declared.typed_rows.PropertyRow.{PropertyRow}
 use Rattle.mi_schema.specs.Laws.{EachRow}
 use Rattle.mi_schema.specs.RowsOf.{behind, rows_in}
-use Rattle.mi_schema.specs.Texts.{is_value_of}
+use Rattle.mi_rows.specs.Texts.{is_value_of}
 use Rattle.mi_schema.proofs.LawfulLaws.{of_tables}
 use Rattle.mi_schema.proofs.PackageLaws.{keys_stand, properties_stand, values_stand}
 use Rattle.mi_plain.specs.PlainLaws.{LawfulPackagesHaveCodes}

@@ -6,7 +6,7 @@ use Rattle.mi_schema.specs.declared.package.Package.{Package}
 use Rattle.mi_schema.specs.Lawful.{IsLawful}
 use Rattle.mi_schema.specs.RowsOf.{rows_in}
 use Rattle.mi_schema.specs.TableRows.{Rows, table_value}
-use Rattle.mi_schema.specs.Texts.{is_product_code}
+use Rattle.mi_rows.specs.Texts.{is_product_code}
 use Rattle.mi_model.specs.World.{Given, World, Effect}
 use Rattle.mi_model.specs.Phases.{effect_of}
 use Rattle.mi_model.specs.PhaseRows.{Touches, phase_rows}

@@ -24,7 +24,7 @@ use Rattle.mi_schema.specs.declared.typed_rows.RegistryRow.{RegistryRow}
 use Rattle.mi_schema.specs.Laws.{HaveOwnKeys}
 use Rattle.mi_schema.specs.RowsOf.{rows_in, behind}
 use Rattle.mi_schema.specs.TableRows.{Rows, Numbered, numbered_from, row_of, component_row_of, file_row_of, in_key_order, product_code}
-use Rattle.mi_schema.specs.Values.{lacks}
+use Rattle.mi_rows.specs.Values.{lacks}
 use Rattle.mi_model.specs.Texts.{Text}
 use Rattle.mi_model.specs.World.{World, Costed, RowEffect, Action, MakeLocal, MakeAbsent}
 use Rattle.mi_model.specs.Asked.{component_folder, path_of_file, file_path, lookups, lookups_over, dirs_of}

@@ -8,7 +8,7 @@ use Rattle.mi_schema.specs.declared.typed_rows.ComponentRow.{ComponentRow}
 use Rattle.mi_schema.specs.declared.typed_rows.FileRow.{FileRow}
 use Rattle.mi_schema.specs.declared.typed_rows.RegistryRow.{RegistryRow}
 use Rattle.mi_schema.specs.TableRows.{Rows, Numbered, numbered_from, row_of, component_row_of}
-use Rattle.mi_schema.specs.Values.{lacks}
+use Rattle.mi_rows.specs.Values.{lacks}
 use Rattle.mi_model.specs.Texts.{Text}
 use Rattle.mi_model.specs.World.{World, RowEffect}
 use Rattle.mi_model.specs.ProcessComponents.{processed}

@@ -6,7 +6,7 @@ ghost use Rattle.mi_model.specs.World.{World};
 ghost use Rattle.mi_model.specs.ClientRows.{recorded_path};
 ghost use Rattle.mi_schema.specs.Lawful.{IsLawful};
 ghost use Rattle.mi_schema.specs.RowsOf.{rows_in};
-ghost use Rattle.mi_schema.specs.Values.{lacks};
+ghost use Rattle.mi_rows.specs.Values.{lacks};
 ghost use Rattle.mi_records.specs.Choices.{IsAsked};
 ghost use Rattle.mi_records.specs.Clients.{IsOwn, IsFault, path_told, file_number, is_value, file_told, value_told, key_told};
 ghost use Rattle.mi_records.specs.Stops.{TellsBy};

@@ -8,15 +8,15 @@ use Rattle.mi_base.specs.declared.answers.Fault.TheVariants.{Compressed}
 use Rattle.mi_schema.specs.declared.typed_rows.FileRow.{FileRow}
 use Rattle.mi_schema.specs.Source.{is_compressed, file_fault}
 use Rattle.mi_schema.specs.Laws.{AreFew, HaveOwnKeys}
-use Rattle.mi_schema.specs.RowsOf.{keyed}
-use Rattle.mi_schema.specs.Values.{all_suit, key_cells, Row, row_of}
-use Rattle.mi_schema.specs.Tables.{Column, Table}
+use Rattle.mi_rows.specs.Typed.{keyed}
+use Rattle.mi_rows.specs.Values.{all_suit, key_cells, Row, row_of, keys_tell}
+use Rattle.mi_rows.specs.Columns.{Column, Table}
 use Rattle.mi_schema.proofs.CellLaws.{each_suit_at}
-use Rattle.mi_schema.proofs.DifferLemmas.{keys_differ}
+use Rattle.mi_rows.proofs.DifferLemmas.{keys_differ}
 use Rattle.mi_schema.proofs.ReferenceLaws.{keyed_long}
-use Rattle.mi_schema.proofs.SuitLemmas.{faultless, rows_suit}
+use Rattle.mi_rows.proofs.SuitLemmas.{faultless, rows_suit}
 use Rattle.mi_schema.proofs.ValueLaws.{pairs_keyed}
-use Rattle.mi_schema.proofs.Words.{AreRowsOf, keys_tell, IsNewKey, KeysDiffer}
+use Rattle.mi_rows.proofs.Words.{AreRowsOf, IsNewKey, KeysDiffer}
 
 -- ---- keys
 

@@ -8,21 +8,22 @@ use Rattle.mi_text.specs.Maps.{Name}
 use Rattle.mi_base.specs.declared.answers.Fault.{Fault}
 use Rattle.mi_idt.specs.Cells as raw
 use Rattle.mi_cond.specs.Tree.{Tree}
-use Rattle.mi_schema.specs.Cells.{Cell}
-use Rattle.mi_schema.specs.Cells as cell
+use Rattle.mi_rows.specs.Cells.{Cell}
+use Rattle.mi_rows.specs.Cells as cell
 use Rattle.mi_schema.specs.declared.known.Known.{Known}
 use Rattle.mi_schema.specs.declared.known.Known.TheVariants as known
-use Rattle.mi_schema.specs.declared.column.Kind.{Kind}
-use Rattle.mi_schema.specs.declared.column.Kind.TheVariants as kind
+use Rattle.mi_rows.specs.declared.column.Kind.{Kind}
+use Rattle.mi_rows.specs.declared.column.Kind.TheVariants as kind
 use Rattle.mi_schema.specs.Checks.{Content, rows_at, first_fault, tables_fault, references_fault, required_fault, cycles_fault, compressed_fault, package_fault}
-use Rattle.mi_schema.specs.Tables.{Listed, Loaded, table_of, listed, tables, layout_of, Column, Table}
+use Rattle.mi_schema.specs.Tables.{Listed, Loaded, table_of, listed, tables, layout_of}
+use Rattle.mi_rows.specs.Columns.{Column, Table}
 use Rattle.mi_schema.specs.TableRows.{Rows}
-use Rattle.mi_schema.specs.Texts.{condition_of}
-use Rattle.mi_schema.specs.Rows.{◌or_else◌, table_fault, keys_of, rows_in, cell_fault, cells_fault, fault_at, row_fault, rows_fault}
-use Rattle.mi_schema.specs.Values.{suits, all_suit, Row, value_of, row_of, kind_fault, unless, place_of_fault, tree_of, meets}
-use Rattle.mi_schema.proofs.FitLemmas.{AllFit, front, back}
-use Rattle.mi_schema.proofs.SuitLemmas.{EachFits, or_none, map_none, allowed, faultless, rows_suit}
-use Rattle.mi_schema.proofs.Words.{AreRowsOf, each_suits}
+use Rattle.mi_rows.specs.Texts.{condition_of}
+use Rattle.mi_rows.specs.Rows.{◌or_else◌, table_fault, keys_of, rows_in, cell_fault, cells_fault, fault_at, row_fault, rows_fault}
+use Rattle.mi_rows.specs.Values.{suits, all_suit, Row, value_of, row_of, kind_fault, unless, place_of_fault, tree_of, meets}
+use Rattle.mi_rows.proofs.FitLemmas.{AllFit, front, back}
+use Rattle.mi_rows.proofs.SuitLemmas.{EachFits, or_none, map_none, allowed, faultless, rows_suit}
+use Rattle.mi_rows.proofs.Words.{AreRowsOf, each_suits}
 
 -- the value of a row and a column, from 0
 abbrev pub value_at : List Row → ℕ → ℕ → Option Cell

@@ -13,7 +13,7 @@ use Rattle.mi_dirs.specs.Faults.{numbers_from}
 use Rattle.mi_schema.specs.Checks.{row_with, parents_of, ends_at, endless_row, chain_fault}
 use Rattle.mi_schema.specs.Laws.{EndsWithin, ChainsEnd}
 use Rattle.mi_schema.specs.RowsOf.{behind}
-use Rattle.mi_schema.specs.Values.{is_key_in}
+use Rattle.mi_rows.specs.Values.{is_key_in}
 use Rattle.mi_schema.proofs.ReferenceLaws.{behind_at, behind_long}
 
 -- ---- no row is endless

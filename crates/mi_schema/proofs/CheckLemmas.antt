@@ -28,9 +28,9 @@ use Rattle.mi_schema.specs.declared.known.Listed.TheVariants as code
 use Rattle.mi_schema.specs.Tables.{listed, listed_as}
 use Rattle.mi_schema.specs.TableRows.{Rows}
 use Rattle.mi_schema.specs.References.{first_dangling, rows_dangling, table_dangling}
-use Rattle.mi_schema.specs.Rows.{◌or_else◌}
+use Rattle.mi_rows.specs.Rows.{◌or_else◌}
 use Rattle.mi_schema.specs.Source.{is_word_count, number_or_zero, word_count, is_compressed, file_fault}
-use Rattle.mi_schema.specs.Values.{is_key_in}
+use Rattle.mi_rows.specs.Values.{is_key_in}
 
 -- ---- keys
 

@@ -10,16 +10,16 @@ use Rattle.mi_cond.specs.Place.{IsPlace}
 use Rattle.mi_cond.specs.Tree.{Tree}
 use Rattle.mi_idt.specs.Cells as raw
 use Rattle.mi_idt.specs.Fault.{idt_fault}
-use Rattle.mi_schema.specs.declared.field.Bad.{Bad}
-use Rattle.mi_schema.specs.declared.field.Bad.TheVariants as bad
-use Rattle.mi_schema.specs.declared.column.Kind.{Kind}
-use Rattle.mi_schema.specs.declared.column.Kind.TheVariants as kind
-use Rattle.mi_schema.specs.Texts.{condition_of}
+use Rattle.mi_rows.specs.declared.field.Bad.{Bad}
+use Rattle.mi_rows.specs.declared.field.Bad.TheVariants as bad
+use Rattle.mi_rows.specs.declared.column.Kind.{Kind}
+use Rattle.mi_rows.specs.declared.column.Kind.TheVariants as kind
+use Rattle.mi_rows.specs.Texts.{condition_of}
 use Rattle.mi_schema.specs.Laws.{StopsAt}
-use Rattle.mi_schema.specs.Rows.{◌or_else◌, has_columns, cell_fault, fault_at, cells_fault, row_fault, rows_fault, unsupported, is_refused, keys_of, rows_in, value_fault, spelled_value, table_fault}
-use Rattle.mi_schema.specs.Tables.{Column, Table}
-use Rattle.mi_schema.specs.Values.{Row, value_of, row_of, unless, place_of_fault, text_fault, kind_fault, meets}
-use Rattle.mi_schema.proofs.ConditionLaws.{stops_exactly}
+use Rattle.mi_rows.specs.Rows.{◌or_else◌, has_columns, cell_fault, fault_at, cells_fault, row_fault, rows_fault, unsupported, is_refused, keys_of, rows_in, value_fault, spelled_value, table_fault}
+use Rattle.mi_rows.specs.Columns.{Column, Table}
+use Rattle.mi_rows.specs.Values.{Row, value_of, row_of, unless, place_of_fault, text_fault, kind_fault, meets}
+use Rattle.mi_rows.proofs.ConditionLaws.{stops_exactly}
 
 -- ---- a cell
 

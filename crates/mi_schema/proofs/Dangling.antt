@@ -3,7 +3,7 @@ use Rattle.std.proofs.Common.{ℕ, Option, None}
 use Rattle.std.specs.Prelude.{if◌then◌else◌}
 use Rattle.mi_schema.specs.declared.known.Target.TheVariants as of
 use Rattle.mi_schema.specs.References.{names, may_name, must_name, key_path_target, sets_directory}
-use Rattle.mi_schema.specs.Rows.{◌or_else◌}
+use Rattle.mi_rows.specs.Rows.{◌or_else◌}
 use Rattle.mi_schema.specs.TableRows.{Rows}
 use Rattle.mi_schema.specs.TypedRows.{ComponentRow, ConditionRow, CreateFolderRow, CustomActionRow, DirectoryRow, DuplicateFileRow, EnvironmentRow, FeatureRow, FeatureComponentsRow, FileRow, MsiFileHashRow, RegistryRow, RemoveFileRow, RemoveRegistryRow, ShortcutRow}
 

@@ -18,7 +18,7 @@ use Rattle.mi_idt.specs.Columns.{◌or_else◌ as or_fault}
 use Rattle.mi_idt.specs.Fault.{idt_fault, lines_fault, parts_fault}
 use Rattle.mi_idt.specs.Raw.{raw_of}
 use Rattle.mi_source.specs.Paths.{Files}
-use Rattle.mi_schema.specs.Rows.{table_path, ◌or_else◌, value_fault, spelled_value, table_fault, table_rows}
+use Rattle.mi_rows.specs.Rows.{table_path, ◌or_else◌, value_fault, spelled_value, table_fault, table_rows}
 use Rattle.mi_schema.proofs.KnownTables.{install_execute_sequence}
 
 -- ---- paths in the folder without a name

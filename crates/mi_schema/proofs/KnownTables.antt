@@ -1,6 +1,7 @@
 -- The known tables by short names.
 use Rattle.mi_schema.specs.declared.known.Known.TheVariants as known
-use Rattle.mi_schema.specs.Tables.{Table, layout_of}
+use Rattle.mi_schema.specs.Tables.{layout_of}
+use Rattle.mi_rows.specs.Columns.{Table}
 
 abbrev pub component : Table
 component = layout_of known.Component

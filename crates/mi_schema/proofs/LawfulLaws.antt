@@ -7,11 +7,13 @@ use Rattle.mi_base.specs.declared.answers.Fault.TheVariants.{MissingTable}
 use Rattle.mi_schema.specs.declared.package.Package.{Package}
 use Rattle.mi_schema.specs.declared.known.Known.{Known}
 use Rattle.mi_schema.specs.declared.known.Known.TheVariants as known
-use Rattle.mi_schema.specs.Rows.{Content, content_of, ◌or_else◌, table_fault, table_rows}
-use Rattle.mi_schema.specs.Tables.{listed, tables, Table, required_properties}
+use Rattle.mi_rows.specs.Rows.{Content, content_of, ◌or_else◌, table_fault, table_rows}
+use Rattle.mi_schema.specs.Tables.{listed, tables, required_properties}
+use Rattle.mi_rows.specs.Columns.{Table}
 use Rattle.mi_schema.proofs.KnownTables.{install_execute_sequence, property}
-use Rattle.mi_schema.specs.TypedRows.{property_row, install_execute_sequence_row, text_key}
-use Rattle.mi_schema.specs.RowsOf.{rows_of_content, keyed, Holds, HoldsAll, IsPackage}
+use Rattle.mi_schema.specs.TypedRows.{property_row, install_execute_sequence_row}
+use Rattle.mi_rows.specs.Typed.{text_key, keyed}
+use Rattle.mi_schema.specs.RowsOf.{rows_of_content, Holds, HoldsAll, IsPackage}
 use Rattle.mi_schema.specs.TableRows.{Rows}
 use Rattle.mi_schema.specs.Checks.{first_fault, missing_table, missing_property, required_fault, references_fault, cycles_fault, compressed_fault, missing_fault, tables_fault, package_fault, load_fault}
 use Rattle.mi_schema.specs.Lawful.{IsLawful}

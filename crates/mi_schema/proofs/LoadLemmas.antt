@@ -1,5 +1,5 @@
 -- Loading one table after the other.
-use Rattle.std.proofs.Common.{◌≡◌, ℕ, zero, suc, ◌+◌, ◌<◌, ◌≤◌, Bool, true, false, cond, not, ◌&&◌, ◌||◌, List, [], ◌∷◌, ◌++◌, length, map, take, drop, get_or, refl, sym, ap, subst, ◌∙◌, arith, Option, None, Some, Ok, Err, OnOk, Result, inl, inr}
+use Rattle.std.proofs.Common.{◌≡◌, ℕ, zero, suc, ◌+◌, ◌<◌, ◌≤◌, Bool, true, false, cond, not, ◌&&◌, ◌||◌, List, [], ◌∷◌, ◌++◌, length, map, take, drop, get_or, refl, sym, ap, subst, ◌∙◌, arith, Option, None, Some, Ok, Err, OnOk, IfErr, Result, inl, inr}
 use Rattle.std.proofs.Math.Seq.{take-length, drop-length}
 use Rattle.std.specs.List.{list_any}
 use Rattle.std.specs.Str.{bytes_eq}
@@ -10,22 +10,25 @@ use Rattle.mi_text.specs.Maps.{Name}
 use Rattle.mi_source.specs.Counts.{Rose}
 use Rattle.mi_source.specs.Paths.{Files}
 use Rattle.mi_base.specs.declared.answers.Fault.{Fault}
-use Rattle.mi_schema.specs.declared.error.LoadError.{LoadError}
-use Rattle.mi_schema.specs.declared.error.LoadError.TheVariants.{NoMemory, Source, Table as TableFault}
+use Rattle.mi_rows.specs.declared.error.LoadError.{LoadError}
+use Rattle.mi_rows.specs.declared.error.LoadError.TheVariants.{NoMemory, Source, Table as TableFault}
 use Rattle.mi_schema.specs.declared.known.Known.TheVariants as known
 use Rattle.mi_schema.specs.declared.package.Package.{Package}
-use Rattle.mi_schema.specs.Reads.{Fails, IsCounted}
+use Rattle.mi_rows.specs.Reads.{Answers, Fails, IsCounted}
 use Rattle.mi_schema.specs.Checks.{Content, content_of, tables_fault}
 use Rattle.mi_schema.specs.declared.known.Listed.{Listed as InCode}
 use Rattle.mi_schema.specs.declared.known.Known.{Known}
-use Rattle.mi_schema.specs.Tables.{Listed, listed, listed_as, table_of, tables, layout_of, Table}
+use Rattle.mi_schema.specs.Tables.{Listed, listed, listed_as, table_of, tables, layout_of}
+use Rattle.mi_rows.specs.Columns.{Table}
 use Rattle.mi_schema.proofs.KnownTables as table
-use Rattle.mi_schema.specs.TypedRows.{component_row, text_key, condition_row, text_number_key, create_folder_row, texts_key, custom_action_row, directory_row, duplicate_file_row, environment_row, feature_row, feature_components_row, file_row, install_execute_sequence_row, launch_condition_row, msi_file_hash_row, property_row, registry_row, remove_file_row, remove_registry_row, shortcut_row, summary_information_row, number_key, upgrade_row, upgrade_key}
-use Rattle.mi_schema.specs.Loaded.{with_file, IsOther, IsPut, AreLoaded}
-use Rattle.mi_schema.specs.RowsOf.{HoldsAll, keyed}
-use Rattle.mi_schema.specs.Rows.{◌or_else◌, table_fault, table_rows}
-use Rattle.mi_schema.proofs.RowLemmas.{passed_on}
-use Rattle.mi_schema.proofs.FitLemmas.{front, back}
+use Rattle.mi_schema.specs.TypedRows.{component_row, condition_row, create_folder_row, custom_action_row, directory_row, duplicate_file_row, environment_row, feature_row, feature_components_row, file_row, install_execute_sequence_row, launch_condition_row, msi_file_hash_row, property_row, registry_row, remove_file_row, remove_registry_row, shortcut_row, summary_information_row, upgrade_row}
+use Rattle.mi_rows.specs.Typed.{text_key, text_number_key, texts_key, number_key, upgrade_key, keyed}
+use Rattle.mi_schema.specs.Loaded.{AreRead, with_file, IsOther, IsPut, AreLoaded}
+use Rattle.mi_schema.specs.RowsOf.{HoldsAll}
+use Rattle.mi_rows.specs.Rows.{◌or_else◌, table_fault, table_rows}
+use Rattle.mi_rows.specs.Values.{Row}
+use Rattle.mi_rows.proofs.RowLemmas.{passed_on}
+use Rattle.mi_rows.proofs.FitLemmas.{front, back}
 
 pub rose_since : (before middle after : ℕ) → before ≤ middle → Rose middle after → Rose before after
 rose_since before middle after le r = record { rose = λ h. let up = r.rose h in omega (arith, up, le) }
@@ -238,3 +241,14 @@ refused_holds p content name file other h = elim [
   | known.SummaryInformation ↦ h known.SummaryInformation ∙ ap (λ b. keyed number_key summary_information_row (table_rows table.summary_information (cond b file (content table.summary_information.name)))) (sym (other known.SummaryInformation))
   | known.Upgrade ↦ h known.Upgrade ∙ ap (λ b. keyed upgrade_key upgrade_row (table_rows table.upgrade (cond b file (content table.upgrade.name)))) (sym (other known.Upgrade))
 ]
+
+-- ---- what reading its bytes gives
+
+pub read_here : {K R X : Type 0} (key : Row → K) (value : Row → R) (entries : List (K × R)) (told : Type 0) (file : Option (List ℕ)) (t : Table) (found : Option (List ℕ)) (r : Result X LoadError) → (told → found ≡ file)
+    → Answers ⊥ (table_fault t found) (λ (x : X). entries ≡ keyed key value (table_rows t found)) r → OnOk r (AreRead key value told file t entries)
+read_here key value entries told file t found (Ok x) same answers = record { found = found; same = same; right = answers.0; are = answers.1 }
+read_here key value entries told file t found (Err e) same answers = tt
+
+pub fault_read : {X : Type 0} (P : X → Type 0) (failed told : Type 0) (file : Option (List ℕ)) (t : Table) (found : Option (List ℕ)) (r : Result X LoadError) → (told → found ≡ file) → Answers ⊥ (table_fault t found) P r → told → IfErr r (Fails failed (table_fault t file))
+fault_read P failed told file t found (Ok x) same answers so = tt
+fault_read P failed told file t found (Err e) same answers so = subst (λ (o : Option (List ℕ)). Fails failed (table_fault t o) e) (same so) (passed_on ⊥ failed (λ x. absurd x) _ _ (λ f some. some) e answers)

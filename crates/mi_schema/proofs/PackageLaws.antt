@@ -14,9 +14,9 @@ use Rattle.mi_text.specs.Version.{version_of}
 use Rattle.mi_base.specs.declared.answers.Fault.{Fault}
 use Rattle.mi_base.specs.declared.answers.Fault.TheVariants.{MissingProperty}
 use Rattle.mi_cond.specs.Place.{IsRead}
-use Rattle.mi_schema.specs.Cells.{Cell}
-use Rattle.mi_schema.specs.Cells as cell
-use Rattle.mi_schema.specs.declared.column.Kind.TheVariants as kind
+use Rattle.mi_rows.specs.Cells.{Cell}
+use Rattle.mi_rows.specs.Cells as cell
+use Rattle.mi_rows.specs.declared.column.Kind.TheVariants as kind
 use Rattle.mi_schema.specs.declared.known.Known.{Known}
 use Rattle.mi_schema.specs.declared.known.Known.TheVariants as known
 use Rattle.mi_schema.specs.declared.known.Target.{Target}
@@ -36,20 +36,22 @@ use Rattle.mi_schema.specs.RowsOf.{rows_in, behind, AreNamed, HoldsAll}
 use Rattle.mi_schema.specs.Source.{has_attributes, is_source_compressed, has_short_names}
 use Rattle.mi_schema.specs.TableRows.{Rows}
 use Rattle.mi_schema.specs.Laws.{IsKeyOf, IsWithin, HasOtherCode, HasProperty, KeysStand, KeysApart, ReferencesStand, ParentsEnd, PropertiesStand, ValuesStand, SourceStands, TablesSmall, key_paths}
-use Rattle.mi_schema.specs.Rows.{keys_of as keys_of_rows}
-use Rattle.mi_schema.specs.Values.{suits, cell_at, text_in, text_at, number_in, lacks, is_root, is_root_below, is_key_in}
-use Rattle.mi_schema.specs.Texts.{is_decimal, are_languages, is_language, is_product_code, is_value_of}
-use Rattle.mi_schema.specs.TypedRows.{condition_in, component_row, text_key, condition_row, text_number_key, create_folder_row, texts_key, custom_action_row, directory_row, duplicate_file_row, environment_row, feature_row, feature_components_row, file_row, install_execute_sequence_row, launch_condition_row, msi_file_hash_row, property_row, registry_row, remove_file_row, remove_registry_row, shortcut_row, summary_information_row, number_key, upgrade_row, upgrade_key}
+use Rattle.mi_rows.specs.Rows.{keys_of as keys_of_rows}
+use Rattle.mi_rows.specs.Values.{suits, cell_at, text_in, text_at, number_in, lacks, is_root, is_root_below, is_key_in}
+use Rattle.mi_rows.specs.Texts.{is_decimal, are_languages, is_language, is_product_code, is_value_of}
+use Rattle.mi_schema.specs.TypedRows.{component_row, condition_row, create_folder_row, custom_action_row, directory_row, duplicate_file_row, environment_row, feature_row, feature_components_row, file_row, install_execute_sequence_row, launch_condition_row, msi_file_hash_row, property_row, registry_row, remove_file_row, remove_registry_row, shortcut_row, summary_information_row, upgrade_row}
+use Rattle.mi_rows.specs.Typed.{condition_in, text_key, text_number_key, texts_key, number_key, upgrade_key}
 use Rattle.mi_schema.proofs.ApartLaws.{own_keys, few_keyed, no_file, neither, without}
 use Rattle.mi_schema.proofs.CellLaws.{AreTables, is_known, is_listed, none_found, IsRight, OfKind, value_at, of_table, right_parts}
 use Rattle.mi_schema.proofs.ChainLaws.{found_first, get_any, chains_end}
-use Rattle.mi_schema.proofs.ConditionLaws.{conditions_are}
-use Rattle.mi_schema.proofs.KeyLaws.{text_cells, number_cells, texts_cells, text_number_cells, upgrade_cells, text_tells, number_tells, texts_tell, text_number_tell, upgrade_tells}
+use Rattle.mi_rows.proofs.ConditionLaws.{conditions_are}
+use Rattle.mi_rows.proofs.KeyLaws.{text_cells, number_cells, texts_cells, text_number_cells, upgrade_cells, text_tells, number_tells, texts_tell, text_number_tell, upgrade_tells}
 use Rattle.mi_schema.proofs.ReferenceLaws.{each_keyed, keys_keyed, suits_here, stands_here, column_at, key_there, not_null, behind_at, behind_long, each_behind, each_named, named_there, may_be_there, must_be_there, named_keys}
 use Rattle.mi_schema.proofs.RowLaws.{summary_is}
 use Rattle.mi_schema.proofs.ValueLaws.{pairs_keyed, any_before, one_root, other_code, text_before, number_before, root_before, kind_suits, text_there, passes, if_passes, if_name, if_pattern, within, if_within}
-use Rattle.mi_schema.proofs.SuitLemmas.{or_none}
-use Rattle.mi_schema.proofs.Words.{IsCondition, IsOfTables}
+use Rattle.mi_rows.proofs.SuitLemmas.{or_none}
+use Rattle.mi_schema.proofs.Words.{IsOfTables}
+use Rattle.mi_rows.proofs.Words.{IsCondition}
 
 -- ---- parts
 

@@ -8,21 +8,22 @@ use Rattle.std.proofs.lemmas.List.{length-map}
 use Rattle.std.proofs.Common.{inl, inr}
 use Rattle.mi_text.specs.Maps.{Name, same_name}
 use Rattle.mi_text.proofs.MapLemmas.{from_same}
-use Rattle.mi_schema.specs.Cells.{Cell}
-use Rattle.mi_schema.specs.declared.column.Kind.TheVariants as kind
-use Rattle.mi_schema.specs.declared.column.Rule.TheVariants as rule
+use Rattle.mi_rows.specs.Cells.{Cell}
+use Rattle.mi_rows.specs.declared.column.Kind.TheVariants as kind
+use Rattle.mi_rows.specs.declared.column.Rule.TheVariants as rule
 use Rattle.mi_base.specs.declared.answers.Fault.TheVariants.{Reference}
 use Rattle.mi_schema.specs.declared.known.Target.{Target}
 use Rattle.mi_schema.specs.Checks.{Content, rows_at}
 use Rattle.mi_schema.specs.Laws.{EachRow}
 use Rattle.mi_schema.specs.References.{keys_in, names, may_name, must_name, first_dangling}
-use Rattle.mi_schema.specs.RowsOf.{behind, keyed}
+use Rattle.mi_schema.specs.RowsOf.{behind}
+use Rattle.mi_rows.specs.Typed.{keyed}
 use Rattle.mi_schema.specs.TableRows.{Rows}
-use Rattle.mi_schema.specs.Rows.{keys_of}
-use Rattle.mi_schema.specs.Values.{suits, Row, is_key_in}
-use Rattle.mi_schema.specs.Tables.{Column, Table}
+use Rattle.mi_rows.specs.Rows.{keys_of}
+use Rattle.mi_rows.specs.Values.{suits, Row, is_key_in}
+use Rattle.mi_rows.specs.Columns.{Column, Table}
 use Rattle.mi_schema.proofs.CellLaws.{AreTables, IsKnown, Stands, value_at, of_table, stands_at, suits_at}
-use Rattle.mi_schema.proofs.SuitLemmas.{or_none, map_none}
+use Rattle.mi_rows.proofs.SuitLemmas.{or_none, map_none}
 
 -- ---- rows behind their keys
 

@@ -3,12 +3,13 @@ use Rattle.std.proofs.Common.{◌≡◌, List, [], ◌∷◌, map, refl, ap, ◌
 use Rattle.mi_schema.specs.declared.package.Package.{Package}
 use Rattle.mi_schema.specs.declared.known.Known.TheVariants as known
 use Rattle.mi_schema.proofs.KnownTables as table
-use Rattle.mi_schema.specs.Values.{Row}
+use Rattle.mi_rows.specs.Values.{Row}
 use Rattle.mi_text.specs.Maps.{Name}
 use Rattle.mi_source.specs.Paths.{Files}
 use Rattle.mi_schema.specs.Checks.{Content, content_of, rows_at}
-use Rattle.mi_schema.specs.RowsOf.{IsPackage, HoldsAll, keyed, rows_of_content, folder_rows, rows_in, behind}
-use Rattle.mi_schema.specs.TypedRows.{text_key, component_row, text_number_key, condition_row, texts_key, create_folder_row, custom_action_row, directory_row, duplicate_file_row, environment_row, feature_row, feature_components_row, file_row, install_execute_sequence_row, msi_file_hash_row, property_row, registry_row, remove_file_row, remove_registry_row, shortcut_row, number_key, summary_information_row, upgrade_key, upgrade_row}
+use Rattle.mi_schema.specs.RowsOf.{IsPackage, HoldsAll, rows_of_content, folder_rows, rows_in, behind}
+use Rattle.mi_rows.specs.Typed.{keyed, text_key, text_number_key, texts_key, number_key, upgrade_key}
+use Rattle.mi_schema.specs.TypedRows.{component_row, condition_row, create_folder_row, custom_action_row, directory_row, duplicate_file_row, environment_row, feature_row, feature_components_row, file_row, install_execute_sequence_row, msi_file_hash_row, property_row, registry_row, remove_file_row, remove_registry_row, shortcut_row, summary_information_row, upgrade_row}
 
 pub behind-keyed : {K R : Type 0} → (key : Row → K) (row : Row → R) (rows : List Row) → behind (keyed key row rows) ≡ map row rows
 behind-keyed key row [] = refl

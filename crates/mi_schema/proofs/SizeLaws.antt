@@ -11,25 +11,27 @@ use Rattle.mi_text.specs.Path.{is_part}
 use Rattle.mi_idt.specs.Cells as raw
 use Rattle.mi_idt.specs.Fields.{fields_of, unescaped}
 use Rattle.mi_idt.specs.Spells.{SpellsFields, SpellsRow}
-use Rattle.mi_schema.specs.Cells.{Cell}
-use Rattle.mi_schema.specs.Cells as cell
-use Rattle.mi_schema.specs.declared.column.Kind.{Kind}
-use Rattle.mi_schema.specs.declared.column.Kind.TheVariants as kind
+use Rattle.mi_rows.specs.Cells.{Cell}
+use Rattle.mi_rows.specs.Cells as cell
+use Rattle.mi_rows.specs.declared.column.Kind.{Kind}
+use Rattle.mi_rows.specs.declared.column.Kind.TheVariants as kind
 use Rattle.mi_schema.specs.declared.known.Known.TheVariants as known
 use Rattle.mi_schema.specs.declared.package.Package.{Package}
 use Rattle.mi_schema.specs.Checks.{Content, rows_at}
 use Rattle.mi_schema.specs.Laws.{IsShort, AreShort, TextsShort, IsOfText, ConditionsStand, AreNames, ArePatterns, IsFolder, NamesStand, ValuesStand}
 use Rattle.mi_schema.specs.RowsOf.{IsPackage}
-use Rattle.mi_schema.specs.Tables.{Column, Table}
+use Rattle.mi_rows.specs.Columns.{Column, Table}
 use Rattle.mi_schema.proofs.KnownTables.{component, condition, create_folder, custom_action, directory, duplicate_file, environment, feature, feature_components, file, install_execute_sequence, launch_condition, msi_file_hash, property, registry, remove_file, remove_registry, shortcut, summary_information, upgrade}
-use Rattle.mi_schema.specs.TypedRows.{some_condition_in, component_row, text_key, condition_row, text_number_key, create_folder_row, texts_key, custom_action_row, directory_row, duplicate_file_row, environment_row, feature_row, feature_components_row, file_row, install_execute_sequence_row, launch_condition_row, msi_file_hash_row, property_row, registry_row, remove_file_row, remove_registry_row, shortcut_row, summary_information_row, number_key, upgrade_row, upgrade_key}
-use Rattle.mi_schema.specs.Values.{Row, row_of, text_value, text_in, text_at, is_root_below}
+use Rattle.mi_schema.specs.TypedRows.{component_row, condition_row, create_folder_row, custom_action_row, directory_row, duplicate_file_row, environment_row, feature_row, feature_components_row, file_row, install_execute_sequence_row, launch_condition_row, msi_file_hash_row, property_row, registry_row, remove_file_row, remove_registry_row, shortcut_row, summary_information_row, upgrade_row}
+use Rattle.mi_rows.specs.Typed.{some_condition_in, text_key, text_number_key, texts_key, number_key, upgrade_key}
+use Rattle.mi_rows.specs.Values.{Row, row_of, text_value, text_in, text_at, is_root_below}
 use Rattle.mi_schema.proofs.CellLaws.{AreTables, IsKnown, is_known, OfKind, value_at, of_table}
-use Rattle.mi_schema.proofs.ConditionLaws.{reads_exactly}
+use Rattle.mi_rows.proofs.ConditionLaws.{reads_exactly}
 use Rattle.mi_schema.proofs.PackageLaws.{keys_stand, values_stand}
 use Rattle.mi_schema.proofs.ReferenceLaws.{each_keyed, stands_here}
-use Rattle.mi_schema.proofs.SuitLemmas.{faultless}
-use Rattle.mi_schema.proofs.Words.{AreRowsOf, IsOfTables}
+use Rattle.mi_rows.proofs.SuitLemmas.{faultless}
+use Rattle.mi_schema.proofs.Words.{IsOfTables}
+use Rattle.mi_rows.proofs.Words.{AreRowsOf}
 
 -- ---- parts of a text are no longer
 

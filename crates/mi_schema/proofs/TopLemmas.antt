@@ -4,15 +4,15 @@ use Rattle.mi_text.specs.Maps.{Name}
 use Rattle.mi_source.specs.Counts.{Rose}
 use Rattle.mi_source.specs.Paths.{Files}
 use Rattle.mi_base.specs.declared.answers.Fault.{Fault}
-use Rattle.mi_schema.specs.declared.error.LoadError.{LoadError}
-use Rattle.mi_schema.specs.Reads.{Fails}
+use Rattle.mi_rows.specs.declared.error.LoadError.{LoadError}
+use Rattle.mi_rows.specs.Reads.{Fails}
 use Rattle.mi_schema.specs.Checks.{Content, missing_fault, tables_fault, package_fault, content_of, load_fault}
 use Rattle.mi_schema.specs.Tables.{tables}
-use Rattle.mi_schema.specs.Rows.{◌or_else◌}
+use Rattle.mi_rows.specs.Rows.{◌or_else◌}
 use Rattle.mi_schema.specs.RowsOf.{rows_of_content}
 use Rattle.mi_schema.specs.TableRows.{Rows}
 use Rattle.mi_schema.proofs.LoadLemmas.{rose_since}
-use Rattle.mi_schema.proofs.RowLemmas.{passed_on, fails_first, fails_then}
+use Rattle.mi_rows.proofs.RowLemmas.{passed_on, fails_first, fails_then}
 
 module _ (files mid : Files) (folder : Name) (same : mid ≡ files) where
   abbrev content : Content

@@ -7,18 +7,17 @@ use Rattle.std.proofs.lemmas.Bool.Decides.{nat_tests}
 use Rattle.std.proofs.lemmas.Int.{ints}
 use Rattle.mi_text.specs.FileNames.{is_file_name, is_file_pattern}
 use Rattle.mi_text.specs.declared.guid.Guid.{Guid}
-use Rattle.mi_schema.specs.Cells.{Cell}
-use Rattle.mi_schema.specs.Cells as cell
-use Rattle.mi_schema.specs.declared.column.Kind.{Kind}
-use Rattle.mi_schema.specs.declared.column.Kind.TheVariants as kind
+use Rattle.mi_rows.specs.Cells.{Cell}
+use Rattle.mi_rows.specs.Cells as cell
+use Rattle.mi_rows.specs.declared.column.Kind.{Kind}
+use Rattle.mi_rows.specs.declared.column.Kind.TheVariants as kind
 use Rattle.mi_schema.specs.Laws.{IsWithin, HasOtherCode}
-use Rattle.mi_schema.specs.RowsOf.{keyed}
-use Rattle.mi_schema.proofs.Words.{has_text}
-use Rattle.mi_schema.specs.Values.{suits, suits_kind, Row, cell_at, text_in, text_at, number_in, is_root, has_code, code_in, same_code, is_new_code}
-use Rattle.mi_schema.specs.Tables.{Column}
-use Rattle.mi_schema.specs.TypedRows.{some_number_in, some_code_in}
+use Rattle.mi_rows.specs.Typed.{keyed, some_number_in, some_code_in}
+use Rattle.mi_rows.proofs.Words.{has_text}
+use Rattle.mi_rows.specs.Values.{suits, suits_kind, Row, cell_at, text_in, text_at, number_in, is_root, has_code, code_in, same_code, is_new_code}
+use Rattle.mi_rows.specs.Columns.{Column}
 use Rattle.mi_schema.proofs.CellLaws.{OfKind}
-use Rattle.mi_schema.proofs.FitLemmas.{front, back}
+use Rattle.mi_rows.proofs.FitLemmas.{front, back}
 use Rattle.mi_schema.proofs.ReferenceLaws.{keyed_at, keyed_long}
 
 -- ---- pairs of rows

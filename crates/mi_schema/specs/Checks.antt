@@ -9,16 +9,17 @@ use Rattle.mi_dirs.specs.Chains.{ends_in}
 use Rattle.mi_dirs.specs.Order.{parent_in}
 use Rattle.mi_dirs.specs.Places.{first_row}
 use Rattle.mi_dirs.specs.Faults.{numbers}
-pub use Rattle.mi_schema.specs.Rows.{Content, table_path, content_of, rows_at}
+pub use Rattle.mi_rows.specs.Rows.{Content, table_path, content_of, rows_at}
 use Rattle.mi_schema.specs.declared.known.Known.TheVariants as known
-use Rattle.mi_schema.specs.Tables.{listed, tables, Table, layout_of, required_properties}
+use Rattle.mi_schema.specs.Tables.{listed, tables, layout_of, required_properties}
+use Rattle.mi_rows.specs.Columns.{Table}
 use Rattle.mi_schema.specs.References.{table_dangling}
-use Rattle.mi_schema.specs.Rows.{◌or_else◌, table_fault}
+use Rattle.mi_rows.specs.Rows.{◌or_else◌, table_fault}
 use Rattle.mi_schema.specs.RowsOf.{rows_of_content}
 use Rattle.mi_schema.specs.Source.{is_source_compressed, file_fault}
 use Rattle.mi_schema.specs.TableRows.{Rows}
 use Rattle.mi_schema.specs.TypedRows.{DirectoryRow, FeatureRow, FileRow, PropertyRow}
-use Rattle.mi_schema.specs.Values.{is_key_in, is_root_below}
+use Rattle.mi_rows.specs.Values.{is_key_in, is_root_below}
 
 -- the first fault of the parts of a list
 abbrev pub first_fault : {A : Type 0} → (A → Option Fault) → List A → Option Fault

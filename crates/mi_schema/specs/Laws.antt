@@ -12,17 +12,17 @@ use Rattle.mi_idt.specs.Cells as raw
 use Rattle.mi_idt.specs.Means.{cell_at}
 use Rattle.mi_cond.specs.Place.{IsRead, IsPlace}
 use Rattle.mi_cond.specs.Tree.{Tree}
-use Rattle.mi_schema.specs.declared.column.Kind.TheVariants as kind
+use Rattle.mi_rows.specs.declared.column.Kind.TheVariants as kind
 use Rattle.mi_schema.specs.declared.package.Package.{Package}
-use Rattle.mi_schema.specs.Rows.{spelled_value}
-use Rattle.mi_schema.specs.Tables.{Table}
+use Rattle.mi_rows.specs.Rows.{spelled_value}
+use Rattle.mi_rows.specs.Columns.{Table}
 use Rattle.mi_schema.specs.Checks.{companion_of, parent_of_directory}
 use Rattle.mi_schema.specs.References.{sets_directory}
 use Rattle.mi_schema.specs.RowsOf.{behind}
 use Rattle.mi_schema.specs.Source.{word_count as count_of, has_attributes}
-use Rattle.mi_schema.specs.Texts.{is_decimal, are_languages, is_language, is_product_code, is_value_of}
+use Rattle.mi_rows.specs.Texts.{is_decimal, are_languages, is_language, is_product_code, is_value_of}
 use Rattle.mi_schema.specs.TypedRows.{ComponentRow, PropertyRow}
-use Rattle.mi_schema.specs.Values.{lacks, is_root_below}
+use Rattle.mi_rows.specs.Values.{lacks, is_root_below}
 
 -- ---- words
 

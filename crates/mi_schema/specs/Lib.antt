@@ -1,16 +1,10 @@
-pub mod Cells
 pub mod Checks
-pub mod Fields
 pub mod Lawful
 pub mod Laws
 pub mod Loaded
-pub mod Reads
 pub mod References
-pub mod Rows
 pub mod RowsOf
 pub mod Source
 pub mod TableRows
 pub mod Tables
-pub mod Texts
 pub mod TypedRows
-pub mod Values

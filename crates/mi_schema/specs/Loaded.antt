@@ -3,13 +3,15 @@ use Rattle.std.specs.Prelude.{◌≡◌, ℕ, ◌<◌, false, if◌then◌else�
 use Rattle.std.specs.Str.{bytes_eq}
 use Rattle.mi_text.specs.Maps.{Name}
 use Rattle.mi_schema.specs.declared.package.Package.{Package}
-use Rattle.mi_schema.specs.Rows.{Content, table_fault, table_rows}
-use Rattle.mi_schema.specs.RowsOf.{HoldsAll, keyed}
+use Rattle.mi_rows.specs.Rows.{Content, table_fault, table_rows}
+use Rattle.mi_schema.specs.RowsOf.{HoldsAll}
+use Rattle.mi_rows.specs.Typed.{keyed}
 use Rattle.mi_schema.specs.Checks.{tables_fault}
 use Rattle.mi_schema.specs.declared.known.Known.{Known}
 use Rattle.mi_schema.specs.declared.known.Known.TheVariants as of
-use Rattle.mi_schema.specs.Tables.{Listed, Loaded, Refused, tables, layout_of, Table}
-use Rattle.mi_schema.specs.Values.{Row}
+use Rattle.mi_schema.specs.Tables.{Listed, Loaded, Refused, tables, layout_of}
+use Rattle.mi_rows.specs.Columns.{Table}
+use Rattle.mi_rows.specs.Values.{Row}
 
 -- all bytes of a file, or that there are more than a table may have
 abbrev pub IsWhole : Option (List ℕ) → List ℕ → Type 0

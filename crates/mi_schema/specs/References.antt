@@ -8,10 +8,10 @@ use Rattle.mi_schema.specs.declared.known.Known.TheVariants as known
 use Rattle.mi_schema.specs.declared.known.Target.{Target}
 use Rattle.mi_schema.specs.declared.known.Target.TheVariants as of
 use Rattle.mi_schema.specs.Tables.{Listed, Loaded, Refused, layout_of}
-use Rattle.mi_schema.specs.Rows.{◌or_else◌}
+use Rattle.mi_rows.specs.Rows.{◌or_else◌}
 use Rattle.mi_schema.specs.TableRows.{Rows}
 use Rattle.mi_schema.specs.TypedRows.{ComponentRow}
-use Rattle.mi_schema.specs.Values.{bits_of, lacks, is_key_in}
+use Rattle.mi_rows.specs.Values.{bits_of, lacks, is_key_in}
 
 -- the keys of a table that other tables name
 abbrev pub keys_in : Rows → Target → List Name

@@ -8,10 +8,10 @@ use Rattle.mi_schema.specs.declared.known.Known.TheVariants as known
 use Rattle.mi_schema.specs.Tables.{layout_of}
 use Rattle.mi_text.specs.Maps.{Name}
 use Rattle.mi_source.specs.Paths.{Files}
-use Rattle.mi_schema.specs.Rows.{Content, content_of, rows_at}
-use Rattle.mi_schema.specs.Values.{Row}
+use Rattle.mi_rows.specs.Rows.{Content, content_of, rows_at}
 use Rattle.mi_schema.specs.Source.{has_short_names}
-use Rattle.mi_schema.specs.TypedRows.{property_row, text_key, directory_row, component_row, feature_row, feature_components_row, texts_key, condition_row, text_number_key, file_row, msi_file_hash_row, remove_file_row, create_folder_row, duplicate_file_row, registry_row, remove_registry_row, environment_row, shortcut_row, launch_condition_row, custom_action_row, install_execute_sequence_row, upgrade_row, upgrade_key, summary_information_row, number_key}
+use Rattle.mi_schema.specs.TypedRows.{property_row, directory_row, component_row, feature_row, feature_components_row, condition_row, file_row, msi_file_hash_row, remove_file_row, create_folder_row, duplicate_file_row, registry_row, remove_registry_row, environment_row, shortcut_row, launch_condition_row, custom_action_row, install_execute_sequence_row, upgrade_row, summary_information_row}
+use Rattle.mi_rows.specs.Typed.{text_key, texts_key, text_number_key, upgrade_key, number_key, keyed}
 use Rattle.mi_schema.specs.TableRows.{Rows}
 
 -- the rows of all known tables
@@ -84,10 +84,6 @@ pub record AreNamed (p : Package) : Type 0 where
   pub registry : keys_of p.registry.entries ≡ map (λ r. r.registry) (behind p.registry.entries)
 
 -- ---- the package of a folder
-
--- each row behind its key
-abbrev pub keyed : {K R : Type 0} → (Row → K) → (Row → R) → List Row → List (K × R)
-keyed key row rows = map (λ r. (key r, row r)) rows
 
 -- the package holds exactly these rows of a table
 abbrev pub Holds : Package → Content → Known → Type 0

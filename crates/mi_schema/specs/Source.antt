@@ -5,7 +5,7 @@ use Rattle.mi_base.specs.declared.answers.Fault.{Fault}
 use Rattle.mi_base.specs.declared.answers.Fault.TheVariants.{Compressed}
 use Rattle.mi_idt.specs.Fields.{number_on}
 use Rattle.mi_schema.specs.TypedRows.{FileRow, SummaryInformationRow}
-use Rattle.mi_schema.specs.Values.{lacks}
+use Rattle.mi_rows.specs.Values.{lacks}
 
 abbrev pub is_word_count : SummaryInformationRow → Bool
 is_word_count r = int_eq r.property_id (pos 15)

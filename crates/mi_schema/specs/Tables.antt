@@ -1,29 +1,15 @@
 -- The layouts of the known tables, and the list of the tables that are known or refused, in byte order of their names.
 -- (Database Tables.)
-use Rattle.std.specs.Prelude.{ℕ, pos, negsuc, Bool, true, false, List, [], ◌∷◌, codes, map}
-use Rattle.mi_schema.specs.declared.column.Column.{Column as InCode}
-use Rattle.mi_schema.specs.declared.column.Layout.{Layout}
+use Rattle.std.specs.Prelude.{ℕ, pos, negsuc, true, false, List, [], ◌∷◌, codes, map}
+use Rattle.mi_rows.specs.Columns.{Column, Table, refused}
 use Rattle.mi_schema.specs.declared.known.Known.{Known}
 use Rattle.mi_schema.specs.declared.known.Known.TheVariants as of
 use Rattle.mi_schema.specs.declared.known.Listed.{Listed as InList}
 use Rattle.mi_schema.specs.declared.known.Listed.TheVariants as code
-use Rattle.mi_schema.specs.declared.column.Kind.{Kind}
-use Rattle.mi_schema.specs.declared.column.Kind.TheVariants.{Text, Name, Pattern, Formatted, Condition, Code, Integer}
-use Rattle.mi_schema.specs.declared.column.Rule.{Rule}
-use Rattle.mi_schema.specs.declared.column.Rule.TheVariants.{Free, PropertyName, PropertyValue, OneRoot, DefaultDir, NewCode, Without, Within, VersionOrKey, Languages, WordCount}
-
--- a column: its name, what it holds, whether it may be null, whether it is a key column, and its further rule
-pub record Column : Type 0 where
-  pub name : List ℕ
-  pub kind : Kind
-  pub nullable : Bool
-  pub key : Bool
-  pub rule : Rule
-
--- a table; one without columns is refused where it holds a row
-pub record Table : Type 0 where
-  pub name : List ℕ
-  pub columns : List Column
+use Rattle.mi_rows.specs.declared.column.Kind.{Kind}
+use Rattle.mi_rows.specs.declared.column.Kind.TheVariants.{Text, Name, Pattern, Formatted, Condition, Code, Integer}
+use Rattle.mi_rows.specs.declared.column.Rule.{Rule}
+use Rattle.mi_rows.specs.declared.column.Rule.TheVariants.{Free, PropertyName, PropertyValue, OneRoot, DefaultDir, NewCode, Without, Within, VersionOrKey, Languages, WordCount}
 
 -- ---- words of the list
 
@@ -41,16 +27,6 @@ allows n k r = record { name = n; kind = k; nullable = true; key = false; rule =
 
 abbrev pub known : List ℕ → List Column → Table
 known n cs = record { name = n; columns = cs }
-
-abbrev pub refused : List ℕ → Table
-refused n = record { name = n; columns = [] }
-
--- a column and a table as the program has them
-abbrev pub column_as : InCode → Column
-column_as c = record { name = c.name.now; kind = c.kind; nullable = c.nullable; key = c.key; rule = c.rule }
-
-abbrev pub table_as : Layout → Table
-table_as t = record { name = t.name.now; columns = map column_as t.columns.now }
 
 -- ---- the layouts
 

@@ -3,18 +3,17 @@
 ghost use Rattle.std.specs.Prelude.{◌≡◌, ◌≤◌, ℕ, List, Option, map, length, codes, IfOk, option_map, option_and_then};
 ghost use Rattle.std.specs.Map.{keys_of};
 ghost use Rattle.mi_text.specs.Maps.{Name};
-ghost use Rattle.mi_schema.specs.Reads.{Answers};
+ghost use Rattle.mi_rows.specs.Reads.{Answers};
 ghost use Rattle.mi_schema.specs.Checks.{companion_of, parent_of_directory, row_with, parents_of, chain_fault, cycles_fault};
 ghost use Rattle.mi_schema.specs.Laws.{TablesSmall};
 ghost use Rattle.mi_schema.specs.RowsOf.{rows_in, behind, AreNamed};
 
-use crate::error::{Checked, LoadError};
 use crate::package::Package;
-use crate::text::is_version;
 use crate::typed_rows::{DirectoryRow, FeatureRow, FileRow};
 use indexmap::IndexMap;
 use mi_base::{Fault, NoMemory, Text};
 use mi_dirs::{DirError, DirFault, order_of};
+use mi_rows::{Checked, LoadError, is_version};
 use std::alloc::Global;
 
 /// A row that may have a parent in its table.

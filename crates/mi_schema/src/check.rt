@@ -1,6 +1,6 @@
 //! What the rows of all tables have to meet together, and the form of the source files.
 
-ghost use Rattle.mi_schema.specs.Reads.{Answers};
+ghost use Rattle.mi_rows.specs.Reads.{Answers};
 ghost use Rattle.mi_schema.specs.Checks.{package_fault, first_fault, missing_property, required_fault, compressed_fault};
 ghost use Rattle.mi_schema.specs.Laws.{TablesSmall};
 ghost use Rattle.mi_schema.specs.RowsOf.{rows_in, behind, AreNamed};
@@ -10,13 +10,12 @@ ghost use Rattle.mi_idt.specs.Fields.{number_on};
 ghost use Rattle.mi_schema.specs.Source.{word_count, number_or_zero, has_attributes, is_compressed, file_fault, has_short_names, is_source_compressed};
 
 use crate::chain::check_cycles;
-use crate::error::{Checked, LoadError};
 use crate::package::Package;
 use crate::reference::check_references;
-use crate::rule::lacks;
 use crate::typed_rows::{FileRow, PropertyRow, SummaryInformationRow};
 use indexmap::IndexMap;
 use mi_base::{Fault, Text};
+use mi_rows::{Checked, LoadError, lacks};
 use std::alloc::Global;
 
 const REQUIRED: [&str; 5] = [

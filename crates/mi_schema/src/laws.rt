@@ -5,11 +5,11 @@ ghost use Rattle.mi_text.specs.Maps.{Name};
 ghost use Rattle.mi_base.specs.declared.answers.Fault.TheVariants as faults;
 ghost use Rattle.mi_cond.specs.Place.{IsRead, IsPlace};
 ghost use Rattle.mi_cond.specs.Tree.{Tree};
-ghost use Rattle.mi_schema.specs.Texts.{condition_of};
+ghost use Rattle.mi_rows.specs.Texts.{condition_of};
 ghost use Rattle.mi_schema.specs.Lawful.{IsLawful};
 ghost use Rattle.mi_schema.specs.Laws.{KeysStand, KeysApart, ReferencesStand, ParentsEnd, PropertiesStand, ValuesStand, SourceStands, TablesSmall, TextsShort, ConditionsStand, StopsAt, NamesStand};
-ghost use Rattle.mi_schema.specs.Rows.{table_fault};
-ghost use Rattle.mi_schema.specs.Tables.{Table};
+ghost use Rattle.mi_rows.specs.Rows.{table_fault};
+ghost use Rattle.mi_rows.specs.Columns.{Table};
 
 use crate::package::Package;
 

@@ -3,28 +3,19 @@
 
 mod chain;
 mod check;
-mod column;
-mod error;
-mod field;
 mod known;
 mod laws;
 mod load;
 mod package;
-mod read;
 mod reference;
-mod row;
-mod rule;
 mod table;
-mod table_row;
-mod take;
-mod text;
 mod typed_rows;
 
-pub use error::LoadError;
 pub use laws::{
     conditions_read, conditions_refused, keys_apart, keys_stand, parents_end, references_stand,
     rows_stand, tables_small, values_stand,
 };
+pub use mi_rows::LoadError;
 pub use package::Package;
 pub use typed_rows::{
     ComponentRow, ConditionRow, CreateFolderRow, CustomActionRow, DirectoryRow, DuplicateFileRow,

@@ -2,21 +2,21 @@
 
 ghost use Rattle.std.specs.Prelude.{◌≡◌, ◌≤◌, IfErr, IfOk, OnOk, None};
 ghost use Rattle.mi_source.specs.Counts.{Rose};
-ghost use Rattle.mi_schema.specs.Reads.{Answers, Fails, IsCounted};
+ghost use Rattle.mi_rows.specs.Reads.{Answers, Fails, IsCounted};
 ghost use Rattle.mi_schema.specs.Lawful.{IsLawful};
 ghost use Rattle.mi_schema.specs.Tables.{table_of, tables, listed_as, layout_of};
 ghost use Rattle.mi_schema.specs.Loaded.{IsPut, IsLate, IsOther, AreLoaded};
 ghost use Rattle.mi_schema.specs.RowsOf.{IsPackage, HoldsAll, folder_rows, rows_in};
-ghost use Rattle.mi_schema.specs.Rows.{table_fault};
+ghost use Rattle.mi_rows.specs.Rows.{table_fault};
 ghost use Rattle.mi_schema.specs.Checks.{Content, content_of, tables_fault, missing_table, missing_fault, load_fault};
 
 use crate::check::{check_rows, has_short_names};
-use crate::error::{Checked, LoadError};
 use crate::known::{Known, Listed, each_table, tables};
 use crate::package::Package;
 use crate::table::{is_there, load_table, path_of, refuse_table};
 use crate::typed_rows as rows;
 use mi_base::{Fault, Text};
+use mi_rows::{Checked, LoadError};
 use mi_source::Source;
 use std::alloc::Global;
 

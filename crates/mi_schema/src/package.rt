@@ -4,10 +4,8 @@ use crate::known::{Target, each_table};
 use crate::typed_rows as rows;
 use indexmap::IndexMap;
 use mi_base::Text;
+use mi_rows::UpgradeKey;
 use std::alloc::Global;
-
-/// The key of a row of Upgrade: UpgradeCode, VersionMin, VersionMax, Language and Attributes (Upgrade table).
-pub type UpgradeKey = (Text, Option<Text>, Option<Text>, Option<Text>, i32);
 
 /// The rows of the known tables by their keys, in file order (Database Tables). A key of several columns is a tuple.
 #[derive(Drop)]
@@ -50,7 +48,7 @@ impl Package {
     ghost use Rattle.std.specs.Prelude.{◌≡◌, None};
     ghost use Rattle.mi_schema.specs.RowsOf.{HoldsAll, rows_in, AreNamed};
     ghost use Rattle.mi_schema.specs.References.{keys_in};
-    ghost use Rattle.mi_schema.specs.Values.{is_key_in};
+    ghost use Rattle.mi_rows.specs.Values.{is_key_in};
 
     /// A package without rows.
     pub(crate) fn empty(alloc: Global) -> Package

@@ -1,21 +1,19 @@
 //! Rows that name rows of other tables.
 
 ghost use Rattle.std.specs.Prelude.{◌≡◌, ◌≤◌, ℕ, Option, length};
-ghost use Rattle.mi_schema.specs.Reads.{Answers};
+ghost use Rattle.mi_rows.specs.Reads.{Answers};
 ghost use Rattle.mi_schema.specs.Checks.{references_fault};
 ghost use Rattle.mi_schema.specs.Laws.{TablesSmall};
 ghost use Rattle.mi_schema.specs.References.{names, may_name, must_name, key_path_target, sets_directory, first_dangling, rows_dangling};
-ghost use Rattle.mi_schema.specs.Rows.{◌or_else◌};
+ghost use Rattle.mi_rows.specs.Rows.{◌or_else◌};
 ghost use Rattle.mi_schema.specs.RowsOf.{rows_in, behind, AreNamed};
 
-use crate::error::{Checked, LoadError};
 use crate::known::{Known, Listed, Target, tables};
 use crate::package::Package;
-use crate::rule::lacks;
-use crate::table_row::Key;
 use crate::typed_rows as rows;
 use indexmap::IndexMap;
 use mi_base::{Fault, Text};
+use mi_rows::{Checked, Key, LoadError, lacks};
 use std::alloc::Global;
 
 /// The column, unless the row that it names is there.

@@ -1,16 +1,17 @@
 //! The rows of the known tables: each table's columns, and its rows as structs of them (Database Tables). A column is
 //! named in snake case without an underscore at its ends, and Type is `kind`.
 
+ghost use Rattle.std.specs.Prelude.{refl};
 ghost use Rattle.mi_schema.specs.declared.known.Known.TheVariants as of;
+ghost use Rattle.mi_schema.specs.Tables.{layout_of};
 ghost use Rattle.mi_schema.specs.TypedRows.{property_row, directory_row, component_row, feature_row, feature_components_row, condition_row, file_row, msi_file_hash_row, remove_file_row, create_folder_row, duplicate_file_row, registry_row, remove_registry_row, environment_row, shortcut_row, launch_condition_row, custom_action_row, install_execute_sequence_row, upgrade_row, summary_information_row};
 
-use crate::column::{Column, Kind, Layout, Rule};
-use crate::field::{Field, number_at, some_code_at, some_number_at};
-use crate::package::UpgradeKey;
-use crate::table_row::TableRow;
-use crate::take::Take;
 use mi_base::{Guid, Text};
 use mi_cond::Cond;
+use mi_rows::{
+    Column, Field, Kind, Layout, Rule, TableRow, Take, UpgradeKey, number_at, some_code_at,
+    some_number_at,
+};
 
 macro_rules! is_key {
     (key) => { true };
@@ -73,7 +74,9 @@ pub const PROPERTY: Layout = layout!("Property": key Property Text PropertyName,
     needs Value Text PropertyValue);
 
 impl TableRow<Text> for PropertyRow {
-    ghost known = { of.Property };
+    ghost layout = { layout_of of.Property };
+
+    ghost readable = { (refl, refl) };
 
     ghost value = { property_row };
 
@@ -96,7 +99,9 @@ pub const DIRECTORY: Layout = layout!("Directory": key Directory Text,
     allows Directory_Parent Text OneRoot, needs DefaultDir Text DefaultDir);
 
 impl TableRow<Text> for DirectoryRow {
-    ghost known = { of.Directory };
+    ghost layout = { layout_of of.Directory };
+
+    ghost readable = { (refl, refl) };
 
     ghost value = { directory_row };
 
@@ -125,7 +130,9 @@ pub const COMPONENT: Layout = layout!("Component": key Component Text,
     needs Attributes Integer Without(1 | 32 | 64), allows Condition Condition, allows KeyPath Text);
 
 impl TableRow<Text> for ComponentRow {
-    ghost known = { of.Component };
+    ghost layout = { layout_of of.Component };
+
+    ghost readable = { (refl, refl) };
 
     ghost value = { component_row };
 
@@ -154,7 +161,9 @@ pub const FEATURE: Layout = layout!("Feature": key Feature Text, allows Feature_
     allows Directory_ Text, needs Attributes Integer);
 
 impl TableRow<Text> for FeatureRow {
-    ghost known = { of.Feature };
+    ghost layout = { layout_of of.Feature };
+
+    ghost readable = { (refl, refl) };
 
     ghost value = { feature_row };
 
@@ -178,7 +187,9 @@ pub const FEATURE_COMPONENTS: Layout = layout!("FeatureComponents": key Feature_
     key Component_ Text);
 
 impl TableRow<(Text, Text)> for FeatureComponentsRow {
-    ghost known = { of.FeatureComponents };
+    ghost layout = { layout_of of.FeatureComponents };
+
+    ghost readable = { (refl, refl) };
 
     ghost value = { feature_components_row };
 
@@ -200,7 +211,9 @@ pub const CONDITION: Layout = layout!("Condition": key Feature_ Text, key Level 
     allows Condition Condition);
 
 impl TableRow<(Text, i32)> for ConditionRow {
-    ghost known = { of.Condition };
+    ghost layout = { layout_of of.Condition };
+
+    ghost readable = { (refl, refl) };
 
     ghost value = { condition_row };
 
@@ -232,7 +245,9 @@ pub const FILE: Layout = layout!("File": key File Text, needs Component_ Text, n
     allows Language Text Languages, allows Attributes Integer, needs Sequence Integer);
 
 impl TableRow<Text> for FileRow {
-    ghost known = { of.File };
+    ghost layout = { layout_of of.File };
+
+    ghost readable = { (refl, refl) };
 
     ghost value = { file_row };
 
@@ -260,7 +275,9 @@ pub const MSI_FILE_HASH: Layout = layout!("MsiFileHash": key File_ Text, needs O
     needs HashPart4 Integer);
 
 impl TableRow<Text> for MsiFileHashRow {
-    ghost known = { of.MsiFileHash };
+    ghost layout = { layout_of of.MsiFileHash };
+
+    ghost readable = { (refl, refl) };
 
     ghost value = { msi_file_hash_row };
 
@@ -287,7 +304,9 @@ pub const REMOVE_FILE: Layout = layout!("RemoveFile": key FileKey Text, needs Co
     allows FileName Pattern, needs DirProperty Text, needs InstallMode Integer Within(1, 3));
 
 impl TableRow<Text> for RemoveFileRow {
-    ghost known = { of.RemoveFile };
+    ghost layout = { layout_of of.RemoveFile };
+
+    ghost readable = { (refl, refl) };
 
     ghost value = { remove_file_row };
 
@@ -309,7 +328,9 @@ pub struct CreateFolderRow {
 pub const CREATE_FOLDER: Layout = layout!("CreateFolder": key Directory_ Text, key Component_ Text);
 
 impl TableRow<(Text, Text)> for CreateFolderRow {
-    ghost known = { of.CreateFolder };
+    ghost layout = { layout_of of.CreateFolder };
+
+    ghost readable = { (refl, refl) };
 
     ghost value = { create_folder_row };
 
@@ -335,7 +356,9 @@ pub const DUPLICATE_FILE: Layout = layout!("DuplicateFile": key FileKey Text, ne
     needs File_ Text, allows DestName Name, allows DestFolder Text);
 
 impl TableRow<Text> for DuplicateFileRow {
-    ghost known = { of.DuplicateFile };
+    ghost layout = { layout_of of.DuplicateFile };
+
+    ghost readable = { (refl, refl) };
 
     ghost value = { duplicate_file_row };
 
@@ -363,7 +386,9 @@ pub const REGISTRY: Layout = layout!("Registry": key Registry Text,
     allows Value Formatted, needs Component_ Text);
 
 impl TableRow<Text> for RegistryRow {
-    ghost known = { of.Registry };
+    ghost layout = { layout_of of.Registry };
+
+    ghost readable = { (refl, refl) };
 
     ghost value = { registry_row };
 
@@ -390,7 +415,9 @@ pub const REMOVE_REGISTRY: Layout = layout!("RemoveRegistry": key RemoveRegistry
     needs Component_ Text);
 
 impl TableRow<Text> for RemoveRegistryRow {
-    ghost known = { of.RemoveRegistry };
+    ghost layout = { layout_of of.RemoveRegistry };
+
+    ghost readable = { (refl, refl) };
 
     ghost value = { remove_registry_row };
 
@@ -415,7 +442,9 @@ pub const ENVIRONMENT: Layout = layout!("Environment": key Environment Text, nee
     allows Value Formatted, needs Component_ Text);
 
 impl TableRow<Text> for EnvironmentRow {
-    ghost known = { of.Environment };
+    ghost layout = { layout_of of.Environment };
+
+    ghost readable = { (refl, refl) };
 
     ghost value = { environment_row };
 
@@ -455,7 +484,9 @@ pub const SHORTCUT: Layout = layout!("Shortcut": key Shortcut Text, needs Direct
     allows WkDir Text);
 
 impl TableRow<Text> for ShortcutRow {
-    ghost known = { of.Shortcut };
+    ghost layout = { layout_of of.Shortcut };
+
+    ghost readable = { (refl, refl) };
 
     ghost value = { shortcut_row };
 
@@ -478,7 +509,9 @@ pub const LAUNCH_CONDITION: Layout = layout!("LaunchCondition": key Condition Co
     needs Description Formatted);
 
 impl TableRow<Text> for LaunchConditionRow {
-    ghost known = { of.LaunchCondition };
+    ghost layout = { layout_of of.LaunchCondition };
+
+    ghost readable = { (refl, refl) };
 
     ghost value = { launch_condition_row };
 
@@ -502,7 +535,9 @@ pub const CUSTOM_ACTION: Layout = layout!("CustomAction": key Action Text, needs
     allows Source Text, allows Target Formatted);
 
 impl TableRow<Text> for CustomActionRow {
-    ghost known = { of.CustomAction };
+    ghost layout = { layout_of of.CustomAction };
+
+    ghost readable = { (refl, refl) };
 
     ghost value = { custom_action_row };
 
@@ -524,7 +559,9 @@ pub const INSTALL_EXECUTE_SEQUENCE: Layout = layout!("InstallExecuteSequence": k
     allows Condition Condition, allows Sequence Integer);
 
 impl TableRow<Text> for InstallExecuteSequenceRow {
-    ghost known = { of.InstallExecuteSequence };
+    ghost layout = { layout_of of.InstallExecuteSequence };
+
+    ghost readable = { (refl, refl) };
 
     ghost value = { install_execute_sequence_row };
 
@@ -551,7 +588,9 @@ pub const UPGRADE: Layout = layout!("Upgrade": key UpgradeCode Text, key_or_null
     allows Remove Text, needs ActionProperty Text);
 
 impl TableRow<UpgradeKey> for UpgradeRow {
-    ghost known = { of.Upgrade };
+    ghost layout = { layout_of of.Upgrade };
+
+    ghost readable = { (refl, refl) };
 
     ghost value = { upgrade_row };
 
@@ -574,7 +613,9 @@ pub const SUMMARY_INFORMATION: Layout = layout!("_SummaryInformation": key Prope
     allows Value Text WordCount);
 
 impl TableRow<i32> for SummaryInformationRow {
-    ghost known = { of.SummaryInformation };
+    ghost layout = { layout_of of.SummaryInformation };
+
+    ghost readable = { (refl, refl) };
 
     ghost value = { summary_information_row };
 

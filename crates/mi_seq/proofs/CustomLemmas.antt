@@ -14,7 +14,7 @@ use Rattle.mi_base.specs.declared.answers.Fault.{Fault}
 use Rattle.mi_base.specs.declared.answers.Fault.TheVariants as faults
 use Rattle.mi_schema.specs.declared.typed_rows.CustomActionRow.{CustomActionRow}
 use Rattle.mi_schema.specs.TableRows.{Numbered, numbered_from}
-use Rattle.mi_schema.specs.Values.{lacks}
+use Rattle.mi_rows.specs.Values.{lacks}
 use Rattle.mi_model.specs.Texts.{Text}
 use Rattle.mi_model.specs.Sequence.{is_costed, is_finalized}
 use Rattle.mi_model.specs.Steps as model

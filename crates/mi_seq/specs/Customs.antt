@@ -5,7 +5,7 @@ use Rattle.mi_text.specs.Lookups.{Lookups}
 use Rattle.mi_base.specs.declared.answers.Fault.TheVariants as faults
 use Rattle.mi_schema.specs.declared.typed_rows.CustomActionRow.{CustomActionRow}
 use Rattle.mi_schema.specs.TableRows.{Numbered}
-use Rattle.mi_schema.specs.Values.{bits_of, lacks}
+use Rattle.mi_rows.specs.Values.{bits_of, lacks}
 use Rattle.mi_model.specs.Sequence.{is_costed, is_finalized}
 use Rattle.mi_model.specs.Steps as model
 use Rattle.mi_model.specs.Refusals.{expanded_or_empty}

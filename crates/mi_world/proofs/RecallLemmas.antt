@@ -15,7 +15,7 @@ use Rattle.mi_text.specs.Maps.{Name, Map, name_cmp, same_name, map_values}
 use Rattle.mi_text.proofs.MapLemmas.{names_total, same, get-map_values, entries-map_values}
 use Rattle.mi_base.specs.Machine.{Machine}
 use Rattle.mi_dirs.specs.Places.{Folder}
-use Rattle.mi_schema.specs.Values.{lacks}
+use Rattle.mi_rows.specs.Values.{lacks}
 use Rattle.mi_schema.specs.declared.typed_rows.ComponentRow.{ComponentRow}
 use Rattle.mi_schema.specs.declared.typed_rows.DirectoryRow.{DirectoryRow}
 use Rattle.mi_schema.specs.TableRows.{Rows, Numbered, numbered_from, by_key, in_key_order, product_code}

@@ -9,7 +9,7 @@ ghost use Rattle.mi_text.specs.Path.{up_to_last};
 ghost use Rattle.mi_dirs.specs.Views.{IsFolder};
 ghost use Rattle.mi_image.specs.Items.{machine_over};
 ghost use Rattle.mi_schema.specs.RowsOf.{rows_in};
-ghost use Rattle.mi_schema.specs.Values.{lacks};
+ghost use Rattle.mi_rows.specs.Values.{lacks};
 ghost use Rattle.mi_model.specs.Remembered.{remembered};
 ghost use Rattle.mi_world.specs.Ground.{ground};
 ghost use Rattle.mi_world.specs.Recall.{in_order, told_path, told_over, folder_told, folder_row, AreOrdered, AreToldBy};

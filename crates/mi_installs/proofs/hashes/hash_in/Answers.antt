@@ -2,7 +2,7 @@ use Rattle.std.proofs.Common.{◌≡◌, ℕ, ℤ, List, [], ◌∷◌, get_or, 
 use Rattle.std.specs.Int.{w32, to_le_bytes}
 use Rattle.std.specs.List.{flat_map}
 use Rattle.std.proofs.lemmas.Int.{to_z-of_z}
-use Rattle.mi_schema.specs.Values.{bits_of}
+use Rattle.mi_rows.specs.Values.{bits_of}
 use Rattle.mi_installs.proofs.hashes.hash_in.Goals as goal
 
 -- the eight bytes of each of two halves

@@ -1,6 +1,6 @@
 use Rattle.std.proofs.Common.{◌≡◌, ℕ, List, [], ◌∷◌, get_or, ap, rules, ◌∙◌}
 use Rattle.std.specs.Int.{w32, to_le_bytes}
-use Rattle.mi_schema.specs.Values.{bits_of}
+use Rattle.mi_rows.specs.Values.{bits_of}
 use Rattle.mi_installs.proofs.hashes.two_parts.Goals as goal
 
 -- the four bytes of each of two parts

@@ -1,10 +1,10 @@
 use Rattle.std.proofs.Common.{Some, map, sym, ap, ◌∙◌}
 use Rattle.mi_base.specs.declared.answers.Fault.TheVariants.{MissingProperty}
 use Rattle.mi_schema.specs.RowsOf.{behind}
-use Rattle.mi_schema.specs.Values.{is_key_in}
+use Rattle.mi_rows.specs.Values.{is_key_in}
 use Rattle.mi_schema.specs.declared.typed_rows.PropertyRow.{PropertyRow}
 use Rattle.mi_schema.proofs.CheckLemmas.{has_key, name_on, name_not, drop_map, map_drop}
-use Rattle.mi_schema.proofs.ListLemmas.{map_next}
+use Rattle.mi_rows.proofs.ListLemmas.{map_next}
 use Rattle.mi_schema.proofs.check.check_names.Goals as goal
 
 pub returns-then-not-contains_key : goal.returns-then-not-contains_key

@@ -1,11 +1,11 @@
 use Rattle.std.proofs.lemmas.Result.{err_from_is_err_and}
 use Rattle.mi_schema.specs.Checks.{package_fault, required_fault, references_fault, cycles_fault, compressed_fault}
-use Rattle.mi_schema.specs.Rows.{◌or_else◌}
+use Rattle.mi_rows.specs.Rows.{◌or_else◌}
 use Rattle.mi_schema.specs.RowsOf.{rows_in}
 use Rattle.std.proofs.Common.{Option, sym, ap, subst, ◌∙◌}
 use Rattle.mi_base.specs.declared.answers.Fault.{Fault}
-use Rattle.mi_schema.specs.Reads.{Answers}
-use Rattle.mi_schema.proofs.RowLemmas.{fails_first, fails_then}
+use Rattle.mi_rows.specs.Reads.{Answers}
+use Rattle.mi_rows.proofs.RowLemmas.{fails_first, fails_then}
 use Rattle.mi_schema.proofs.check.check_rows.Goals as goal
 
 pub returns-in_err-check_properties : goal.returns-in_err-check_properties

@@ -1,4 +1,4 @@
-use Rattle.mi_schema.proofs.ConditionLaws.{reads_exactly, stops_exactly}
+use Rattle.mi_rows.proofs.ConditionLaws.{reads_exactly, stops_exactly}
 use Rattle.mi_schema.proofs.laws.conditions_read.Goals as goal
 
 pub returns-clause-tree : goal.returns-clause-tree

@@ -1,13 +1,13 @@
 use Rattle.std.proofs.Common.{IfErr, OnOk, refl, sym, subst}
 use Rattle.mi_source.specs.Counts.{Rose}
-use Rattle.mi_schema.specs.Reads.{Fails}
-use Rattle.mi_schema.specs.Rows.{table_fault}
+use Rattle.mi_rows.specs.Reads.{Fails}
+use Rattle.mi_rows.specs.Rows.{table_fault}
 use Rattle.mi_schema.specs.declared.known.Known.{Known}
 use Rattle.mi_schema.specs.declared.known.Known.TheVariants as known
 use Rattle.mi_schema.specs.Checks.{content_of}
 use Rattle.mi_schema.specs.Tables.{layout_of}
 use Rattle.mi_schema.proofs.KnownTables as table
-use Rattle.mi_schema.proofs.KeyLaws.{text_told, texts_told, text_number_told}
+use Rattle.mi_rows.proofs.KeyLaws.{text_told, texts_told, text_number_told}
 use Rattle.mi_schema.specs.Loaded.{IsPut}
 use Rattle.mi_schema.proofs.LoadLemmas.{on_ok}
 use Rattle.mi_schema.proofs.load.load_known.Goals as goal

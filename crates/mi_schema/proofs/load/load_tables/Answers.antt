@@ -2,10 +2,10 @@ use Rattle.std.proofs.Common.{◌≡◌, List, map, length, ap, subst, ◌∙◌
 use Rattle.std.proofs.lemmas.Result.{err_from_is_err_and}
 use Rattle.std.proofs.lemmas.List.{length-map}
 use Rattle.mi_source.specs.Counts.{Rose}
-use Rattle.mi_schema.specs.Reads.{Fails}
+use Rattle.mi_rows.specs.Reads.{Fails}
 use Rattle.mi_schema.specs.Checks.{content_of, tables_fault}
-use Rattle.mi_schema.specs.Tables.{Table}
-use Rattle.mi_schema.proofs.ListLemmas.{map_next, map_done}
+use Rattle.mi_rows.specs.Columns.{Table}
+use Rattle.mi_rows.proofs.ListLemmas.{map_next, map_done}
 use Rattle.mi_schema.proofs.LoadLemmas.{table_in, loaded_none, loaded_more, loaded_no_more, loaded_all, counted_since, tables_apart, tables_are, is_other, are_apart}
 use Rattle.mi_schema.proofs.load.load_tables.Goals as goal
 

@@ -1,6 +1,6 @@
 use Rattle.std.proofs.Common.{rules, sym, subst}
 use Rattle.mi_schema.specs.declared.known.Known.{Known}
-use Rattle.mi_schema.specs.Reads.{Answers}
+use Rattle.mi_rows.specs.Reads.{Answers}
 use Rattle.mi_schema.specs.References.{rows_dangling}
 use Rattle.mi_schema.proofs.Dangling.{component_dangling, condition_dangling, create_folder_dangling, custom_action_dangling, directory_dangling, duplicate_file_dangling, environment_dangling, feature_dangling, feature_components_dangling, file_dangling, msi_file_hash_dangling, registry_dangling, remove_file_dangling, remove_registry_dangling, shortcut_dangling}
 use Rattle.mi_schema.specs.RowsOf.{rows_in}

@@ -1,7 +1,7 @@
 use Rattle.std.proofs.lemmas.Result.{err_from_is_err_and}
 use Rattle.mi_schema.specs.RowsOf.{rows_in}
 use Rattle.mi_schema.proofs.CheckLemmas.{listed_fails}
-use Rattle.mi_schema.proofs.RowLemmas.{passed_on}
+use Rattle.mi_rows.proofs.RowLemmas.{passed_on}
 use Rattle.mi_schema.proofs.reference.check_references.Goals as goal
 
 pub returns-in_err-check_known : goal.returns-in_err-check_known

@@ -1,15 +1,15 @@
 use Rattle.std.proofs.Common.{◌≡◌, List, ℕ, Some, OnOk, IfErr, sym, ap, subst, ◌∙◌}
 use Rattle.std.proofs.lemmas.Result.{err_from_is_err_and}
 use Rattle.mi_source.specs.Counts.{Rose}
-use Rattle.mi_schema.specs.Reads.{Fails}
+use Rattle.mi_rows.specs.Reads.{Fails}
 use Rattle.mi_schema.specs.Checks.{content_of}
-use Rattle.mi_schema.specs.Tables.{table_as, Table}
+use Rattle.mi_rows.specs.Columns.{table_as, Table}
 use Rattle.mi_schema.specs.Loaded.{AreRead}
-use Rattle.mi_schema.specs.RowsOf.{keyed}
-use Rattle.mi_schema.specs.Rows.{table_fault, table_rows}
-use Rattle.mi_schema.proofs.KnownLemmas.{read_here, fault_read}
-use Rattle.mi_schema.proofs.RowLemmas.{passed_on}
-use Rattle.mi_schema.proofs.TableLemmas.{size_fails}
+use Rattle.mi_rows.specs.Typed.{keyed}
+use Rattle.mi_rows.specs.Rows.{table_fault, table_rows}
+use Rattle.mi_schema.proofs.LoadLemmas.{read_here, fault_read}
+use Rattle.mi_rows.proofs.RowLemmas.{passed_on}
+use Rattle.mi_rows.proofs.TableLemmas.{size_fails}
 use Rattle.mi_schema.proofs.table.load_table.Goals as goal
 
 pub returns-in_err-bytes-clause-fault : goal.returns-in_err-bytes-clause-fault

@@ -1,8 +1,8 @@
 use Rattle.std.proofs.lemmas.Result.{err_from_is_err_and}
 use Rattle.mi_schema.specs.Checks.{content_of}
-use Rattle.mi_schema.specs.Tables.{refused}
-use Rattle.mi_schema.proofs.RowLemmas.{passed_on}
-use Rattle.mi_schema.proofs.TableLemmas.{size_fails}
+use Rattle.mi_rows.specs.Columns.{refused}
+use Rattle.mi_rows.proofs.RowLemmas.{passed_on}
+use Rattle.mi_rows.proofs.TableLemmas.{size_fails}
 use Rattle.mi_schema.proofs.table.refuse_table.Goals as goal
 
 pub returns-in_err-bytes-clause-fault : goal.returns-in_err-bytes-clause-fault

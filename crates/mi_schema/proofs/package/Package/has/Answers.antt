@@ -1,7 +1,7 @@
 use Rattle.std.proofs.Common.{sym, ap, ◌∙◌}
 use Rattle.mi_schema.specs.References.{keys_in}
 use Rattle.mi_schema.specs.RowsOf.{rows_in}
-use Rattle.mi_schema.specs.Values.{is_key_in}
+use Rattle.mi_rows.specs.Values.{is_key_in}
 use Rattle.mi_schema.proofs.CheckLemmas.{has_key}
 use Rattle.mi_schema.proofs.package.Package.has.Goals as goal
 

@@ -1,8 +1,8 @@
 use Rattle.std.proofs.Common.{◌≡◌, ◌∙◌, arith}
-use Rattle.mi_schema.specs.Fields.{values_of}
-use Rattle.mi_schema.specs.TypedRows.{some_condition_in}
-use Rattle.mi_schema.specs.Values.{cell_at}
-use Rattle.mi_schema.proofs.FieldLemmas.{component_condition}
+use Rattle.mi_rows.specs.Fields.{values_of}
+use Rattle.mi_rows.specs.Typed.{some_condition_in}
+use Rattle.mi_rows.specs.Values.{cell_at}
+use Rattle.mi_schema.proofs.ComponentLemmas.{component_condition}
 use Rattle.mi_schema.proofs.typed_rows.ComponentRowTableRowText.read.Goals as goal
 
 pub returns : goal.returns

@@ -1,0 +1,14 @@
+pub mod ColumnLemmas
+pub mod ConditionLaws
+pub mod DifferLemmas
+pub mod FieldLemmas
+pub mod FitLemmas
+pub mod KeyLaws
+pub mod KnownLemmas
+pub mod ListLemmas
+pub mod NumberLaws
+pub mod RowLemmas
+pub mod RowsLemmas
+pub mod SuitLemmas
+pub mod TableLemmas
+pub mod Words
