@@ -5,7 +5,7 @@ ghost use Rattle.std.specs.List.{slice_split};
 ghost use Rattle.std.specs.Str.Lines.{lines, strip_carriage_return};
 ghost use Rattle.mi_idt.specs.Fields.{fields_of, is_ascii};
 
-use memchr::memchr;
+use memchr::{memchr, memchr_iter};
 use std::alloc::{AllocError, Global};
 
 /// The parts between the bytes that equal `mark`, with room for `room` of them.
@@ -51,7 +51,7 @@ pub fn text_fields(alloc: Global, line: &str, count: usize) -> Result<Vec<&str>,
 pub fn count(bytes: &[u8], mark: u8) -> usize
     ensures { result ≡ count_by (λ b. b == mark) bytes.now }
 {
-    bytes.iter().filter(|byte| **byte == mark).count()
+    memchr_iter(mark, bytes).count()
 }
 
 /// How many fields a line has.
