@@ -24,9 +24,15 @@ pub struct Given {
     pub volume: Volume,
 }
 
+fn string(place: usize, call: &mut Call<'_>) -> Result<String, Stop> {
+    let text = call.text(place);
+    Ok(String::from_str(call.alloc(), text)?)
+}
+
 fn push_strings(list: &mut Vec<(String, String)>, call: &mut Call<'_>) -> Result<(), Stop> {
-    let (name, value) = (call.owned(0), call.owned(1));
-    list.push((name.into_string(), value.into_string()))?;
+    let name = string(0, call)?;
+    let value = string(1, call)?;
+    list.push((name, value))?;
     Ok(())
 }
 
@@ -53,7 +59,7 @@ fn sign_of(text: &str) -> Result<(Sign, &str), Stop> {
 fn push_state(list: &mut Vec<(Sign, String, i32)>, call: &mut Call<'_>) -> Result<(), Stop> {
     let (sign, key) = sign_of(call.text(0))?;
     let state = call.text(1).parse::<i32>()?;
-    list.push((sign, call.copy(key).into_string(), state))?;
+    list.push((sign, String::from_str(call.alloc(), key)?, state))?;
     Ok(())
 }
 
@@ -85,8 +91,9 @@ fn push_link(
     parent: Text,
     call: &mut Call<'_>,
 ) -> Result<(), Stop> {
+    let key = Text::from_string(call.alloc(), key)?;
     rows.push(DirRow {
-        key: Text::from_string(key),
+        key,
         parent: Some(parent),
         target: call.owned(2),
         short_source: call.owned(2),
@@ -101,7 +108,8 @@ fn push_middle(rows: &mut Vec<DirRow>, number: u32, call: &mut Call<'_>) -> Resu
     let before = number.saturating_sub(1);
     let key = format!(in alloc; "D{before}")?;
     let parent = format!(in alloc; "D{number}")?;
-    push_link(rows, key, Text::from_string(parent), call)
+    let parent = Text::from_string(alloc, parent)?;
+    push_link(rows, key, parent, call)
 }
 
 /// Adds so many rows of one name, each below the next, and the last below this parent.

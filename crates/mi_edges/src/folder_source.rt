@@ -60,8 +60,7 @@ impl Visit for Names {
         };
         let path = path_in(self.alloc, folder, name)?;
         if let Found::File(_) = look_through(rt, path.as_str())? {
-            let text = Text::from_string(String::from_str(self.alloc, name)?);
-            self.names.push(text)?;
+            self.names.push(Text::copy_of(self.alloc, name)?)?;
         }
         Ok(())
     }

@@ -1,5 +1,6 @@
 //! Why a call of the system has failed, as plain data.
 
+use mi_text::NoMemory;
 use std::alloc::{AllocError, AllocFailed};
 use std::io;
 use std::io::ErrorKind;
@@ -30,6 +31,12 @@ impl From<io::Error> for Trouble {
 
 impl From<AllocError> for Trouble {
     fn from(_error: AllocError) -> Trouble {
+        Trouble::NoMemory
+    }
+}
+
+impl From<NoMemory> for Trouble {
+    fn from(_error: NoMemory) -> Trouble {
         Trouble::NoMemory
     }
 }

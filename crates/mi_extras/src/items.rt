@@ -48,7 +48,8 @@ fn joined(alloc: Global, items: &[&str]) -> Result<Option<Text>, NoMemory>
         return Ok(None);
     }
     let text = items.join(alloc, ";")?;
-    Ok(Some(Text::from_string(text)))
+    let joined = Text::from_string(alloc, text)?;
+    Ok(Some(joined))
 }
 
 /// What is left of a value without its first item that equals a part; None where no item is left.

@@ -69,9 +69,9 @@ fn push(text: Held, most: usize, ch: char) -> Result<Held, NoMemory>
     if !fits(most, text.len(), ch.len_utf8()) {
         return Ok(Held::Longer(Look::of(text.as_str()).with_char(ch)));
     }
-    let mut string = text.into_string();
-    string.push(ch)?;
-    Ok(Held::Whole(Text::from_string(string)))
+    let mut text = text;
+    text.push_str(ch.encode_utf8(&mut [0; 4]))?;
+    Ok(Held::Whole(text))
 }
 
 // Adds another text.

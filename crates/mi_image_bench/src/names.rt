@@ -29,7 +29,7 @@ impl<T: Drop> From<AllocFailed<T>> for NotMade {
 pub fn file_path(alloc: Global, number: u32) -> Result<PathText, NotMade> {
     let part = number / 100;
     let text = format!(in alloc; "C:\\Program Files\\Bench\\part{part:05}\\File{number:07}.txt")?;
-    match PathText::of(Text::from_string(text)) {
+    match PathText::of(Text::from_string(alloc, text)?) {
         Some(path) => Ok(path),
         None => Err(NotMade),
     }

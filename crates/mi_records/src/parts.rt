@@ -24,7 +24,8 @@ pub fn without_empty_parts(alloc: Global, text: &str) -> Result<Text, NoMemory>
 {
     let parts = parts_of(alloc, text)?;
     let key = parts.as_slice().join(alloc, "\\")?;
-    Ok(Text::from_string(key))
+    let text = Text::from_string(alloc, key)?;
+    Ok(text)
 }
 
 /// Whether no byte of a text is 0.

@@ -22,7 +22,7 @@ use Rattle.mi_rows.specs.declared.column.Kind.{Kind}
 use Rattle.mi_rows.specs.declared.column.Kind.TheVariants as kind
 use Rattle.mi_rows.specs.declared.field.Field.{Field}
 use Rattle.mi_rows.specs.declared.column.Column.{Column as Listed}
-use Rattle.mi_rows.specs.Cells.{Cell, Text, Integer, Code, Condition}
+use Rattle.mi_rows.specs.Cells.{Cell, Integer}
 use Rattle.mi_rows.specs.Fields.{field_value, values_of, shown_value, last_condition}
 use Rattle.mi_rows.specs.Reads.{FitsKind, KnowsKeys}
 use Rattle.mi_rows.specs.declared.field.Bad.{Bad}

@@ -14,11 +14,13 @@ use mi_base::{Guid, NoMemory};
 use mi_idt::integer_within;
 use std::borrow::CowStr;
 
-/// A field of a row: what its column holds, and its text, unescaped; None is null.
+/// A field of a row: what its column holds, its text, unescaped, where None is null, and where it begins in the text of
+/// its table, in bytes.
 #[derive(Drop)]
 pub struct Field<'a> {
     pub kind: Kind,
     pub text: Option<CowStr<'a>>,
+    pub start: usize,
 }
 
 /// Why a field isn't a value of its column.
@@ -52,6 +54,14 @@ pub fn shown<'r>(field: &'r Field<'_>) -> Option<&'r str>
     match &field.text {
         Some(text) => Some(text.as_str()),
         None => None,
+    }
+}
+
+/// The length of a field in bytes, which an escape doesn't change.
+pub fn length(field: &Field) -> usize {
+    match shown(field) {
+        Some(text) => text.len(),
+        None => 0,
     }
 }
 
@@ -132,6 +142,14 @@ pub fn text_at<'r>(row: &'r [Field<'_>], column: usize) -> &'r str
     ensures { result.now ≡ text_at (values_of row.now) column }
 {
     some_text_at(row, column).unwrap_or("")
+}
+
+/// Where a column of a row, from 0, begins in the text of its table, in bytes; 0 where there is none.
+pub fn start_at(row: &[Field], column: usize) -> usize {
+    match field_at(row, column) {
+        Some(field) => field.start,
+        None => 0,
+    }
 }
 
 /// The number of a column of a row, from 0, where it has one.

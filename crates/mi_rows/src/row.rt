@@ -1,6 +1,6 @@
 //! The rows of a table as structs.
 
-ghost use Rattle.std.specs.Prelude.{◌≡◌, ◌+◌, ◌<◌, ◌++◌, ◌∷◌, List, [], true, false, None, Some, option_map, vec_len, IfOk, OnOk};
+ghost use Rattle.std.specs.Prelude.{◌≡◌, ◌+◌, ◌<◌, ◌++◌, ◌∷◌, List, [], true, false, None, Some, option_map, string_bytes, vec_len, IfOk, OnOk};
 ghost use Rattle.std.specs.Cow.{cow_str_bytes};
 ghost use Rattle.std.specs.List.{list_any};
 ghost use Rattle.mi_text.specs.Maps.{Name};
@@ -15,7 +15,7 @@ ghost use Rattle.mi_rows.specs.Rows.{◌or_else◌, cell_fault, row_fault, rows_
 
 use crate::column::{Column, Layout, Rule};
 use crate::error::LoadError;
-use crate::field::{Bad, Field, FieldError, some_text};
+use crate::field::{Bad, Field, FieldError, length, some_text};
 use crate::read::read_kind;
 use crate::rule::{Seen, meets};
 use crate::table_row::{Key, TableRow};
@@ -26,6 +26,7 @@ use mi_cond::Cond;
 use mi_idt::Table;
 use std::alloc::Global;
 use std::collections::HashSet;
+use std::rc::Rc;
 
 /// The error of a value in this row and column, from 1.
 fn error_at(alloc: Global, table: &str, row: u32, column: u32, error: FieldError) -> LoadError
@@ -71,12 +72,12 @@ struct Draft<'a> {
 }
 
 impl<'a> Draft<'a> {
-    /// A row that has begun.
-    fn clear(&mut self)
+    /// Begins the row of this line.
+    fn begin(&mut self, line: &str)
         ensures { self.old.take.failed ≡ false → IsDraft self.new [] }
     {
         self.fields.clear();
-        self.take.condition = None;
+        self.take.begin(line.len());
     }
 
     /// One field more, and the condition that it is, where it is one.
@@ -84,7 +85,7 @@ impl<'a> Draft<'a> {
         requires condition { condition ≡ some_condition_in (field_value field) }
         ensures { OnOk result ((row : Row) → IsDraft self.old row → IsDraft self.new (row ++ field_value field.entry ∷ [])) }
     {
-        self.take.keep(condition);
+        self.take.keep(condition, length(&field));
         self.fields.push(field)?;
         Ok(())
     }
@@ -108,11 +109,12 @@ fn read_row<'a>(
     ensures { (keys : List Name) (before : List Row) → KnowsKeys seen.now.keys keys → IsSeen seen.now before
         → Answers ⊥ (row_fault (table_as layout.now) (number + 1) keys before (raw_row table.now number)) (λ _. IsDraft draft.new (row_of (table_as layout.now).columns (raw_row table.now number))) result }
 {
-    draft.clear();
+    draft.begin(table.rows[number].line);
     for (i, column) in layout.columns.iter().enumerate() {
         let text = table.field(alloc, number, i)?;
         let kind = column.kind;
-        let field = Field { kind, text };
+        let start = draft.take.field;
+        let field = Field { kind, text, start };
         match read_field(alloc, column, &field, seen, draft.fields.as_slice()) {
             Ok(condition) => draft.add(field, condition)?,
             Err(error) => {
@@ -154,21 +156,22 @@ fn asks_keys(columns: &[Column]) -> bool
 }
 
 /// The text in the first column of a row, from 0; empty where it has none.
-fn key_of(alloc: Global, layout: &Layout, table: &Table, number: usize) -> Result<Text, NoMemory>
+fn key_of(alloc: Global, layout: &Layout, table: &Table, number: usize) -> Result<String, NoMemory>
     requires spelled { IsSpelled table.now }
     requires columns { begins_with (table_as layout.now).columns (meaning table.now).columns ≡ true }
     requires in_range { number < vec_len table.now.rows }
-    ensures { IfOk result (λ key. key ≡ text_at (row_of (table_as layout.now).columns (raw_row table.now number)) 0) }
+    ensures { IfOk result (λ key. string_bytes key ≡ text_at (row_of (table_as layout.now).columns (raw_row table.now number)) 0) }
 {
     let [first, ..] = layout.columns else {
-        return Ok(Text::new(alloc));
+        return Ok(String::new(alloc));
     };
     let text = table.field(alloc, number, 0)?;
     let kind = first.kind;
-    let field = Field { kind, text };
+    let start = 0;
+    let field = Field { kind, text, start };
     match some_text(&field) {
-        Some(text) => Text::copy_of(alloc, text),
-        None => Ok(Text::new(alloc)),
+        Some(text) => Ok(String::from_str(alloc, text)?),
+        None => Ok(String::new(alloc)),
     }
 }
 
@@ -184,7 +187,7 @@ fn keys_asked(alloc: Global, layout: &Layout, table: &Table) -> Result<HashSet<S
     let mut keys = HashSet::with_capacity(alloc, table.rows.len())?;
     for number in 0..table.rows.len() {
         let key = key_of(alloc, layout, table, number)?;
-        keys.insert(key.into_string())?;
+        keys.insert(key)?;
     }
     Ok(keys)
 }
@@ -245,10 +248,12 @@ fn fill_rows<'a, K: Key, R: TableRow<K>>(
     Ok(())
 }
 
-/// The rows of a table that has the columns of its layout, by their keys, or the first fault among them.
+/// The rows of a table that has the columns of its layout, by their keys, or the first fault among them. Their texts
+/// are parts of the table's, `whole`, where they stand there.
 pub fn read_rows<K: Key, R: TableRow<K>>(
     alloc: Global,
     layout: &Layout,
+    whole: Rc<String>,
     table: &Table,
 ) -> Result<IndexMap<K, R>, LoadError>
     requires is { table_as layout.now ≡ R.layout }
@@ -266,7 +271,7 @@ pub fn read_rows<K: Key, R: TableRow<K>>(
     let mut seen = Seen::new(alloc, keys);
     let mut draft = Draft {
         fields: Vec::new(alloc),
-        take: Take::new(alloc),
+        take: Take::new(alloc, whole),
     };
     let filled = fill_rows(alloc, layout, table, &mut seen, &mut draft, &mut rows);
     drop(draft);

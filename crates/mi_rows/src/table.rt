@@ -17,7 +17,9 @@ use crate::table_row::{Key, TableRow};
 use indexmap::IndexMap;
 use mi_base::{Fault, IdtFault, Text};
 use mi_idt::{Column as Spelled, IdtError, Table, read_table};
+use mi_text::Bytes;
 use std::alloc::Global;
+use std::rc::Rc;
 
 /// Whether the letter of a definition is of the class of a kind.
 fn is_of_class(kind: Kind, letter: u8) -> bool
@@ -85,10 +87,12 @@ pub fn misspelled(alloc: Global, table: &str, why: IdtFault) -> LoadError
     }
 }
 
-/// Reads the rows of a known table that its bytes spell into a map, or refuses with its first fault.
+/// Reads the rows of a known table that its bytes spell into a map, or refuses with its first fault. Texts of the rows
+/// that stand in `whole` where the rows do are parts of it.
 fn read_spelled<K: Key, R: TableRow<K>>(
     alloc: Global,
     layout: &Layout,
+    whole: &Rc<String>,
     table: &Table,
     rows: &mut IndexMap<K, R>,
 ) -> Checked
@@ -101,14 +105,16 @@ fn read_spelled<K: Key, R: TableRow<K>>(
         let name = Text::copy_of(alloc, layout.name)?;
         return Err(LoadError::Table(Fault::Columns(name)));
     }
-    *rows = read_rows(alloc, layout, table)?;
+    *rows = read_rows(alloc, layout, whole.clone()?, table)?;
     Ok(())
 }
 
-/// Reads the rows of a known table in these bytes into a map, or refuses with its first fault.
-pub fn read_bytes<K: Key, R: TableRow<K>>(
+/// Reads the rows of a known table in these bytes, of which `whole` is the text, into a map, or refuses with its first
+/// fault.
+fn read_bytes<K: Key, R: TableRow<K>>(
     alloc: Global,
     layout: &Layout,
+    whole: &Rc<String>,
     bytes: &[u8],
     rows: &mut IndexMap<K, R>,
 ) -> Checked
@@ -117,9 +123,34 @@ pub fn read_bytes<K: Key, R: TableRow<K>>(
     ensures { Answers ⊥ (table_fault (table_as layout.now) (Some bytes.now)) (λ _. rows.new.entries ≡ keyed K.key R.value (table_rows (table_as layout.now) (Some bytes.now))) result }
 {
     match read_table(alloc, bytes) {
-        Ok(table) => read_spelled(alloc, layout, &table, rows),
+        Ok(table) => read_spelled(alloc, layout, whole, &table, rows),
         Err(IdtError::NoMemory) => Err(LoadError::NoMemory),
         Err(IdtError::Fault(fault)) => Err(misspelled(alloc, layout.name, fault)),
+    }
+}
+
+/// Reads the rows of a known table in these bytes into a map, which keeps the bytes for the texts of the rows, or refuses
+/// with its first fault. Bytes that aren't text spell no table, so nothing is kept of them.
+pub fn read_shared<K: Key, R: TableRow<K>>(
+    alloc: Global,
+    layout: &Layout,
+    bytes: Bytes,
+    rows: &mut IndexMap<K, R>,
+) -> Checked
+    requires is { table_as layout.now ≡ R.layout }
+    requires apart { KeysTell K.eq K.key R.layout.columns }
+    ensures { Answers ⊥ (table_fault (table_as layout.now) (Some bytes)) (λ _. rows.new.entries ≡ keyed K.key R.value (table_rows (table_as layout.now) (Some bytes))) result }
+{
+    match String::from_utf8(bytes.into_vec()) {
+        Ok(mut text) => {
+            text.shrink_to_fit();
+            let whole = Rc::new(alloc, text)?;
+            read_bytes(alloc, layout, &whole, whole.as_bytes(), rows)
+        }
+        Err(error) => {
+            let none = Rc::new(alloc, String::new(alloc))?;
+            read_bytes(alloc, layout, &none, error.as_bytes(), rows)
+        }
     }
 }
 

@@ -5,16 +5,37 @@ ghost use Rattle.mi_rows.specs.Fields.{values_of, Takes};
 ghost use Rattle.mi_rows.specs.Rows.{◌or_else◌};
 ghost use Rattle.mi_rows.specs.Values.{cell_at, text_in, text_at};
 
-use crate::field::{Field, some_text_at, text_at};
+use crate::field::{Field, some_text_at, start_at, text_at};
 use mi_base::Text;
 use mi_cond::Cond;
 use std::alloc::Global;
+use std::rc::Rc;
 
-/// Makes values of the fields of a row. Where memory runs out it gives empty texts from then on, and keeps that it did,
-/// so that a struct is made of it without a way out.
+/// Where the fourth line begins, in bytes: that of the first row (Importing and exporting tables).
+fn fourth_line(bytes: &[u8]) -> usize {
+    let mut before = 3usize;
+    for (i, byte) in bytes.iter().enumerate() {
+        if *byte == b'\n' {
+            before = before.saturating_sub(1);
+            if before == 0 {
+                return i + 1;
+            }
+        }
+    }
+    bytes.len()
+}
+
+/// Makes values of the fields of a row. A text is a part of that of the table, where it stands there. Where memory runs
+/// out it gives empty texts from then on, and keeps that it did, so that a struct is made of it without a way out.
 #[derive(Drop)]
 pub struct Take {
     alloc: Global,
+    /// The text of the table.
+    whole: Rc<String>,
+    /// Where the line of the next row begins in it, in bytes.
+    line: usize,
+    /// Where the next field of the row begins in it, in bytes.
+    pub field: usize,
     /// The condition of the row, until it is taken.
     pub condition: Option<Cond>,
     /// Whether memory ran out.
@@ -22,23 +43,40 @@ pub struct Take {
 }
 
 impl Take {
-    /// Without a condition.
-    pub fn new(alloc: Global) -> Take
+    /// Before the first row of a table of this text.
+    pub fn new(alloc: Global, whole: Rc<String>) -> Take
         ensures condition { result.condition ≡ None }
         ensures failed { result.failed ≡ false }
     {
+        let line = fourth_line(whole.as_bytes());
         Take {
             alloc,
+            whole,
+            line,
+            field: 0,
             condition: None,
             failed: false,
         }
     }
 
-    /// Keeps a condition, where there is one.
-    pub fn keep(&mut self, condition: Option<Cond>)
+    /// Begins a row, whose line has this length, without a condition.
+    pub fn begin(&mut self, length: usize)
+        ensures condition { self.new.condition ≡ None }
+        ensures failed { self.new.failed ≡ self.old.failed }
+    {
+        self.field = self.line;
+        let end = self.line.saturating_add(length);
+        let returns = self.whole.as_bytes().get(end) == Some(&b'\r');
+        self.line = end.saturating_add(1 + usize::from(returns));
+        self.condition = None;
+    }
+
+    /// Passes a field of this length, and keeps the condition that it is, where it is one.
+    pub fn keep(&mut self, condition: Option<Cond>, length: usize)
         ensures condition { self.new.condition ≡ (condition or_else self.old.condition) }
         ensures failed { self.new.failed ≡ self.old.failed }
     {
+        self.field = self.field.saturating_add(length).saturating_add(1);
         match condition {
             Some(condition) => self.condition = Some(condition),
             None => (),
@@ -50,7 +88,8 @@ impl Take {
         ensures text { Takes self.old.failed self.new.failed (result ≡ text_at (values_of row.now) column) }
         ensures condition { self.new.condition ≡ self.old.condition }
     {
-        match Text::copy_of(self.alloc, text_at(row, column)) {
+        let start = start_at(row, column);
+        match Text::part_of(self.alloc, &self.whole, start, text_at(row, column)) {
             Ok(text) => text,
             Err(_) => {
                 self.failed = true;

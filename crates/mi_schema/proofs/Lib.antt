@@ -6,7 +6,6 @@ pub mod ComponentLemmas
 pub mod ConditionFaults
 pub mod Dangling
 pub mod FolderLemmas
-pub mod KeyLemmas
 pub mod KnownTables
 pub mod LawfulLaws
 pub mod LoadLemmas

@@ -13,7 +13,7 @@ ghost use Rattle.mi_source.specs.Paths.{bytes_or_none};
 
 use indexmap::IndexMap;
 use mi_base::{IdtFault, NoMemory, Text};
-use mi_rows::{Checked, Key, Layout, LoadError, TableRow, misspelled, read_bytes, refuse_bytes};
+use mi_rows::{Checked, Key, Layout, LoadError, TableRow, misspelled, read_shared, refuse_bytes};
 use mi_source::{Failed, PIECE, Source, SrcFault};
 use mi_text::Bytes;
 use std::alloc::Global;
@@ -101,7 +101,7 @@ pub fn load_table<K: Key, R: TableRow<K>, S: Source>(
     ensures counts { S.faults src.old ≤ S.faults src.new }
 {
     match bytes_of(alloc, src, folder, layout.name)? {
-        Some(bytes) => read_bytes(alloc, layout, bytes.as_slice(), rows),
+        Some(bytes) => read_shared(alloc, layout, bytes, rows),
         None => {
             *rows = IndexMap::new(alloc);
             Ok(())

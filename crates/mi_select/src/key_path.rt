@@ -63,7 +63,8 @@ fn value_text(alloc: Global, place: &RegistryPlace) -> Result<Text, NoMemory>
     let key = place.key();
     let name = place.name();
     let text = format!(in alloc; "0{root}:{key}\\{name}")?;
-    Ok(Text::from_string(text))
+    let shown = Text::from_string(alloc, text)?;
+    Ok(shown)
 }
 
 fn is_file_there(former: &Image, path: &PathText) -> bool

@@ -3,6 +3,7 @@ pub mod FileNames
 pub mod Fold
 pub mod Folded
 pub mod Guid
+pub mod Held
 pub mod Lookups
 pub mod Maps
 pub mod Next

@@ -200,7 +200,7 @@ fn joined_parts(alloc: Global, parts: &[&str]) -> Result<Text, NoMemory>
 {
     let mut path = String::from_str(alloc, "C:\\")?;
     match push_parts(&mut path, parts) {
-        Ok(()) => Ok(Text::from_string(path)),
+        Ok(()) => Text::from_string(alloc, path),
         Err(error) => {
             drop(path);
             Err(error)
@@ -253,7 +253,7 @@ fn joined(alloc: Global, folder: &str, part: &str, end: &str) -> Result<Text, No
     let mut path = String::from_str(alloc, folder)?;
     path.push_str(part)?;
     path.push_str(end)?;
-    Ok(Text::from_string(path))
+    Text::from_string(alloc, path)
 }
 
 impl PathText {

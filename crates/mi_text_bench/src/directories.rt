@@ -12,7 +12,7 @@ use std::time::Instant;
 
 // The key of a row.
 fn key(alloc: Global, row: usize) -> Result<Text, NoMemory> {
-    Ok(Text::from_string(format!(in alloc; "Directory{row}")?))
+    Text::from_string(alloc, format!(in alloc; "Directory{row}")?)
 }
 
 // The key of a row's parent: of the row before it, or of the first one; none of the first.
@@ -30,12 +30,12 @@ fn parent(alloc: Global, shape: Shape, row: usize) -> Result<Option<Text>, NoMem
 fn target(alloc: Global, shape: Shape, row: usize) -> Result<Text, NoMemory> {
     match shape {
         Shape::Chain => Text::copy_of(alloc, "."),
-        Shape::Wide => Ok(Text::from_string(format!(in alloc; "Folder{row}")?)),
+        Shape::Wide => Text::from_string(alloc, format!(in alloc; "Folder{row}")?),
     }
 }
 
 fn source(alloc: Global, row: usize) -> Result<Text, NoMemory> {
-    Ok(Text::from_string(format!(in alloc; "source{row}")?))
+    Text::from_string(alloc, format!(in alloc; "source{row}")?)
 }
 
 fn row(alloc: Global, shape: Shape, row: usize) -> Result<DirRow, NoMemory> {

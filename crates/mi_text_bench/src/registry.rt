@@ -29,7 +29,7 @@ fn old_list(alloc: Global, items: usize) -> Result<RegValue, NoMemory> {
     let mut list = Texts::new(alloc);
     for item in 0..items {
         let text = format!(in alloc; "Old item {item}")?;
-        list.push(Text::from_string(text))?;
+        list.push(Text::from_string(alloc, text)?)?;
     }
     Ok(RegValue::List(list))
 }

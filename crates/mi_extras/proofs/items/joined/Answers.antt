@@ -8,4 +8,4 @@ use Rattle.mi_extras.proofs.items.joined.Goals as goal
 pub returns : goal.returns
 returns c =
     let items = c.args.items.now in
-    some_left (map (λ (i : Bor (List ℕ)). i.now) items) c.from_string.result (ap (λ n. n == 0) (length-map items (λ (i : Bor (List ℕ)). i.now)) ∙ sym c.is_empty.ensures ∙ c.if-is_empty.false) (c.from_string.ensures ∙ c.in_ok-text.ensures.ok ∙ joined_items items)
+    some_left (map (λ (i : Bor (List ℕ)). i.now) items) c.in_ok-joined.joined (ap (λ n. n == 0) (length-map items (λ (i : Bor (List ℕ)). i.now)) ∙ sym c.is_empty.ensures ∙ c.if-is_empty.false) (c.in_ok-joined.ensures ∙ c.in_ok-text.ensures.ok ∙ joined_items items)

@@ -1,4 +1,4 @@
-use Rattle.std.proofs.Common.{◌≡◌, ◌∙◌, ℕ, List, [], map, refl, sym, ap, subst, arith, IfOk}
+use Rattle.std.proofs.Common.{◌∙◌, [], map, refl, sym, ap, arith}
 use Rattle.std.specs.Prelude.{unwrap_or}
 use Rattle.std.proofs.lemmas.List.{length-map}
 use Rattle.mi_rows.specs.Columns.{column_as}
@@ -15,10 +15,10 @@ pub returns-in-Some : goal.returns-in-Some
 returns-in-Some c =
     let listed = c.args.layout.now.columns.now in
     let fit = row_fits (map column_as listed) c.args.table.now c.requires.spelled c.requires.columns c.args.number (omega (arith, c.requires.in_range, c.args.table.now.rows.ok)) in
-    subst (λ (text : List ℕ). IfOk c.copy_of.result (λ key. key ≡ text)) (ap (λ o. unwrap_or o []) c.in-Some.ensures ∙ sym (key_field listed _ _ _ c.in-len1-up.len_at_least fit refl c.in_ok-text.ensures.cell)) c.copy_of.ensures
+    c.in_ok-from_str-in-Some.ensures.ok ∙ ap (λ o. unwrap_or o []) c.in-Some.ensures ∙ sym (key_field listed _ _ (record { kind = _; text = c.in_ok-text.text; start = 0 }) c.in-len1-up.len_at_least fit refl c.in_ok-text.ensures.cell)
 
 pub returns : goal.returns
 returns c =
     let listed = c.args.layout.now.columns.now in
     let fit = row_fits (map column_as listed) c.args.table.now c.requires.spelled c.requires.columns c.args.number (omega (arith, c.requires.in_range, c.args.table.now.rows.ok)) in
-    c.new-in-None.ensures ∙ ap (λ o. unwrap_or o []) c.in-None.ensures ∙ sym (key_field listed _ _ _ c.in-len1-up.len_at_least fit refl c.in_ok-text.ensures.cell)
+    c.new-in-None.ensures.bytes ∙ ap (λ o. unwrap_or o []) c.in-None.ensures ∙ sym (key_field listed _ _ (record { kind = _; text = c.in_ok-text.text; start = 0 }) c.in-len1-up.len_at_least fit refl c.in_ok-text.ensures.cell)

@@ -22,9 +22,8 @@ loop-number-preserved c =
     let long = rows_long c.args.table.now in
     let lt : number < length rows = omega (arith, long, c.loop-number-test.true, c.len-number-end.ensures, c.args.table.now.rows.ok) in
     let names : List Name = keys_of (map (row_of cols) (take number rows)) in
-    let key : string_bytes c.into_string.result ≡ c.in_ok-key.key = c.into_string.ensures in
-    let next : names ++ string_bytes c.into_string.result ∷ [] ≡ keys_of (map (row_of cols) (take (number + 1) rows)) = ap (λ (k : Name). names ++ k ∷ []) (key ∙ c.in_ok-key.ensures) ∙ keys_next cols rows number lt in
-    subst (KnowsKeys c.insert.new.self) next (knows_more c.loop-number.keys c.insert.new.self names (string_bytes c.into_string.result) c.loop-number.invariant c.in_ok-insert.ensures.updates)
+    let next : names ++ string_bytes c.in_ok-key.key ∷ [] ≡ keys_of (map (row_of cols) (take (number + 1) rows)) = ap (λ (k : Name). names ++ k ∷ []) c.in_ok-key.ensures ∙ keys_next cols rows number lt in
+    subst (KnowsKeys c.insert.new.self) next (knows_more c.loop-number.keys c.insert.new.self names (string_bytes c.in_ok-key.key) c.loop-number.invariant c.in_ok-insert.ensures.updates)
 
 pub returns : goal.returns
 returns c =

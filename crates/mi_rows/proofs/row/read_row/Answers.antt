@@ -34,7 +34,7 @@ overflow_add-i c =
 
 pub loop-i-init : goal.loop-i-init
 loop-i-init c =
-    let begun = c.clear.ensures c.requires.memory in
+    let begun = c.begin.ensures c.requires.memory in
     record {
       reading = λ keys before knows seen. subst (λ (row : Row). IsReading c.args.layout.now.name.now (c.args.number + 1) keys before (map column_as c.args.layout.now.columns.now) (raw_row c.args.table.now c.args.number) 0 row) (sym begun.values) (record { value = refl; fault = refl });
       condition = begun.condition ∙ ap last_condition (sym begun.values);
@@ -68,7 +68,7 @@ loop-i-preserved c =
       reading = λ keys before knows seen.
           reads_more listed cells c.loop-i.i row _ c.loop-i-test.true fit.1 c.args.layout.now.name.now (c.args.number + 1) keys before (c.loop-i.invariant.reading keys before knows seen)
           (values_of c.as_slice.result.now) (values_of c.add.new.self.fields.items) _ (ap values_of c.as_slice.ensures.value) more.values
-          ((c.in-Ok.ensures _ c.in_ok-text.ensures.cell fit.0 keys before knows seen).0, value_shown _ _ c.in_ok-text.ensures.cell fit.0);
+          ((c.in-Ok.ensures _ c.in_ok-text.ensures.cell fit.0 keys before knows seen).0, value_shown (record { kind = _; text = c.in_ok-text.text; start = c.loop-i.draft.take.field }) _ c.in_ok-text.ensures.cell fit.0);
       condition = more.condition ∙ ap last_condition (sym more.values);
       memory = more.memory;
     }

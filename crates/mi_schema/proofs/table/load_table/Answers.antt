@@ -1,4 +1,4 @@
-use Rattle.std.proofs.Common.{◌≡◌, List, ℕ, Some, OnOk, IfErr, sym, ap, subst, ◌∙◌}
+use Rattle.std.proofs.Common.{◌≡◌, Some, OnOk, IfErr, sym, subst, ◌∙◌}
 use Rattle.std.proofs.lemmas.Result.{err_from_is_err_and}
 use Rattle.mi_source.specs.Counts.{Rose}
 use Rattle.mi_rows.specs.Reads.{Fails}
@@ -22,13 +22,13 @@ returns-in_err-bytes-clause-fault g c = λ told.
 pub returns-in-Some-clause-read : goal.returns-in-Some-clause-read
 returns-in-Some-clause-read g c =
     let layout = c.args.layout.now in
-    subst (λ (t : Table). OnOk c.read_bytes.result (AreRead g.K.Key.key g.R.TableRow.value g.S.Source.told (content_of (g.S.Source.files c.args.src.now) c.args.folder.now t.name) t c.read_bytes.new.rows.entries)) c.requires.is
-    (read_here g.K.Key.key g.R.TableRow.value c.read_bytes.new.rows.entries g.S.Source.told (content_of (g.S.Source.files c.args.src.now) c.args.folder.now layout.name.now) (table_as layout) (Some c.as_slice.result.now) c.read_bytes.result
-    (λ told. ap (λ (b : List ℕ). Some b) c.as_slice.ensures ∙ sym c.in-Some.is ∙ c.in_ok-bytes.ensures.value told) c.read_bytes.ensures)
+    subst (λ (t : Table). OnOk c.read_shared.result (AreRead g.K.Key.key g.R.TableRow.value g.S.Source.told (content_of (g.S.Source.files c.args.src.now) c.args.folder.now t.name) t c.read_shared.new.rows.entries)) c.requires.is
+    (read_here g.K.Key.key g.R.TableRow.value c.read_shared.new.rows.entries g.S.Source.told (content_of (g.S.Source.files c.args.src.now) c.args.folder.now layout.name.now) (table_as layout) (Some c.in-Some.bytes) c.read_shared.result
+    (λ told. sym c.in-Some.is ∙ c.in_ok-bytes.ensures.value told) c.read_shared.ensures)
 
 pub returns-in-Some-clause-fault : goal.returns-in-Some-clause-fault
 returns-in-Some-clause-fault g c = λ told.
     let layout = c.args.layout.now in
-    subst (λ (t : Table). IfErr c.read_bytes.result (Fails (Rose (g.S.Source.faults c.args.src.now) (g.S.Source.faults c.bytes_of.new.src)) (table_fault t (content_of (g.S.Source.files c.args.src.now) c.args.folder.now t.name)))) c.requires.is
-    (fault_read (λ _. c.read_bytes.new.rows.entries ≡ keyed g.K.Key.key g.R.TableRow.value (table_rows (table_as layout) (Some c.as_slice.result.now))) _ g.S.Source.told (content_of (g.S.Source.files c.args.src.now) c.args.folder.now layout.name.now) (table_as layout) (Some c.as_slice.result.now) c.read_bytes.result
-    (λ told. ap (λ (b : List ℕ). Some b) c.as_slice.ensures ∙ sym c.in-Some.is ∙ c.in_ok-bytes.ensures.value told) c.read_bytes.ensures told)
+    subst (λ (t : Table). IfErr c.read_shared.result (Fails (Rose (g.S.Source.faults c.args.src.now) (g.S.Source.faults c.bytes_of.new.src)) (table_fault t (content_of (g.S.Source.files c.args.src.now) c.args.folder.now t.name)))) c.requires.is
+    (fault_read (λ _. c.read_shared.new.rows.entries ≡ keyed g.K.Key.key g.R.TableRow.value (table_rows (table_as layout) (Some c.in-Some.bytes))) _ g.S.Source.told (content_of (g.S.Source.files c.args.src.now) c.args.folder.now layout.name.now) (table_as layout) (Some c.in-Some.bytes) c.read_shared.result
+    (λ told. sym c.in-Some.is ∙ c.in_ok-bytes.ensures.value told) c.read_shared.ensures told)
