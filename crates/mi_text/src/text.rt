@@ -142,6 +142,7 @@ impl Text {
         Ok(Text { alloc, held })
     }
 
+    /// The text as a string slice.
     #[tactic(auto, unfolding(crate::specs::Held::bytes_held, crate::specs::Held::IsHeld))]
     pub fn as_str(&self) -> &str
         ensures { result.now ≡ self.now }
@@ -157,6 +158,7 @@ impl Text {
         }
     }
 
+    /// The text as bytes, which are UTF-8.
     pub fn as_bytes(&self) -> &[u8]
         ensures bytes { result.now ≡ self.now }
         ensures utf8 { IsUtf8 self.now }
@@ -164,12 +166,14 @@ impl Text {
         self.as_str().as_bytes()
     }
 
+    /// The number of bytes.
     pub fn len(&self) -> usize
         ensures { result ≡ length self.now }
     {
         self.as_str().len()
     }
 
+    /// Whether there are no bytes.
     pub fn is_empty(&self) -> bool
         ensures { result ≡ (length self.now == 0) }
     {
