@@ -11,10 +11,12 @@ ghost use Rattle.mi_cond.specs.Answer.{Answers};
 
 use crate::error::CondError;
 use crate::node::Node;
+use crate::origin::Origin;
 use crate::read::read_node;
 use mi_text::Env;
 use std::alloc::Global;
 use std::marker::Model;
+use std::rc::Rc;
 
 /// A condition (Conditional Statement Syntax), seen as its tree. At most `limit` nodes stand in one another, five for each
 /// level of nesting, however long the text was: its value and its drop go from a node to those in it.
@@ -52,8 +54,33 @@ impl Cond {
         // The same as one function of the text.
         ensures answer { Answers result text.now }
     {
-        match read_node(alloc, text.as_bytes()) {
-            Ok(node) => Cond::of(alloc, node),
+        Cond::read_at(Origin::nowhere(alloc), text)
+    }
+
+    /// The same of a text that stands in a string from a place on, in bytes. The names in the condition are parts of that
+    /// string, where they stand there.
+    pub fn read_part(
+        alloc: Global,
+        whole: &Rc<String>,
+        start: usize,
+        text: &str,
+    ) -> Result<Cond, CondError>
+        ensures reads { IfOk result (λ c. Reads 64 text.now c) }
+        ensures only { IfOk result (λ c. (n : ℕ) (t : Tree) → Reads n text.now t → t ≡ c) }
+        ensures fault { IfErr result (λ e. IsCause e text.now) }
+        ensures answer { Answers result text.now }
+    {
+        Cond::read_at(Origin::part(alloc, whole, start), text)
+    }
+
+    fn read_at(origin: Origin<'_>, text: &str) -> Result<Cond, CondError>
+        ensures reads { IfOk result (λ c. Reads 64 text.now c) }
+        ensures only { IfOk result (λ c. (n : ℕ) (t : Tree) → Reads n text.now t → t ≡ c) }
+        ensures fault { IfErr result (λ e. IsCause e text.now) }
+        ensures answer { Answers result text.now }
+    {
+        match read_node(origin, text.as_bytes()) {
+            Ok(node) => Cond::of(origin.alloc, node),
             Err(error) => Err(error),
         }
     }

@@ -8,13 +8,13 @@ ghost use Rattle.mi_cond.specs.Moves.{Grows, begin, begin_name, relation_by, rel
 ghost use Rattle.mi_cond.specs.Fronts.{front_length, is_plain, begun, IsNamed, digits_front, Follows, IsAt, WantsValue, WantsOperator, ComparesValue, BehindValue, Stands};
 
 use crate::node::{Comparison, Relation, Value};
+use crate::origin::Origin;
 use crate::token::{
     Mark, Token, begins_operator, is_blank, is_digit, is_letter, is_name_byte, marked_by, named,
     relation_by, relation_with, word,
 };
 use memchr::memchr;
 use mi_text::{Bytes, NoMemory};
-use std::alloc::Global;
 
 /// What stands at the front of a text, behind a part of a condition.
 #[derive(Drop)]
@@ -94,17 +94,17 @@ fn name_length(text: &[u8]) -> usize
 }
 
 // A keyword or a property, where a value may stand.
-fn word_at(alloc: Global, rest: &[u8]) -> Result<Front, NoMemory>
+fn word_at(origin: Origin<'_>, rest: &[u8]) -> Result<Front, NoMemory>
     requires { 0 < front_length is_name_byte rest.now }
     ensures { IfOk result (λ f. Follows 1 (InWord (take 1 rest.now)) WantsValue rest.now f) }
 {
     let n = name_length(rest);
-    let token = word(alloc, &rest[..n])?;
+    let token = word(origin, &rest[..n])?;
     Ok(Front::Token(token, n))
 }
 
 // An operator between conditions, where no value may stand.
-fn operator_at(alloc: Global, rest: &[u8]) -> Result<Front, NoMemory>
+fn operator_at(origin: Origin<'_>, rest: &[u8]) -> Result<Front, NoMemory>
     requires begins { 0 < front_length is_name_byte rest.now }
     requires stands { begins_operator all_ops (folded (take 1 rest.now)) ≡ true }
     ensures { IfOk result (λ f. Follows 1 (InWord (take 1 rest.now)) WantsOperator rest.now f) }
@@ -115,12 +115,12 @@ fn operator_at(alloc: Global, rest: &[u8]) -> Result<Front, NoMemory>
             return Ok(Front::Dead(i));
         }
     }
-    let token = word(alloc, &rest[..n])?;
+    let token = word(origin, &rest[..n])?;
     Ok(Front::Token(token, n))
 }
 
 // A mark and its name.
-fn symbol_at(alloc: Global, mark: Mark, rest: &[u8]) -> Result<Front, NoMemory>
+fn symbol_at(origin: Origin<'_>, mark: Mark, rest: &[u8]) -> Result<Front, NoMemory>
     requires { 0 < length rest.now }
     ensures { IfOk result (λ f. Follows 1 (InSymbol mark []) WantsValue rest.now f) }
 {
@@ -129,19 +129,19 @@ fn symbol_at(alloc: Global, mark: Mark, rest: &[u8]) -> Result<Front, NoMemory>
     if n == 0 {
         return Ok(Front::Dead(1));
     }
-    let value = named(alloc, mark, &name[..n])?;
+    let value = named(origin.behind(1), mark, &name[..n])?;
     Ok(Front::Token(Token::Operand(value), n + 1))
 }
 
 // What stands between two `"`.
-fn literal_at(alloc: Global, rest: &[u8]) -> Result<Front, NoMemory>
+fn literal_at(origin: Origin<'_>, rest: &[u8]) -> Result<Front, NoMemory>
     requires { 0 < length rest.now }
     ensures { IfOk result (λ f. Follows 1 (InLiteral []) WantsValue rest.now f) }
 {
     let text = &rest[1..];
     match memchr(b'"', text) {
         Some(n) => {
-            let literal = Bytes::copy_of(alloc, &text[..n])?;
+            let literal = Bytes::copy_of(origin.alloc, &text[..n])?;
             Ok(Front::Token(Token::Operand(Value::Literal(literal)), n + 2))
         }
         None => Ok(Front::Dead(rest.len())),
@@ -239,30 +239,30 @@ fn tilde_at(rest: &[u8]) -> Front
 }
 
 // What stands at the front where a value may stand.
-fn value_at(alloc: Global, rest: &[u8]) -> Result<Front, NoMemory>
+fn value_at(origin: Origin<'_>, rest: &[u8]) -> Result<Front, NoMemory>
     requires some { 0 < length rest.now }
     requires plain { is_plain (slice_index rest.now 0) ≡ true }
     ensures { IfOk result (λ f. IsAt WantsValue rest.now f) }
 {
     match begun_by(rest[0]) {
-        Begun::Quote => literal_at(alloc, rest),
+        Begun::Quote => literal_at(origin, rest),
         Begun::Minus => Ok(negative_at(rest)),
         Begun::Digit => Ok(digits_at(false, rest, 0)),
-        Begun::Letter => word_at(alloc, rest),
-        Begun::Symbol(mark) => symbol_at(alloc, mark, rest),
+        Begun::Letter => word_at(origin, rest),
+        Begun::Symbol(mark) => symbol_at(origin, mark, rest),
         Begun::Tilde => Ok(Front::Refused),
         Begun::Comparison(_) => Ok(Front::Refused),
         Begun::Nothing => Ok(Front::Refused),
     }
 }
 
-fn operator_behind(alloc: Global, rest: &[u8]) -> Result<Front, NoMemory>
+fn operator_behind(origin: Origin<'_>, rest: &[u8]) -> Result<Front, NoMemory>
     requires some { 0 < length rest.now }
     requires letter { is_letter (slice_index rest.now 0) ≡ true }
     ensures { IfOk result (λ f. IsAt WantsOperator rest.now f) }
 {
     if begins_operator(&rest[..1]) {
-        operator_at(alloc, rest)
+        operator_at(origin, rest)
     } else {
         Ok(Front::Refused)
     }
@@ -289,13 +289,13 @@ fn comparison_behind(has: bool, relation: Relation, rest: &[u8]) -> Front
 }
 
 // What stands at the front where no value may stand.
-fn behind_value(alloc: Global, has: bool, rest: &[u8]) -> Result<Front, NoMemory>
+fn behind_value(origin: Origin<'_>, has: bool, rest: &[u8]) -> Result<Front, NoMemory>
     requires some { 0 < length rest.now }
     requires plain { is_plain (slice_index rest.now 0) ≡ true }
     ensures { IfOk result (λ f. IsAt (BehindValue has) rest.now f) }
 {
     match begun_by(rest[0]) {
-        Begun::Letter => operator_behind(alloc, rest),
+        Begun::Letter => operator_behind(origin, rest),
         Begun::Tilde => Ok(tilde_behind(has, rest)),
         Begun::Comparison(relation) => Ok(comparison_behind(has, relation, rest)),
         Begun::Quote => Ok(Front::Refused),
@@ -308,7 +308,7 @@ fn behind_value(alloc: Global, has: bool, rest: &[u8]) -> Result<Front, NoMemory
 
 /// What stands at the front of a text, where `wants` says whether a value may stand there, and `has` whether an
 /// operator of comparison may.
-pub fn front_of(alloc: Global, wants: bool, has: bool, rest: &[u8]) -> Result<Front, NoMemory>
+pub fn front_of(origin: Origin<'_>, wants: bool, has: bool, rest: &[u8]) -> Result<Front, NoMemory>
     requires { 0 < length rest.now }
     ensures { IfOk result (λ f. IsAt (Stands wants has) rest.now f) }
 {
@@ -323,8 +323,8 @@ pub fn front_of(alloc: Global, wants: bool, has: bool, rest: &[u8]) -> Result<Fr
         return Ok(Front::Bracket(Token::Close));
     }
     if wants {
-        value_at(alloc, rest)
+        value_at(origin, rest)
     } else {
-        behind_value(alloc, has, rest)
+        behind_value(origin, has, rest)
     }
 }

@@ -9,6 +9,7 @@ mod error;
 mod evaluate;
 mod front;
 mod node;
+mod origin;
 mod read;
 mod reader;
 mod token;

@@ -11,9 +11,9 @@ ghost use Rattle.mi_cond.specs.Texts.{AnswersNode};
 use crate::error::{CondError, CondFault, TokenError};
 use crate::front::{Front, front_of};
 use crate::node::Node;
+use crate::origin::Origin;
 use crate::reader::Reader;
 use crate::token::Token;
-use std::alloc::Global;
 
 // How deep brackets and NOT may nest.
 const DEEPEST: u64 = 64;
@@ -75,15 +75,19 @@ fn read_blank(reader: &Reader, at: usize) -> Result<usize, CondError>
 }
 
 // Reads what stands at a place of a text, and gives the next place.
-fn read_front(reader: &mut Reader, text: &[u8], at: usize) -> Result<usize, CondError>
+fn read_front(
+    reader: &mut Reader,
+    origin: Origin<'_>,
+    text: &[u8],
+    at: usize,
+) -> Result<usize, CondError>
     requires within { at < length text.now }
     requires deep { depth_at (state_of reader.old) ≤ 65 }
     ensures { ReadsOn text.now at (state_of reader.old) (state_of reader.new) result }
 {
-    let alloc = reader.alloc();
     let wants = reader.wants_value();
     let has = reader.has_value();
-    let found = front_of(alloc, wants, has, &text[at..])?;
+    let found = front_of(origin.behind(at), wants, has, &text[at..])?;
     match found {
         Front::Blank => read_blank(reader, at),
         Front::Bracket(bracket) => read_bracket(reader, bracket, at),
@@ -93,14 +97,14 @@ fn read_front(reader: &mut Reader, text: &[u8], at: usize) -> Result<usize, Cond
     }
 }
 
-fn read_all(reader: &mut Reader, text: &[u8]) -> Result<Node, CondError>
+fn read_all(reader: &mut Reader, origin: Origin<'_>, text: &[u8]) -> Result<Node, CondError>
     requires { state_of reader.old ≡ Wants [] fresh }
     ensures answer { AnswersNode result text.now }
     ensures low { IfOk result (λ n. height n ≤ limit) }
 {
     let mut at = 0;
     while at < text.len() {
-        match read_front(reader, text, at) {
+        match read_front(reader, origin, text, at) {
             Ok(next) => at = next,
             Err(error) => return Err(error),
         }
@@ -113,12 +117,12 @@ fn read_all(reader: &mut Reader, text: &[u8]) -> Result<Node, CondError>
 }
 
 /// The node of a condition.
-pub fn read_node(alloc: Global, text: &[u8]) -> Result<Node, CondError>
+pub fn read_node(origin: Origin<'_>, text: &[u8]) -> Result<Node, CondError>
     ensures answer { AnswersNode result text.now }
     ensures low { IfOk result (λ n. height n ≤ limit) }
 {
-    let mut reader = Reader::new(alloc);
-    let answer = read_all(&mut reader, text);
+    let mut reader = Reader::new(origin.alloc);
+    let answer = read_all(&mut reader, origin, text);
     drop(reader);
     answer
 }

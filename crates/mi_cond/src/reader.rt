@@ -72,10 +72,6 @@ impl Reader {
         }
     }
 
-    pub const fn alloc(&self) -> Global {
-        self.alloc
-    }
-
     /// How deep brackets and NOT nest here.
     #[tactic(auto, using(crate::proofs::Depths::depths))]
     pub fn depth(&self) -> u64

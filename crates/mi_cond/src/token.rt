@@ -8,8 +8,8 @@ ghost use Rattle.mi_cond.specs.Lex.{is_blank, is_letter, is_name_byte, are_name_
 ghost use Rattle.mi_cond.specs.Moves.{marked_by, relation_by, relation_with, begins_with, begins_operator, word, named};
 
 use crate::node::{Comparison, Operator, Relation, Value};
+use crate::origin::Origin;
 use mi_text::{NoMemory, Sign, Text};
-use std::alloc::Global;
 
 /// A token: a bracket, a keyword, an operator of comparison, or a value.
 #[derive(Drop)]
@@ -156,18 +156,18 @@ pub fn is_keyword(name: &[u8]) -> bool
 }
 
 // A name as a text.
-fn text_of(alloc: Global, name: &[u8]) -> Result<Text, NoMemory>
+fn text_of(origin: Origin<'_>, name: &[u8]) -> Result<Text, NoMemory>
     requires { are_name_bytes name.now ≡ true }
     ensures { IfOk result (λ t. t ≡ name.now) }
 {
     match str::from_utf8(name) {
-        Ok(text) => Text::copy_of(alloc, text),
+        Ok(text) => origin.text(text),
         Err(_) => unreachable!(),
     }
 }
 
 /// A keyword, or a property.
-pub fn word(alloc: Global, name: &[u8]) -> Result<Token, NoMemory>
+pub fn word(origin: Origin<'_>, name: &[u8]) -> Result<Token, NoMemory>
     requires { are_name_bytes name.now ≡ true }
     ensures { IfOk result (λ t. t ≡ word name.now) }
 {
@@ -176,16 +176,16 @@ pub fn word(alloc: Global, name: &[u8]) -> Result<Token, NoMemory>
     }
     match operator_of(name) {
         Some(operator) => Ok(Token::Join(operator)),
-        None => Ok(Token::Operand(Value::Property(text_of(alloc, name)?))),
+        None => Ok(Token::Operand(Value::Property(text_of(origin, name)?))),
     }
 }
 
 /// The value that a mark and a name are.
-pub fn named(alloc: Global, mark: Mark, name: &[u8]) -> Result<Value, NoMemory>
+pub fn named(origin: Origin<'_>, mark: Mark, name: &[u8]) -> Result<Value, NoMemory>
     requires { are_name_bytes name.now ≡ true }
     ensures { IfOk result (λ v. v ≡ named mark name.now) }
 {
-    let name = text_of(alloc, name)?;
+    let name = text_of(origin, name)?;
     match mark {
         Mark::Variable => Ok(Value::Variable(name)),
         Mark::State(sign) => Ok(Value::State(sign, name)),

@@ -4,7 +4,7 @@ use Rattle.mi_cond.specs.declared.error.CondError.{CondError}
 use Rattle.mi_cond.specs.View.{tree_of}
 use Rattle.mi_cond.specs.Texts.{AnswersNode}
 use Rattle.mi_cond.proofs.ReadLaws.{says_read, says_fault}
-use Rattle.mi_cond.proofs.cond.Cond.read.Goals as goal
+use Rattle.mi_cond.proofs.cond.Cond.read_at.Goals as goal
 
 pub returns-in-Ok : goal.returns-in-Ok
 returns-in-Ok c =
