@@ -1,10 +1,24 @@
 //! Names of files and folders in the fields of a package.
 
-ghost use Rattle.std.specs.Prelude.{◌≡◌, ◌<◌, ◌==◌};
+ghost use Rattle.std.specs.Prelude.{◌≡◌, ◌<◌, ◌==◌, IfSome, IfNone};
 ghost use Rattle.std.specs.List.{list_all, before_first};
 ghost use Rattle.mi_text.specs.FileNames.{behind_first, short_name, long_name, target_part, source_part, may_stand, is_pattern_part, is_folder_name, is_file_name, is_file_pattern, is_default_dir};
 
 use crate::path::{good_byte, is_part};
+
+// What stands before and behind the first such byte; nothing where there is none, and all of the text is both.
+fn cut(text: &str, mark: char) -> Option<(&str, &str)>
+    requires { mark < 128 }
+    ensures front { IfSome result (λ halves. halves.0.now ≡ before_first (λ b. b == mark) text.now) }
+    ensures behind { IfSome result (λ halves. halves.1.now ≡ behind_first (λ b. b == mark) text.now) }
+    ensures all_front { IfNone result (text.now ≡ before_first (λ b. b == mark) text.now) }
+    ensures all_behind { IfNone result (text.now ≡ behind_first (λ b. b == mark) text.now) }
+{
+    match text.split_once(mark) {
+        Some((front, behind)) => Some((front, behind)),
+        None => None,
+    }
+}
 
 // What stands before and behind the first such byte; all of the text is both where it has none.
 fn halves(text: &str, mark: char) -> (&str, &str)
@@ -12,7 +26,7 @@ fn halves(text: &str, mark: char) -> (&str, &str)
     ensures front { result.0.now ≡ before_first (λ b. b == mark) text.now }
     ensures behind { result.1.now ≡ behind_first (λ b. b == mark) text.now }
 {
-    match text.split_once(mark) {
+    match cut(text, mark) {
         Some((front, behind)) => (front, behind),
         None => (text, text),
     }
@@ -54,7 +68,10 @@ pub fn source_part(text: &str) -> &str
 pub fn is_file_name(text: &str) -> bool
     ensures { result ≡ is_file_name text.now }
 {
-    is_part(short_name(text)) && is_part(long_name(text))
+    match cut(text, '|') {
+        Some((short, long)) => is_part(short) && is_part(long),
+        None => is_part(text),
+    }
 }
 
 const fn may_stand(byte: u8) -> bool
@@ -81,7 +98,10 @@ fn is_pattern_part(part: &str) -> bool
 pub fn is_file_pattern(text: &str) -> bool
     ensures { result ≡ is_file_pattern text.now }
 {
-    is_pattern_part(short_name(text)) && is_pattern_part(long_name(text))
+    match cut(text, '|') {
+        Some((short, long)) => is_pattern_part(short) && is_pattern_part(long),
+        None => is_pattern_part(text),
+    }
 }
 
 fn is_folder_name(text: &str) -> bool
