@@ -1,20 +1,23 @@
 -- What is known of a table in memory that some bytes spell.
-use Rattle.std.proofs.Common.{◌≡◌, ℕ, zero, suc, ◌<◌, eqb, eqb-true, eq-eqb, true, false, List, [], ◌∷◌, length, map, get_or, Option, Some, None, option_map, Result, Ok, Err, IfOk, ℤ, refl, sym, ap, subst, ◌∙◌, arith, inl, inr, Bor}
-use Rattle.std.specs.List.{AllZip, list_all, All}
+use Rattle.std.proofs.Common.{◌≡◌, ℕ, zero, suc, ◌<◌, eqb, eqb-true, eq-eqb, ltb, Bool, true, false, ◌||◌, List, [], ◌∷◌, length, map, get_or, Option, Some, None, option_map, Result, Ok, Err, IfOk, ℤ, refl, sym, ap, subst, ◌∙◌, arith, inl, inr, Bor}
+use Rattle.std.specs.List.{AllZip, list_all, All, onto_first}
+use Rattle.std.proofs.lemmas.Bool.{cases_Bool}
 use Rattle.std.proofs.lemmas.Bool.Decides.{nat_tests}
 use Rattle.std.proofs.lemmas.List.{length-map, get_or-map}
+use Rattle.std.proofs.lemmas.List.Splits.{slice_split-cons_yes, slice_split-cons_no}
 use Rattle.mi_idt.specs.declared.table.Row.{Row}
 use Rattle.mi_idt.specs.declared.table.Table.{Table}
 use Rattle.mi_idt.specs.Cells.{Cell, Nothing, Text, Number, ColumnValue}
 use Rattle.mi_idt.specs.Columns.{limit_of}
 use Rattle.mi_idt.specs.Fields.{fields_of, unescaped, is_digit}
-use Rattle.mi_idt.specs.Means.{column_value, raw_row, raw, meaning, IsSpelledBy, cell_at, Shows}
+use Rattle.mi_idt.specs.Means.{column_value, raw_row, raw, meaning, IsSpelledBy, cell_at, Shows, ShowsRow, text_shown}
 use Rattle.mi_idt.specs.Raw.{raw_of_lines, raw_of, field_at, text_of}
 use Rattle.mi_idt.specs.RowKey.{IsSpelledRow}
 use Rattle.mi_idt.specs.Rows.{cells_of}
 use Rattle.mi_idt.specs.Spells.{SpellsRow, SpellsField, SpellsFields, SpellsInteger}
 use Rattle.mi_idt.proofs.Basics.{and_true, shown}
 use Rattle.mi_idt.proofs.FieldLaws.{limit_most}
+use Rattle.mi_idt.proofs.LayLaws.{row_wide}
 
 -- ---- rows
 
@@ -140,3 +143,56 @@ shows_at bytes t s row column h within =
 pub shows_so : {A E : Type 0} (f : A → List ℕ) (r : Result (Option A) E) (shown : Option (List ℕ)) (x : Cell) → IfOk r (λ text. option_map f text ≡ shown) → Shows shown x → IfOk r (λ text. Shows (option_map f text) x)
 shows_so f (Ok text) shown x is s = subst (λ (o : Option (List ℕ)). Shows o x) (sym is) s
 shows_so f (Err e) shown x is s = tt
+
+-- ---- the texts of a row
+
+-- a byte that surely stands for itself
+abbrev pub is_plain_byte : ℕ → Bool
+is_plain_byte b = ltb 27 b || eqb b 9
+
+plain_byte : (b : ℕ) → is_plain_byte b ≡ true → unescaped b ≡ b
+plain_byte b e = grind (arith, nat_tests)
+
+pub line_plain : (line : List ℕ) → list_all is_plain_byte line ≡ true → map unescaped line ≡ line
+line_plain [] e = refl
+line_plain (b ∷ bs) e = let p = and_true (is_plain_byte b) (list_all is_plain_byte bs) e in (λ i. plain_byte b p.0 i ∷ line_plain bs p.1 i)
+
+onto_plain : (b : ℕ) (fs : List (List ℕ)) → unescaped b ≡ b → map (map unescaped) fs ≡ fs → map (map unescaped) (onto_first b fs) ≡ onto_first b fs
+onto_plain b [] here rest = (λ i. (here i ∷ []) ∷ [])
+onto_plain b (f ∷ fs) here rest =
+    let first : map unescaped f ≡ f = cc in
+    let others : map (map unescaped) fs ≡ fs = cc in
+    (λ i. (here i ∷ first i) ∷ others i)
+
+-- the fields of a line in which each byte stands for itself
+pub fields_plain : (line : List ℕ) → map unescaped line ≡ line → map (map unescaped) (fields_of line) ≡ fields_of line
+fields_plain [] e = refl
+fields_plain (b ∷ bs) e =
+    let here : unescaped b ≡ b = cc in
+    let rest : map unescaped bs ≡ bs = cc in
+    elim (cases_Bool (eqb b 9)) [
+      | inl tab ↦ let cut = slice_split-cons_yes (λ b. eqb b 9) b bs tab in ap (map (map unescaped)) cut ∙ ap (λ (fs : List (List ℕ)). [] ∷ fs) (fields_plain bs rest) ∙ sym cut
+      | inr other ↦ let cut = slice_split-cons_no (λ b. eqb b 9) b bs other in ap (map (map unescaped)) cut ∙ onto_plain b (fields_of bs) here (fields_plain bs rest) ∙ sym cut
+    ]
+
+shown_unescaped : (field : List ℕ) → text_of field ≡ text_shown (map unescaped field)
+shown_unescaped [] = refl
+shown_unescaped (b ∷ bs) = refl
+
+-- the unescaped fields of a row show its cells
+pub shows_row : (bytes : List ℕ) (t : Table) → IsSpelledBy bytes t → (row : ℕ) (d : Row) (texts : List (List ℕ)) → row < length t.rows.items → texts ≡ map (map unescaped) (raw_row (get_or t.rows.items row d)) → ShowsRow t row texts
+shows_row bytes t s row d texts h are =
+    let fields : List (List ℕ) = raw_row (get_or t.rows.items row d) in
+    let wide = row_wide t.columns.items (get_or t.rows.items row d) (rows_spelled bytes t s row d h) in
+    let there : get_or (map raw_row t.rows.items) row [] ≡ fields = get_or-map raw_row t.rows.items row d [] h in
+    record {
+      many = ap length are ∙ length-map fields (map unescaped) ∙ wide;
+      cells = λ column within.
+          let inside : column < length fields = omega (arith, wide, within) in
+          let text : map unescaped (field_at (raw t) row column) ≡ get_or texts column [] = ap (λ (fs : List (List ℕ)). map unescaped (get_or fs column [])) there ∙ sym (get_or-map (map unescaped) fields column [] [] inside) ∙ ap (λ (ts : List (List ℕ)). get_or ts column []) (sym are) in
+          subst (λ (o : Option (List ℕ)). Shows o (cell_at (meaning t) row column)) (shown_unescaped (field_at (raw t) row column) ∙ ap text_shown text) (shows_at bytes t s row column h within);
+    }
+
+pub rows_shown : (bytes : List ℕ) (t : Table) → IsSpelledBy bytes t → (row : ℕ) (d : Row) → row < length t.rows.items → {A E : Type 0} (f : A → List (List ℕ)) (r : Result A E) (texts : List (List ℕ)) → IfOk r (λ a. f a ≡ texts) → texts ≡ map (map unescaped) (raw_row (get_or t.rows.items row d)) → IfOk r (λ a. ShowsRow t row (f a))
+rows_shown bytes t s row d h f (Ok a) texts is are = shows_row bytes t s row d (f a) h (is ∙ are)
+rows_shown bytes t s row d h f (Err e) texts is are = tt

@@ -1,5 +1,5 @@
 -- What a table in memory means.
-use Rattle.std.specs.Prelude.{◌≡◌, ℕ, List, [], map, Option, Some, None}
+use Rattle.std.specs.Prelude.{◌≡◌, ◌<◌, ℕ, List, [], ◌∷◌, length, map, Option, Some, None}
 use Rattle.std.specs.List.{slice_index_or, flat_map}
 use Rattle.mi_idt.specs.declared.table.Column.{Column}
 use Rattle.mi_idt.specs.declared.table.Row.{Row}
@@ -51,3 +51,13 @@ Shows None Nothing = Unit {0}
 Shows (Some text) (Text bytes) = text ≡ bytes
 Shows (Some text) (Number z) = SpellsInteger 2147483647 text z
 Shows shown cell = ⊥
+
+-- what is shown by a text: nothing by an empty one
+abbrev pub text_shown : List ℕ → Option (List ℕ)
+text_shown [] = None
+text_shown (b ∷ bs) = Some (b ∷ bs)
+
+-- the texts show the cells of a row, from 0
+pub record ShowsRow (t : Table) (row : ℕ) (texts : List (List ℕ)) : Type 0 where
+  pub many : length texts ≡ length t.columns.items
+  pub cells : (column : ℕ) → column < length t.columns.items → Shows (text_shown (slice_index_or texts column [])) (cell_at (meaning t) row column)

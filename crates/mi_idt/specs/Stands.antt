@@ -14,3 +14,7 @@ integer_stands (b ∷ bs) = if b == 45 then not (begins_with_zero bs) else not (
 -- of a text: no byte of those that are escaped
 abbrev pub text_stands : List ℕ → Bool
 text_stands field = list_all (λ b. nat_lt 13 b) field
+
+-- each byte stands for itself: none is below 28 but the tab
+abbrev pub is_plain_line : List ℕ → Bool
+is_plain_line bytes = list_all (λ b. nat_lt 27 b || b == 9) bytes

@@ -7,6 +7,7 @@ ghost use Rattle.mi_idt.specs.Fields.{unescaped};
 ghost use Rattle.mi_idt.specs.Means.{column_value};
 ghost use Rattle.mi_idt.specs.Raw.{text_of};
 ghost use Rattle.mi_idt.specs.Rows.{cell_of};
+ghost use Rattle.mi_idt.specs.Stands.{is_plain_line};
 ghost use Rattle.mi_idt.specs.Written.{escaped, written_cell};
 
 use crate::number::integer_within;
@@ -65,6 +66,29 @@ fn unescaped_text(alloc: Global, field: &str) -> Result<String, AllocError>
         Ok(string) => Ok(string),
         Err(_) => unreachable!(),
     }
+}
+
+/// The texts that fields stand for, with an empty one for each empty field.
+pub fn unescaped_texts(alloc: Global, fields: &[&str]) -> Result<Vec<String>, NoMemory>
+    ensures { IfOk result (λ texts. map string_bytes texts.items ≡ map (map unescaped) (map (λ b. b.now) fields.now)) }
+{
+    let mut texts = Vec::with_capacity(alloc, fields.len())?;
+    for field in fields {
+        texts.push(unescaped_text(alloc, field)?)?;
+    }
+    Ok(texts)
+}
+
+/// Whether no byte of a line stands for another; of some lines without escapes it says no. All bytes are looked at, since
+/// a loop that may end before takes longer.
+pub fn is_plain_line(line: &[u8]) -> bool
+    ensures { result ≡ is_plain_line line.now }
+{
+    let mut plain = true;
+    for byte in line {
+        plain &= *byte > 27 || *byte == b'\t';
+    }
+    plain
 }
 
 /// The text that a field stands for.

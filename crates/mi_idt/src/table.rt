@@ -1,10 +1,10 @@
 //! Tables as slices of the bytes that spell them.
 
-ghost use Rattle.std.specs.Prelude.{◌≡◌, ◌<◌, length, option_map, IfOk, IsOk};
+ghost use Rattle.std.specs.Prelude.{◌≡◌, ◌<◌, length, map, is_some, option_map, slice_index_or, string_bytes, IfOk, IfSome, IsOk};
 ghost use Rattle.std.specs.Cow.{cow_str_bytes};
 ghost use Rattle.mi_idt.specs.declared.table.IdtError.TheVariants.{NoMemory as no_memory};
 
-use crate::escape::text_of;
+use crate::escape::{is_plain_line, text_of, unescaped_texts};
 use crate::fronts::row_fields;
 use mi_text::{IdtFault, NoMemory};
 use std::alloc::{AllocError, AllocFailed, Global};
@@ -100,8 +100,37 @@ impl Column<'_> {
 }
 
 impl<'a> Table<'a> {
-    ghost use Rattle.mi_idt.specs.Means.{IsSpelled, Shows, meaning, raw, cell_at};
+    ghost use Rattle.mi_idt.specs.Means.{IsSpelled, Shows, ShowsRow, meaning, raw, cell_at};
     ghost use Rattle.mi_idt.specs.Raw.{field_at, text_of};
+    ghost use Rattle.mi_idt.specs.Stands.{is_plain_line};
+    ghost use Rattle.mi_idt.specs.declared.table.Row.{Row};
+
+    /// The texts of a row, from 0, as they stand in the bytes, with an empty one for each null; none where a byte of it is
+    /// below 28 and no tab, as each escape is.
+    pub fn plain_row(&self, row: usize) -> Option<&[&'a str]>
+        requires spelled { IsSpelled self.now }
+        requires row_in_range { row < length self.now.rows.items }
+        ensures texts { IfSome result (λ texts. ShowsRow self.now row (map (λ b. b.now) texts.now)) }
+        ensures plain { (d : Row) → is_some result ≡ is_plain_line (slice_index_or self.now.rows.items row d).line.now }
+    {
+        if is_plain_line(self.rows[row].line.as_bytes()) {
+            Some(row_fields(&self.columns, &self.rows, &self.fields, row))
+        } else {
+            None
+        }
+    }
+
+    /// The texts of a row, from 0, unescaped, with an empty one for each null.
+    pub fn unescaped_row(&self, alloc: Global, row: usize) -> Result<Vec<String>, NoMemory>
+        requires spelled { IsSpelled self.now }
+        requires row_in_range { row < length self.now.rows.items }
+        ensures { IfOk result (λ texts. ShowsRow self.now row (map string_bytes texts.items)) }
+    {
+        unescaped_texts(
+            alloc,
+            row_fields(&self.columns, &self.rows, &self.fields, row),
+        )
+    }
 
     /// The text of a field, unescaped, or nothing where it is null; rows and columns count from 0.
     /// Where nothing is escaped it takes no memory.

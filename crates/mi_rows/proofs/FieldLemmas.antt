@@ -1,8 +1,6 @@
 -- The values that the fields of a row are.
 use Rattle.std.proofs.Common.{◌≡◌, ℕ, pos, zero, suc, ◌<◌, ◌≤◌, length, get_or, arith, Bool, true, false, cond, ◌||◌, List, [], ◌∷◌, ◌++◌, map, Option, Some, None, refl, sym, ap, subst, ◌∙◌}
 use Rattle.std.specs.Prelude.{option_map, unwrap_or}
-use Rattle.std.specs.Cow.{cow_str_bytes}
-use Rattle.std.specs.declared.borrow.CowStr.{CowStr}
 use Rattle.std.specs.declared.alloc.Global.{Global}
 use Rattle.std.specs.Prelude.{string_bytes, String}
 use Rattle.std.specs.HashSet as bag
@@ -16,7 +14,9 @@ use Rattle.mi_text.proofs.MapLemmas.{names_total}
 use Rattle.mi_text.specs.Maps.{Name, same_name}
 use Rattle.mi_cond.specs.Tree.{Tree}
 use Rattle.mi_idt.specs.Cells as raw
-use Rattle.mi_idt.specs.Means.{Shows}
+use Rattle.mi_idt.specs.Fields.{unescaped}
+use Rattle.mi_idt.specs.Means.{Shows, text_shown}
+use Rattle.mi_idt.specs.Raw.{text_of}
 use Rattle.mi_idt.proofs.Numbers.{is_integer}
 use Rattle.mi_rows.specs.declared.column.Kind.{Kind}
 use Rattle.mi_rows.specs.declared.column.Kind.TheVariants as kind
@@ -63,14 +63,16 @@ shown_as kind.Condition (Some text) (raw.Number z) shows fits = absurd fits
 shown_as kind.Code (Some text) (raw.Text t) shows fits = ap (λ t. Some (text_value kind.Code t)) shows
 shown_as kind.Code (Some text) (raw.Number z) shows fits = absurd fits
 
-pub value_shown : (f : Field) (x : raw.Cell) → Shows (option_map cow_str_bytes f.text) x → FitsKind f.kind x → field_value f ≡ value_of f.kind x
-value_shown f x shows fits = twice f.text ∙ shown_as f.kind (option_map cow_str_bytes f.text) x shows fits where
-  twice : (o : Option (CowStr Global)) → option_map (λ text. shown_value f.kind (cow_str_bytes text)) o ≡ option_map (shown_value f.kind) (option_map cow_str_bytes o)
-  twice None = refl
-  twice (Some text) = refl
+pub value_shown : (f : Field) (x : raw.Cell) → Shows (text_shown f.text.now) x → FitsKind f.kind x → field_value f ≡ value_of f.kind x
+value_shown f x shows fits = shown_as f.kind (text_shown f.text.now) x shows fits
+
+-- a text that is shown isn't empty
+pub some_shown : (text field : List ℕ) → Some text ≡ text_of field → text_shown text ≡ Some text
+some_shown text [] is = absurd cc
+some_shown text (b ∷ bs) is = let same : text ≡ unescaped b ∷ map unescaped bs = cc in ap text_shown same ∙ ap Some (sym same)
 
 -- a field of its kind is a value of its column where it meets the rule
-pub judged : (c : Listed) (f : Field) (x : raw.Cell) → f.kind ≡ c.kind → Shows (option_map cow_str_bytes f.text) x → FitsKind c.kind x → (keys : List Name) (before : List Row) (front : Row) → kind_fault f.kind c.nullable x ≡ None
+pub judged : (c : Listed) (f : Field) (x : raw.Cell) → f.kind ≡ c.kind → Shows (text_shown f.text.now) x → FitsKind c.kind x → (keys : List Name) (before : List Row) (front : Row) → kind_fault f.kind c.nullable x ≡ None
     → (b : Bool) → b ≡ meets c.rule keys before front (field_value f) → cell_fault (column_as c) keys before front x ≡ unless b
 judged c f x same shows fits keys before front none b is =
     let at : value_of c.kind x ≡ field_value f = ap (λ (k : Kind). value_of k x) (sym same) ∙ sym (value_shown f x shows (subst (λ (k : Kind). FitsKind k x) (sym same) fits)) in
@@ -89,7 +91,7 @@ last_more (y ∷ row) x = ap (λ (o : Option Tree). o or_else some_condition_in 
   turned (Some tree) b c = refl
 
 -- the text of the first column
-pub key_field : (listed : List Listed) (d : Listed) (cells : List raw.Cell) (f : Field) → 1 ≤ length listed → AllFit (map column_as listed) cells → f.kind ≡ (get_or listed 0 d).kind → Shows (option_map cow_str_bytes f.text) (get_or cells 0 raw.Nothing)
+pub key_field : (listed : List Listed) (d : Listed) (cells : List raw.Cell) (f : Field) → 1 ≤ length listed → AllFit (map column_as listed) cells → f.kind ≡ (get_or listed 0 d).kind → Shows (text_shown f.text.now) (get_or cells 0 raw.Nothing)
     → text_at (row_of (map column_as listed) cells) 0 ≡ unwrap_or (text_in (field_value f)) []
 key_field [] d cells f some fit same shows = absurd (omega (arith, some))
 key_field (k ∷ ks) d [] f some fit same shows = absurd fit

@@ -1,15 +1,15 @@
 -- The fields of a table that has the columns of a layout fit their kinds.
-use Rattle.std.proofs.Common.{◌≡◌, ℕ, zero, suc, ◌<◌, ◌≤◌, Bool, true, false, ◌&&◌, List, [], ◌∷◌, length, map, refl, ap, ◌∙◌, arith}
+use Rattle.std.proofs.Common.{◌≡◌, ℕ, zero, suc, ◌<◌, ◌≤◌, Bool, true, false, ◌&&◌, List, [], ◌∷◌, length, map, refl, ap, subst, ◌∙◌, arith, Bor}
 use Rattle.std.specs.List.{slice_index_or, AllZip}
 use Rattle.std.proofs.lemmas.Slice.Zip.{AllZip-long}
 use Rattle.std.proofs.lemmas.Bool.Decides.{nat_tests}
-use Rattle.std.proofs.lemmas.List.{length-map}
+use Rattle.std.proofs.lemmas.List.{length-map, get_or-map}
 use Rattle.std.specs.Str.{bytes_eq}
 use Rattle.mi_idt.specs.declared.table.Table.{Table}
 use Rattle.mi_idt.specs.Cells.{Cell, Nothing, Text, Number, ColumnValue}
 use Rattle.mi_idt.specs.Columns.{is_text, is_int}
 use Rattle.mi_idt.specs.Fields.{fields_of}
-use Rattle.mi_idt.specs.Means.{IsSpelled, meaning, column_value, raw_row as raw_fields}
+use Rattle.mi_idt.specs.Means.{IsSpelled, Shows, ShowsRow, text_shown, meaning, column_value, raw_row as raw_fields}
 use Rattle.mi_idt.specs.Rows.{cells_of}
 use Rattle.mi_idt.specs.Spells.{SpellsField, SpellsFields}
 use Rattle.mi_rows.specs.declared.column.Kind.{Kind}
@@ -123,3 +123,14 @@ few_columns t spelled =
     let same = ap length spelled.1.spells.spelled.named ∙ length-map (meaning t).columns (λ c. c.name) in
     let long = columns_long t in
     omega (arith, few, same, long)
+
+-- what stands where there is no text
+abbrev pub no_text : Bor (List ℕ)
+no_text = record { ref_ptr = (0, 0); now = [] }
+
+-- the text of a place shows its cell
+pub text_shows : (t : Table) (number : ℕ) (texts : List (Bor (List ℕ))) → ShowsRow t number (map (λ b. b.now) texts) → (i : ℕ) → i < length t.columns.items → (d : Bor (List ℕ)) → Shows (text_shown (slice_index_or texts i d).now) (slice_index_or (raw_row t number) i Nothing)
+text_shows t number texts shows i lt d =
+    let long = length-map texts (λ (b : Bor (List ℕ)). b.now) in
+    let there : i < length texts = omega (arith, long, shows.many, lt) in
+    subst (λ (u : List ℕ). Shows (text_shown u) (slice_index_or (raw_row t number) i Nothing)) (get_or-map (λ (b : Bor (List ℕ)). b.now) texts i d [] there) (shows.cells i lt)

@@ -1,8 +1,8 @@
 -- The fields of a row while it is read, and the values that they are.
 use Rattle.std.specs.Prelude.{◌≡◌, ℕ, ℤ, pos, Bool, false, List, [], ◌∷◌, map, Option, None, option_map, unwrap_or}
-use Rattle.std.specs.Cow.{cow_str_bytes}
 use Rattle.mi_cond.specs.Tree.{Tree}
 use Rattle.mi_idt.specs.Fields.{integer_within}
+use Rattle.mi_idt.specs.Means.{text_shown}
 use Rattle.mi_rows.specs.declared.column.Kind.{Kind}
 use Rattle.mi_rows.specs.declared.column.Kind.TheVariants as kind
 use Rattle.mi_rows.specs.declared.field.Field.{Field}
@@ -19,7 +19,7 @@ shown_value kind.Integer text = Integer (number_of text)
 shown_value other text = text_value other text
 
 abbrev pub field_value : Field → Option Cell
-field_value f = option_map (λ text. shown_value f.kind (cow_str_bytes text)) f.text
+field_value f = option_map (shown_value f.kind) (text_shown f.text.now)
 
 abbrev pub values_of : List Field → Row
 values_of fields = map field_value fields

@@ -21,8 +21,9 @@ use Rattle.mi_rows.specs.declared.column.Rule.{Rule}
 use Rattle.mi_rows.specs.declared.column.Rule.TheVariants.{VersionOrKey}
 use Rattle.mi_rows.specs.declared.error.LoadError.{LoadError}
 use Rattle.mi_rows.specs.declared.error.LoadError.TheVariants.{NoMemory, Source, Table as TableFault}
-use Rattle.mi_rows.specs.declared.row.Draft.{Draft}
+use Rattle.mi_rows.specs.declared.field.Field.{Field}
 use Rattle.mi_rows.specs.declared.rule.Seen.{Seen}
+use Rattle.mi_rows.specs.declared.take.Take.{Take}
 use Rattle.mi_rows.specs.Fields.{values_of, last_condition}
 use Rattle.mi_rows.specs.Rows.{keys_of, rows_in}
 use Rattle.mi_rows.specs.Columns.{Table}
@@ -101,10 +102,10 @@ abbrev pub keys_asked : Table → raw.TableValue → List Name
 keys_asked t v = if list_any (λ c. asks_key c.rule) t.columns then keys_of (rows_in t v) else []
 
 -- the fields that are judged are these values, the condition among them is kept, and no memory was wanting
-pub record IsDraft (d : Draft) (row : Row) : Type 0 where
-  pub values : values_of d.fields.items ≡ row
-  pub condition : d.take.condition ≡ last_condition row
-  pub memory : d.take.failed ≡ false
+pub record IsDraft (fields : List Field) (take : Take) (row : Row) : Type 0 where
+  pub values : values_of fields ≡ row
+  pub condition : take.condition ≡ last_condition row
+  pub memory : take.failed ≡ false
 
 -- of the rows before
 pub record IsSeen (seen : Seen) (before : List Row) : Type 0 where

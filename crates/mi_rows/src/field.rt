@@ -1,9 +1,9 @@
 //! What a row holds: the texts of its fields, and the values that they are.
 
-ghost use Rattle.std.specs.Prelude.{◌≡◌, None, option_map, IfSome, IfNone};
-ghost use Rattle.std.specs.Cow.{cow_str_bytes};
+ghost use Rattle.std.specs.Prelude.{◌≡◌, None, IfSome, IfNone};
 ghost use Rattle.std.specs.Option.{option_copied};
 ghost use Rattle.mi_text.specs.Guid.{guid_of};
+ghost use Rattle.mi_idt.specs.Means.{text_shown};
 ghost use Rattle.mi_rows.specs.Fields.{field_value, values_of, number_of};
 ghost use Rattle.mi_rows.specs.Typed.{some_number_in, some_code_in};
 ghost use Rattle.mi_rows.specs.Values.{cell_at, text_in, text_at, number_at, code_of};
@@ -12,14 +12,13 @@ ghost use Rattle.mi_rows.specs.declared.field.FieldError.TheVariants.{NoMemory a
 use crate::column::Kind;
 use mi_base::{Guid, NoMemory};
 use mi_idt::integer_within;
-use std::borrow::CowStr;
 
-/// A field of a row: what its column holds, its text, unescaped, where None is null, and where it begins in the text of
-/// its table, in bytes.
-#[derive(Drop)]
+/// A field of a row: what its column holds, its text, unescaped, which is empty where it is null, and where it begins in
+/// the text of its table, in bytes.
+#[derive(Clone, Copy)]
 pub struct Field<'a> {
     pub kind: Kind,
-    pub text: Option<CowStr<'a>>,
+    pub text: &'a str,
     pub start: usize,
 }
 
@@ -47,21 +46,14 @@ impl From<NoMemory> for FieldError {
     }
 }
 
-/// The text of a field, as it stands.
+/// The text of a field that isn't null.
 pub fn shown<'r>(field: &'r Field<'_>) -> Option<&'r str>
-    ensures { option_copied result ≡ option_map cow_str_bytes field.now.text }
+    ensures { option_copied result ≡ text_shown field.now.text.now }
 {
-    match &field.text {
-        Some(text) => Some(text.as_str()),
-        None => None,
-    }
-}
-
-/// The length of a field in bytes, which an escape doesn't change.
-pub fn length(field: &Field) -> usize {
-    match shown(field) {
-        Some(text) => text.len(),
-        None => 0,
+    if field.text.is_empty() {
+        None
+    } else {
+        Some(field.text)
     }
 }
 

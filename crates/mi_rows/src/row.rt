@@ -1,21 +1,20 @@
 //! The rows of a table as structs.
 
-ghost use Rattle.std.specs.Prelude.{◌≡◌, ◌+◌, ◌<◌, ◌++◌, ◌∷◌, List, [], true, false, None, Some, option_map, string_bytes, vec_len, IfOk, OnOk};
-ghost use Rattle.std.specs.Cow.{cow_str_bytes};
+ghost use Rattle.std.specs.Prelude.{◌≡◌, ◌+◌, ◌<◌, ◌++◌, ◌∷◌, List, [], true, false, None, Some, map, option_map, unwrap_or, string_bytes, vec_len, IfOk, OnOk};
 ghost use Rattle.std.specs.List.{list_any};
 ghost use Rattle.mi_text.specs.Maps.{Name};
 ghost use Rattle.mi_idt.specs.Cells as raw;
-ghost use Rattle.mi_idt.specs.Means.{Shows, IsSpelled, meaning};
-ghost use Rattle.mi_rows.specs.Fields.{field_value, values_of, last_condition};
+ghost use Rattle.mi_idt.specs.Means.{Shows, ShowsRow, IsSpelled, meaning, text_shown};
+ghost use Rattle.mi_rows.specs.Fields.{field_value, shown_value, values_of, last_condition};
 ghost use Rattle.mi_rows.specs.Reads.{Answers, KnowsKeys, asks_key, keys_asked, IsSeen, IsDraft, ReadsAs, RefusesAs, FitsKind, raw_row};
 ghost use Rattle.mi_rows.specs.Columns.{column_as, table_as};
 ghost use Rattle.mi_rows.specs.Typed.{keyed, some_condition_in};
-ghost use Rattle.mi_rows.specs.Values.{KeysTell, Row, row_of, text_at, all_suit};
+ghost use Rattle.mi_rows.specs.Values.{KeysTell, Row, row_of, text_in, text_at, all_suit};
 ghost use Rattle.mi_rows.specs.Rows.{◌or_else◌, cell_fault, row_fault, rows_fault, rows_in, keys_of, begins_with, has_columns, fault_at};
 
-use crate::column::{Column, Layout, Rule};
+use crate::column::{Column, Kind, Layout, Rule};
 use crate::error::LoadError;
-use crate::field::{Bad, Field, FieldError, length, some_text};
+use crate::field::{Bad, Field, FieldError, some_text};
 use crate::read::read_kind;
 use crate::rule::{Seen, meets};
 use crate::table_row::{Key, TableRow};
@@ -46,17 +45,17 @@ fn error_at(alloc: Global, table: &str, row: u32, column: u32, error: FieldError
 
 /// Why a field isn't a value of its column, by its kind and its rule, or the condition that it is, where it is one.
 fn read_field(
-    alloc: Global,
+    take: &Take,
     column: &Column,
     field: &Field,
     seen: &Seen,
     front: &[Field],
 ) -> Result<Option<Cond>, FieldError>
     requires kind { field.now.kind ≡ column.now.kind }
-    ensures { (x : raw.Cell) → Shows (option_map cow_str_bytes field.now.text) x → FitsKind column.now.kind x → (keys : List Name) (before : List Row) → KnowsKeys seen.now.keys keys → IsSeen seen.now before
+    ensures { (x : raw.Cell) → Shows (text_shown field.now.text.now) x → FitsKind column.now.kind x → (keys : List Name) (before : List Row) → KnowsKeys seen.now.keys keys → IsSeen seen.now before
         → ReadsAs (cell_fault (column_as column.now) keys before (values_of front.now) x) (some_condition_in (field_value field.now)) result }
 {
-    let condition = read_kind(alloc, field, column.nullable)?;
+    let condition = read_kind(take, field, column.nullable)?;
     if meets(column.rule, seen, front, field) {
         Ok(condition)
     } else {
@@ -64,62 +63,55 @@ fn read_field(
     }
 }
 
-/// A row while it is read: the fields that are judged, and what takes their values.
-#[derive(Drop)]
-struct Draft<'a> {
-    fields: Vec<Field<'a>>,
-    take: Take,
+/// Adds a field that is judged, and keeps the condition that it is, where it is one.
+fn add_field<'a>(
+    fields: &mut Vec<Field<'a>>,
+    take: &mut Take,
+    field: Field<'a>,
+    condition: Option<Cond>,
+) -> Result<(), NoMemory>
+    requires condition { condition ≡ some_condition_in (field_value field) }
+    ensures { OnOk result ((row : Row) → IsDraft fields.old.items take.old row → IsDraft fields.new.items take.new (row ++ field_value field.entry ∷ [])) }
+{
+    take.keep(condition, field.text.len());
+    fields.push(field)?;
+    Ok(())
 }
 
-impl<'a> Draft<'a> {
-    /// Begins the row of this line.
-    fn begin(&mut self, line: &str)
-        ensures { self.old.take.failed ≡ false → IsDraft self.new [] }
-    {
-        self.fields.clear();
-        self.take.begin(line.len());
-    }
-
-    /// One field more, and the condition that it is, where it is one.
-    fn add(&mut self, field: Field<'a>, condition: Option<Cond>) -> Result<(), NoMemory>
-        requires condition { condition ≡ some_condition_in (field_value field) }
-        ensures { OnOk result ((row : Row) → IsDraft self.old row → IsDraft self.new (row ++ field_value field.entry ∷ [])) }
-    {
-        self.take.keep(condition, length(&field));
-        self.fields.push(field)?;
-        Ok(())
-    }
-}
-
-/// Reads a row, or refuses with the first fault among its values. Rows count from 0 here.
+/// Judges the texts of a row, which stay as its fields, or refuses with the first fault among its values. Rows count from
+/// 0 here.
 fn read_row<'a>(
-    alloc: Global,
     layout: &Layout,
-    table: &Table<'a>,
+    table: &Table,
     number: usize,
+    texts: &[&'a str],
     seen: &Seen,
-    draft: &mut Draft<'a>,
+    fields: &mut Vec<Field<'a>>,
+    take: &mut Take,
 ) -> Result<(), LoadError>
     requires spelled { IsSpelled table.now }
     requires columns { begins_with (table_as layout.now).columns (meaning table.now).columns ≡ true }
     requires in_range { number < vec_len table.now.rows }
+    requires texts { ShowsRow table.now number (map (λ b. b.now) texts.now) }
     requires knows { (keys : List Name) × KnowsKeys seen.now.keys keys }
     requires seen { (before : List Row) × IsSeen seen.now before }
-    requires memory { draft.old.take.failed ≡ false }
+    requires memory { take.old.failed ≡ false }
     ensures { (keys : List Name) (before : List Row) → KnowsKeys seen.now.keys keys → IsSeen seen.now before
-        → Answers ⊥ (row_fault (table_as layout.now) (number + 1) keys before (raw_row table.now number)) (λ _. IsDraft draft.new (row_of (table_as layout.now).columns (raw_row table.now number))) result }
+        → Answers ⊥ (row_fault (table_as layout.now) (number + 1) keys before (raw_row table.now number)) (λ _. IsDraft fields.new.items take.new (row_of (table_as layout.now).columns (raw_row table.now number))) result }
 {
-    draft.begin(table.rows[number].line);
+    fields.clear();
+    take.begin(table.rows[number].line.len());
     for (i, column) in layout.columns.iter().enumerate() {
-        let text = table.field(alloc, number, i)?;
-        let kind = column.kind;
-        let start = draft.take.field;
-        let field = Field { kind, text, start };
-        match read_field(alloc, column, &field, seen, draft.fields.as_slice()) {
-            Ok(condition) => draft.add(field, condition)?,
+        let field = Field {
+            kind: column.kind,
+            text: texts[i],
+            start: take.field,
+        };
+        match read_field(take, column, &field, seen, fields.as_slice()) {
+            Ok(condition) => add_field(fields, take, field, condition)?,
             Err(error) => {
                 let number = number as u32 + 1;
-                return Err(error_at(alloc, layout.name, number, i as u32 + 1, error));
+                return Err(error_at(take.alloc, layout.name, number, i as u32 + 1, error));
             }
         }
     }
@@ -127,15 +119,15 @@ fn read_row<'a>(
 }
 
 /// The key and the struct of a row that is judged.
-fn take_row<K: Key, R: TableRow<K>>(draft: &mut Draft) -> Result<(K, R), NoMemory>
-    requires draft { (row : Row) × IsDraft draft.old row × (all_suit R.layout.columns row ≡ true) }
-    ensures memory { OnOk result (draft.new.take.failed ≡ false) }
-    ensures values { IfOk result (λ e. e ≡ (K.key (values_of draft.old.fields.items), R.value (values_of draft.old.fields.items))) }
+fn take_row<K: Key, R: TableRow<K>>(row: &[Field], take: &mut Take) -> Result<(K, R), NoMemory>
+    requires suits { all_suit R.layout.columns (values_of row.now) ≡ true }
+    requires condition { take.old.condition ≡ last_condition (values_of row.now) }
+    ensures memory { OnOk result (take.new.failed ≡ false) }
+    ensures values { IfOk result (λ e. e ≡ (K.key (values_of row.now), R.value (values_of row.now))) }
 {
-    let row = draft.fields.as_slice();
-    let key = K::of_row(&mut draft.take, row);
-    let value = R::read(&mut draft.take, row);
-    if draft.take.failed {
+    let key = K::of_row(take, row);
+    let value = R::read(take, row);
+    if take.failed {
         return Err(NoMemory);
     }
     Ok((key, value))
@@ -155,6 +147,18 @@ fn asks_keys(columns: &[Column]) -> bool
     columns.iter().any(|column| asks_key(column.rule))
 }
 
+/// A text where a column of this kind holds texts; an empty one elsewhere.
+fn key_text(alloc: Global, kind: Kind, text: &str) -> Result<String, NoMemory>
+    ensures { IfOk result (λ key. string_bytes key ≡ unwrap_or (text_in (option_map (shown_value kind) (text_shown text.now))) []) }
+{
+    let start = 0;
+    let field = Field { kind, text, start };
+    match some_text(&field) {
+        Some(text) => Ok(String::from_str(alloc, text)?),
+        None => Ok(String::new(alloc)),
+    }
+}
+
 /// The text in the first column of a row, from 0; empty where it has none.
 fn key_of(alloc: Global, layout: &Layout, table: &Table, number: usize) -> Result<String, NoMemory>
     requires spelled { IsSpelled table.now }
@@ -165,13 +169,9 @@ fn key_of(alloc: Global, layout: &Layout, table: &Table, number: usize) -> Resul
     let [first, ..] = layout.columns else {
         return Ok(String::new(alloc));
     };
-    let text = table.field(alloc, number, 0)?;
-    let kind = first.kind;
-    let start = 0;
-    let field = Field { kind, text, start };
-    match some_text(&field) {
-        Some(text) => Ok(String::from_str(alloc, text)?),
-        None => Ok(String::new(alloc)),
+    match &table.field(alloc, number, 0)? {
+        Some(text) => key_text(alloc, first.kind, text.as_str()),
+        None => key_text(alloc, first.kind, ""),
     }
 }
 
@@ -192,14 +192,84 @@ fn keys_asked(alloc: Global, layout: &Layout, table: &Table) -> Result<HashSet<S
     Ok(keys)
 }
 
-/// The key and the struct of a row, or the first fault among its values. Rows count from 0 here.
+/// The key and the struct of a row of these texts, or the first fault among its values. Rows count from 0 here.
+fn read_texts<'a, K: Key, R: TableRow<K>>(
+    layout: &Layout,
+    table: &Table,
+    number: usize,
+    texts: &[&'a str],
+    seen: &mut Seen,
+    fields: &mut Vec<Field<'a>>,
+    take: &mut Take,
+) -> Result<(K, R), LoadError>
+    requires is { table_as layout.now ≡ R.layout }
+    requires spelled { IsSpelled table.now }
+    requires columns { begins_with (table_as layout.now).columns (meaning table.now).columns ≡ true }
+    requires in_range { number < vec_len table.now.rows }
+    requires texts { ShowsRow table.now number (map (λ b. b.now) texts.now) }
+    requires knows { (keys : List Name) × KnowsKeys seen.old.keys keys }
+    requires seen { (before : List Row) × IsSeen seen.old before }
+    requires memory { take.old.failed ≡ false }
+    ensures read { (keys : List Name) (before : List Row) → KnowsKeys seen.old.keys keys → IsSeen seen.old before
+        → let row = row_of (table_as layout.now).columns (raw_row table.now number) in
+        Answers ⊥ (row_fault (table_as layout.now) (number + 1) keys before (raw_row table.now number)) (λ e. e ≡ (K.key row, R.value row)) result }
+    ensures seen { OnOk result ((before : List Row) → IsSeen seen.old before → IsSeen seen.new (before ++ row_of (table_as layout.now).columns (raw_row table.now number) ∷ [])) }
+    ensures keys { OnOk result (seen.new.keys ≡ seen.old.keys) }
+    ensures memory { OnOk result (take.new.failed ≡ false) }
+{
+    read_row(layout, table, number, texts, seen, fields, take)?;
+    seen.add(fields.as_slice())?;
+    Ok(take_row(fields.as_slice(), take)?)
+}
+
+/// The texts as slices.
+fn slices_of(alloc: Global, texts: &[String]) -> Result<Vec<&str>, NoMemory>
+    ensures { IfOk result (λ slices. map (λ b. b.now) slices.items ≡ map string_bytes texts.now) }
+{
+    let mut slices = Vec::with_capacity(alloc, texts.len())?;
+    for text in texts {
+        slices.push(text.as_str())?;
+    }
+    Ok(slices)
+}
+
+/// The same of a row of these texts, which stand nowhere in the table.
+fn read_unescaped<K: Key, R: TableRow<K>>(
+    layout: &Layout,
+    table: &Table,
+    number: usize,
+    texts: &[String],
+    seen: &mut Seen,
+    take: &mut Take,
+) -> Result<(K, R), LoadError>
+    requires is { table_as layout.now ≡ R.layout }
+    requires spelled { IsSpelled table.now }
+    requires columns { begins_with (table_as layout.now).columns (meaning table.now).columns ≡ true }
+    requires in_range { number < vec_len table.now.rows }
+    requires texts { ShowsRow table.now number (map string_bytes texts.now) }
+    requires knows { (keys : List Name) × KnowsKeys seen.old.keys keys }
+    requires seen { (before : List Row) × IsSeen seen.old before }
+    requires memory { take.old.failed ≡ false }
+    ensures read { (keys : List Name) (before : List Row) → KnowsKeys seen.old.keys keys → IsSeen seen.old before
+        → let row = row_of (table_as layout.now).columns (raw_row table.now number) in
+        Answers ⊥ (row_fault (table_as layout.now) (number + 1) keys before (raw_row table.now number)) (λ e. e ≡ (K.key row, R.value row)) result }
+    ensures seen { OnOk result ((before : List Row) → IsSeen seen.old before → IsSeen seen.new (before ++ row_of (table_as layout.now).columns (raw_row table.now number) ∷ [])) }
+    ensures keys { OnOk result (seen.new.keys ≡ seen.old.keys) }
+    ensures memory { OnOk result (take.new.failed ≡ false) }
+{
+    let slices = slices_of(take.alloc, texts)?;
+    let mut fields = Vec::new(take.alloc);
+    read_texts(layout, table, number, &slices, seen, &mut fields, take)
+}
+
+/// The same of a row of the table. The texts of one in which nothing is escaped are the table's own.
 fn read_typed<'a, K: Key, R: TableRow<K>>(
-    alloc: Global,
     layout: &Layout,
     table: &Table<'a>,
     number: usize,
     seen: &mut Seen,
-    draft: &mut Draft<'a>,
+    fields: &mut Vec<Field<'a>>,
+    take: &mut Take,
 ) -> Result<(K, R), LoadError>
     requires is { table_as layout.now ≡ R.layout }
     requires spelled { IsSpelled table.now }
@@ -207,27 +277,30 @@ fn read_typed<'a, K: Key, R: TableRow<K>>(
     requires in_range { number < vec_len table.now.rows }
     requires knows { (keys : List Name) × KnowsKeys seen.old.keys keys }
     requires seen { (before : List Row) × IsSeen seen.old before }
-    requires memory { draft.old.take.failed ≡ false }
+    requires memory { take.old.failed ≡ false }
     ensures read { (keys : List Name) (before : List Row) → KnowsKeys seen.old.keys keys → IsSeen seen.old before
         → let row = row_of (table_as layout.now).columns (raw_row table.now number) in
         Answers ⊥ (row_fault (table_as layout.now) (number + 1) keys before (raw_row table.now number)) (λ e. e ≡ (K.key row, R.value row)) result }
     ensures seen { OnOk result ((before : List Row) → IsSeen seen.old before → IsSeen seen.new (before ++ row_of (table_as layout.now).columns (raw_row table.now number) ∷ [])) }
     ensures keys { OnOk result (seen.new.keys ≡ seen.old.keys) }
-    ensures memory { OnOk result (draft.new.take.failed ≡ false) }
+    ensures memory { OnOk result (take.new.failed ≡ false) }
 {
-    read_row(alloc, layout, table, number, seen, draft)?;
-    seen.add(draft.fields.as_slice())?;
-    Ok(take_row(draft)?)
+    match table.plain_row(number) {
+        Some(texts) => read_texts(layout, table, number, texts, seen, fields, take),
+        None => {
+            let texts = table.unescaped_row(take.alloc, number)?;
+            read_unescaped(layout, table, number, &texts, seen, take)
+        }
+    }
 }
 
 /// Reads the rows of a table that has the columns of its layout into a map without rows, or refuses with the first fault
 /// among them. `seen` knows the keys that are asked for, and no rows.
-fn fill_rows<'a, K: Key, R: TableRow<K>>(
-    alloc: Global,
+fn fill_rows<K: Key, R: TableRow<K>>(
     layout: &Layout,
-    table: &Table<'a>,
+    table: &Table,
     seen: &mut Seen,
-    draft: &mut Draft<'a>,
+    take: &mut Take,
     rows: &mut IndexMap<K, R>,
 ) -> Result<(), LoadError>
     requires is { table_as layout.now ≡ R.layout }
@@ -236,13 +309,14 @@ fn fill_rows<'a, K: Key, R: TableRow<K>>(
     requires apart { KeysTell K.eq K.key R.layout.columns }
     requires knows { KnowsKeys seen.old.keys (keys_asked (table_as layout.now) (meaning table.now)) }
     requires seen { IsSeen seen.old [] }
-    requires memory { draft.old.take.failed ≡ false }
+    requires memory { take.old.failed ≡ false }
     requires none { rows.old.entries ≡ [] }
     ensures { let read = rows_in (table_as layout.now) (meaning table.now) in
         Answers ⊥ (rows_fault (table_as layout.now) (keys_of read) [] 1 (meaning table.now).rows) (λ _. rows.new.entries ≡ keyed K.key R.value read) result }
 {
+    let mut fields = Vec::new(take.alloc);
     for number in 0..table.rows.len() {
-        let (key, row) = read_typed(alloc, layout, table, number, seen, draft)?;
+        let (key, row) = read_typed(layout, table, number, seen, &mut fields, take)?;
         rows.insert(key, row)?;
     }
     Ok(())
@@ -269,12 +343,9 @@ pub fn read_rows<K: Key, R: TableRow<K>>(
         return Err(LoadError::NoMemory);
     };
     let mut seen = Seen::new(alloc, keys);
-    let mut draft = Draft {
-        fields: Vec::new(alloc),
-        take: Take::new(alloc, whole),
-    };
-    let filled = fill_rows(alloc, layout, table, &mut seen, &mut draft, &mut rows);
-    drop(draft);
+    let mut take = Take::new(alloc, whole);
+    let filled = fill_rows(layout, table, &mut seen, &mut take, &mut rows);
+    drop(take);
     drop(seen);
     match filled {
         Ok(()) => Ok(rows),

@@ -45,7 +45,7 @@ pub fn lacks(bits: u32, number: i32) -> bool
 fn is_within(low: i32, high: i32, field: &Field) -> bool
     ensures { result ≡ (is_none (field_value field.now) || (int_le low (number_in (field_value field.now)) && int_le (number_in (field_value field.now)) high)) }
 {
-    if field.text.is_none() {
+    if field.text.is_empty() {
         return true;
     }
     let number = some_number(field).unwrap_or(0);

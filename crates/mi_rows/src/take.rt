@@ -29,9 +29,9 @@ fn fourth_line(bytes: &[u8]) -> usize {
 /// out it gives empty texts from then on, and keeps that it did, so that a struct is made of it without a way out.
 #[derive(Drop)]
 pub struct Take {
-    alloc: Global,
+    pub alloc: Global,
     /// The text of the table.
-    whole: Rc<String>,
+    pub whole: Rc<String>,
     /// Where the line of the next row begins in it, in bytes.
     line: usize,
     /// Where the next field of the row begins in it, in bytes.

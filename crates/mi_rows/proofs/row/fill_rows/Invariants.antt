@@ -14,6 +14,6 @@ invariant-loop-number g l = record {
   suit : each_suits (table_as l.layout).columns (map (row_of (table_as l.layout).columns) (take l.number (meaning l.table).rows)) ≡ true;
   seen : IsSeen l.seen (map (row_of (table_as l.layout).columns) (take l.number (meaning l.table).rows));
   knows : KnowsKeys l.seen.keys (keys_asked (table_as l.layout) (meaning l.table));
-  memory : l.draft.take.failed ≡ false;
+  memory : l.take.failed ≡ false;
   fault : SameRows (table_as l.layout) (keys_asked (table_as l.layout) (meaning l.table)) (meaning l.table).rows l.number;
 }
