@@ -12,7 +12,7 @@ use Rattle.mi_base.specs.declared.answers.Fault.TheVariants.{Executable}
 use Rattle.mi_dirs.specs.Places.{Place, is_named, row_of}
 use Rattle.mi_schema.specs.declared.typed_rows.CustomActionRow.{CustomActionRow}
 use Rattle.mi_schema.specs.declared.typed_rows.DirectoryRow.{DirectoryRow}
-use Rattle.mi_schema.specs.References.{sets_directory}
+use Rattle.mi_schema.specs.Dangling.{sets_directory}
 use Rattle.mi_schema.specs.RowsOf.{behind}
 use Rattle.mi_schema.specs.TableRows.{Rows, Numbered, numbered_from}
 use Rattle.mi_model.specs.Texts.{Text}

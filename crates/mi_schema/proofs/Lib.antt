@@ -4,7 +4,6 @@ pub mod ChainLaws
 pub mod CheckLemmas
 pub mod ComponentLemmas
 pub mod ConditionFaults
-pub mod Dangling
 pub mod FolderLemmas
 pub mod KnownTables
 pub mod LawfulLaws

@@ -30,8 +30,9 @@ use Rattle.mi_schema.specs.declared.package.Package.{Package}
 use Rattle.mi_schema.specs.Checks.{Content, rows_at, chain_fault, companion_of, parent_of_directory, first_fault, missing_property}
 use Rattle.mi_schema.specs.Tables.{Listed, Loaded, table_of, listed, layout_of, required_properties}
 use Rattle.mi_schema.proofs.KnownTables.{component, condition, create_folder, custom_action, directory, duplicate_file, environment, feature, feature_components, file, install_execute_sequence, launch_condition, msi_file_hash, property, registry, remove_file, remove_registry, shortcut, summary_information, upgrade}
-use Rattle.mi_schema.specs.References.{keys_in, names, may_name, must_name, key_path_target, sets_directory, rows_dangling, table_dangling}
-use Rattle.mi_schema.proofs.Dangling.{component_dangling, condition_dangling, create_folder_dangling, custom_action_dangling, directory_dangling, duplicate_file_dangling, environment_dangling, feature_dangling, feature_components_dangling, file_dangling, msi_file_hash_dangling, registry_dangling, remove_file_dangling, remove_registry_dangling, shortcut_dangling}
+use Rattle.mi_schema.specs.Dangling.{keys_in, names, may_name, must_name, key_path_target, sets_directory}
+use Rattle.mi_schema.specs.References.{rows_dangling, table_dangling}
+use Rattle.mi_schema.specs.Dangling.{component_dangling, condition_dangling, create_folder_dangling, custom_action_dangling, directory_dangling, duplicate_file_dangling, environment_dangling, feature_dangling, feature_components_dangling, file_dangling, msi_file_hash_dangling, registry_dangling, remove_file_dangling, remove_registry_dangling, shortcut_dangling}
 use Rattle.mi_schema.specs.RowsOf.{rows_in, behind, AreNamed, HoldsAll}
 use Rattle.mi_schema.specs.Source.{has_attributes, is_source_compressed, has_short_names}
 use Rattle.mi_schema.specs.TableRows.{Rows}

@@ -15,7 +15,8 @@ use Rattle.mi_base.specs.declared.answers.Fault.TheVariants.{Reference}
 use Rattle.mi_schema.specs.declared.known.Target.{Target}
 use Rattle.mi_schema.specs.Checks.{Content, rows_at}
 use Rattle.mi_schema.specs.Laws.{EachRow}
-use Rattle.mi_schema.specs.References.{keys_in, names, may_name, must_name, first_dangling}
+use Rattle.mi_schema.specs.Dangling.{keys_in, names, may_name, must_name}
+use Rattle.mi_schema.specs.References.{first_dangling}
 use Rattle.mi_schema.specs.RowsOf.{behind}
 use Rattle.mi_rows.specs.Typed.{keyed}
 use Rattle.mi_schema.specs.TableRows.{Rows}

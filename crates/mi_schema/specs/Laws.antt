@@ -17,7 +17,7 @@ use Rattle.mi_schema.specs.declared.package.Package.{Package}
 use Rattle.mi_rows.specs.Rows.{spelled_value}
 use Rattle.mi_rows.specs.Columns.{Table}
 use Rattle.mi_schema.specs.Checks.{companion_of, parent_of_directory}
-use Rattle.mi_schema.specs.References.{sets_directory}
+use Rattle.mi_schema.specs.Dangling.{sets_directory}
 use Rattle.mi_schema.specs.RowsOf.{behind}
 use Rattle.mi_schema.specs.Source.{word_count as count_of, has_attributes}
 use Rattle.mi_rows.specs.Texts.{is_decimal, are_languages, is_language, is_product_code, is_value_of}

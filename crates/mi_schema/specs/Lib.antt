@@ -2,6 +2,7 @@ pub mod Checks
 pub mod Lawful
 pub mod Laws
 pub mod Loaded
+pub mod Dangling
 pub mod References
 pub mod RowsOf
 pub mod Source

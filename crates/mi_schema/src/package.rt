@@ -47,7 +47,7 @@ macro_rules! without_rows {
 impl Package {
     ghost use Rattle.std.specs.Prelude.{◌≡◌, None};
     ghost use Rattle.mi_schema.specs.RowsOf.{HoldsAll, rows_in, AreNamed};
-    ghost use Rattle.mi_schema.specs.References.{keys_in};
+    ghost use Rattle.mi_schema.specs.Dangling.{keys_in};
     ghost use Rattle.mi_rows.specs.Values.{is_key_in};
 
     /// A package without rows.

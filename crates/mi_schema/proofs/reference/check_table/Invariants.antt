@@ -1,11 +1,10 @@
-use Rattle.std.proofs.Common.{◌≡◌, ◌+◌, ℕ, Option, length}
+use Rattle.std.proofs.Common.{◌≡◌, ◌+◌, length}
 use Rattle.mi_schema.specs.References.{first_dangling}
-use Rattle.mi_schema.specs.RowsOf.{behind}
+use Rattle.mi_schema.specs.RowsOf.{rows_in, behind}
 use Rattle.mi_schema.proofs.reference.check_table.Given as goal
 
 abbrev pub invariant-loop-row : goal.invariant-loop-row
 invariant-loop-row g l = record {
-  callable : goal.F-IsAlwaysCallable g l.dangling;
   counted : l.number + length l.row-iterator ≡ length l.rows.entries + 1;
-  same : (dangles : _ → Option ℕ) → ((r : _) (o : _) → goal.F-post g l.dangling r o → o ≡ dangles r.now) → first_dangling l.table dangles l.number l.row-iterator ≡ first_dangling l.table dangles 1 (behind l.rows.entries);
+  same : first_dangling l.table (g.R.Refers.dangling (rows_in l.loaded)) l.number l.row-iterator ≡ first_dangling l.table (g.R.Refers.dangling (rows_in l.loaded)) 1 (behind l.rows.entries);
 }

@@ -1,5 +1,5 @@
 use Rattle.std.proofs.Common.{sym, ap, ◌∙◌}
-use Rattle.mi_schema.specs.References.{keys_in}
+use Rattle.mi_schema.specs.Dangling.{keys_in}
 use Rattle.mi_schema.specs.RowsOf.{rows_in}
 use Rattle.mi_rows.specs.Values.{is_key_in}
 use Rattle.mi_schema.proofs.CheckLemmas.{has_key}

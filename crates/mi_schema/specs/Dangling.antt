@@ -1,11 +1,45 @@
--- Of each table that names rows, the first column of a row that names one that isn't there.
-use Rattle.std.proofs.Common.{ℕ, Option, None}
-use Rattle.std.specs.Prelude.{if◌then◌else◌}
+-- Of each table that names rows, the first column of a row, from 1, that names one that isn't there. (Database Tables;
+-- Component table, KeyPath; Custom Action Type 35.)
+use Rattle.std.specs.Prelude.{ℕ, ℤ, ◌==◌, Bool, if◌then◌else◌, List, map, bit_and, Option, Some, None}
+use Rattle.mi_text.specs.Maps.{Name}
+use Rattle.mi_schema.specs.declared.known.Target.{Target}
 use Rattle.mi_schema.specs.declared.known.Target.TheVariants as of
-use Rattle.mi_schema.specs.References.{names, may_name, must_name, key_path_target, sets_directory}
 use Rattle.mi_rows.specs.Rows.{◌or_else◌}
+use Rattle.mi_rows.specs.Values.{bits_of, lacks, is_key_in}
 use Rattle.mi_schema.specs.TableRows.{Rows}
 use Rattle.mi_schema.specs.TypedRows.{ComponentRow, ConditionRow, CreateFolderRow, CustomActionRow, DirectoryRow, DuplicateFileRow, EnvironmentRow, FeatureRow, FeatureComponentsRow, FileRow, MsiFileHashRow, RegistryRow, RemoveFileRow, RemoveRegistryRow, ShortcutRow}
+
+-- the keys of a table that other tables name
+abbrev pub keys_in : Rows → Target → List Name
+keys_in rows of.Component = map (λ r. r.component) rows.component
+keys_in rows of.Directory = map (λ r. r.directory) rows.directory
+keys_in rows of.Feature = map (λ r. r.feature) rows.feature
+keys_in rows of.File = map (λ r. r.file) rows.file
+keys_in rows of.Registry = map (λ r. r.registry) rows.registry
+
+-- ---- the column, from 1, unless the row that it names is there
+
+abbrev pub names : Rows → Target → ℕ → Name → Option ℕ
+names rows target column key = if is_key_in (keys_in rows target) key then None else Some column
+
+-- a null names no row
+abbrev pub may_name : Rows → Target → ℕ → Option Name → Option ℕ
+may_name rows target column None = None
+may_name rows target column (Some key) = names rows target column key
+
+abbrev pub must_name : Rows → Target → ℕ → Option Name → Option ℕ
+must_name rows target column None = Some column
+must_name rows target column (Some key) = names rows target column key
+
+-- ---- the first column of each row that names a row that isn't there
+
+-- a component's key path is a value of the registry where attribute 4 is set
+abbrev pub key_path_target : ComponentRow → Target
+key_path_target r = if lacks 4 r.attributes then of.File else of.Registry
+
+-- an action that sets a directory
+abbrev pub sets_directory : ℤ → Bool
+sets_directory kind = bit_and (bits_of kind) 63 == 35
 
 abbrev pub component_dangling : Rows → ComponentRow → Option ℕ
 component_dangling rows r = names rows of.Directory 3 r.directory or_else may_name rows (key_path_target r) 6 r.key_path
