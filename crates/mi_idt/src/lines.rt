@@ -1,11 +1,11 @@
 //! Lines and their fields.
 
-ghost use Rattle.std.specs.Prelude.{◌≡◌, ◌==◌, ◌++◌, ◌≤◌, IfOk, OnOk, length, map, count_by};
+ghost use Rattle.std.specs.Prelude.{◌≡◌, ◌==◌, ◌++◌, IfOk, OnOk, length, map, count_by};
 ghost use Rattle.std.specs.List.{slice_split};
 ghost use Rattle.std.specs.Str.Lines.{lines, strip_carriage_return};
 ghost use Rattle.mi_idt.specs.Fields.{fields_of, is_ascii};
 
-use memchr::memchr;
+use memchr::{memchr, memchr_iter};
 use std::alloc::{AllocError, Global};
 
 /// The parts between the bytes that equal `mark`, with room for `room` of them.
@@ -47,33 +47,11 @@ pub fn text_fields(alloc: Global, line: &str, count: usize) -> Result<Vec<&str>,
     Ok(fields)
 }
 
-/// The bytes that are counted at a time, so that a byte holds their number.
-const PIECE: usize = 255;
-
-/// How many bytes of a piece equal `mark`. The compiler counts sixteen at a time, since the number is a byte.
-fn count_in(piece: &[u8], mark: u8) -> u8
-    requires { length piece.now ≤ 255 }
-    ensures { result ≡ count_by (λ b. b == mark) piece.now }
-{
-    let mut count = 0u8;
-    for byte in piece {
-        count += u8::from(*byte == mark);
-    }
-    count
-}
-
 /// How many bytes equal `mark`.
 pub fn count(bytes: &[u8], mark: u8) -> usize
     ensures { result ≡ count_by (λ b. b == mark) bytes.now }
 {
-    let mut count = 0;
-    let mut rest = bytes;
-    while rest.len() > PIECE {
-        let (piece, behind) = rest.split_at(PIECE);
-        count += usize::from(count_in(piece, mark));
-        rest = behind;
-    }
-    count + usize::from(count_in(rest, mark))
+    memchr_iter(mark, bytes).count()
 }
 
 /// How many fields a line has.

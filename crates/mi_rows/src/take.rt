@@ -29,6 +29,7 @@ fn fourth_line(bytes: &[u8]) -> usize {
 /// out it gives empty texts from then on, and keeps that it did, so that a struct is made of it without a way out.
 #[derive(Drop)]
 pub struct Take {
+    /// What takes the memory of the values.
     pub alloc: Global,
     /// The text of the table.
     pub whole: Rc<String>,
