@@ -8,13 +8,13 @@ use Rattle.std.proofs.lemmas.Slice.Eq.{bytes_eq-Decides}
 use Rattle.std.proofs.lemmas.List.{map-append, append-nil}
 use Rattle.mi_text.specs.Fold.{folded}
 use Rattle.mi_cond.proofs.Basics.{and_true, or_true, push-is_empty}
-use Rattle.mi_cond.specs.declared.node.Operator.{Operator}
-use Rattle.mi_cond.specs.declared.node.Operator.TheVariants as op
-use Rattle.mi_cond.specs.declared.node.Relation.{Relation}
-use Rattle.mi_cond.specs.declared.node.Relation.TheVariants as relation
-use Rattle.mi_cond.specs.declared.node.Comparison.{Comparison}
-use Rattle.mi_cond.specs.declared.node.Value.{Value}
-use Rattle.mi_cond.specs.declared.node.Value.TheVariants as value
+use Rattle.mi_cond.specs.declared.operand.Operator.{Operator}
+use Rattle.mi_cond.specs.declared.operand.Operator.TheVariants as op
+use Rattle.mi_cond.specs.declared.operand.Relation.{Relation}
+use Rattle.mi_cond.specs.declared.operand.Relation.TheVariants as relation
+use Rattle.mi_cond.specs.declared.operand.Comparison.{Comparison}
+use Rattle.mi_cond.specs.declared.operand.Value.{Value}
+use Rattle.mi_cond.specs.declared.operand.Value.TheVariants as value
 use Rattle.mi_cond.specs.declared.token.Mark.{Mark}
 use Rattle.mi_cond.specs.declared.token.Mark.TheVariants as mark
 use Rattle.mi_cond.specs.declared.token.Token.{Token}
@@ -22,8 +22,8 @@ use Rattle.mi_cond.specs.declared.token.Token.TheVariants.{Close, Negate, Join, 
 use Rattle.mi_cond.specs.Tree.{Tree, Alone, Compare}
 use Rattle.mi_cond.specs.Integer.{signed}
 use Rattle.mi_cond.specs.Lex.{is_name_byte, is_keyword, keyword, all_ops, operator_in, is_good}
-use Rattle.mi_cond.specs.Steps.{Frame, negated, whole, depth, State, Wants, HasValue, WantsRight, Has, depth_at, joins, step}
-use Rattle.mi_cond.specs.Moves.{Mode, Nothing, InWord, InSymbol, InLiteral, AfterMinus, InDigits, AfterTilde, InComparison, Move, Grows, Takes, Leaves, Wrong, named, relation_with, begin, move, Place, begins_with, begins_operator, wants_value, has_value, may_stand, within, between, or_property, word}
+use Rattle.mi_cond.specs.Steps.{Frame, negated, whole, depth, State, Wants, HasValue, WantsRight, Has, depth_at, joins, step, wants_value, has_value}
+use Rattle.mi_cond.specs.Moves.{Mode, Nothing, InWord, InSymbol, InLiteral, AfterMinus, InDigits, AfterTilde, InComparison, Move, Grows, Takes, Leaves, Wrong, named, relation_with, begin, move, Place, begins_with, begins_operator, may_stand, within, between, or_property, word}
 use Rattle.mi_cond.proofs.Runs.{limited, step_to, run}
 use Rattle.mi_cond.proofs.Complete.{NoCompare, goes, settles}
 use Rattle.mi_cond.proofs.Lexer.{then_token, tokens_in, first_to, after_to, byte_to, bytes_to, read_in, read}

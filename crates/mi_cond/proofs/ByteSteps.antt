@@ -9,19 +9,19 @@ use Rattle.std.proofs.lemmas.List.{map-append}
 use Rattle.std.specs.Char.{to_ascii_lowercase}
 use Rattle.mi_text.specs.Fold.{folded}
 use Rattle.mi_cond.proofs.Basics.{or_false}
-use Rattle.mi_cond.specs.declared.node.Operator.{Operator}
-use Rattle.mi_cond.specs.declared.node.Relation.{Relation}
-use Rattle.mi_cond.specs.declared.node.Comparison.{Comparison}
-use Rattle.mi_cond.specs.declared.node.Value.{Value}
-use Rattle.mi_cond.specs.declared.node.Value.TheVariants as value
+use Rattle.mi_cond.specs.declared.operand.Operator.{Operator}
+use Rattle.mi_cond.specs.declared.operand.Relation.{Relation}
+use Rattle.mi_cond.specs.declared.operand.Comparison.{Comparison}
+use Rattle.mi_cond.specs.declared.operand.Value.{Value}
+use Rattle.mi_cond.specs.declared.operand.Value.TheVariants as value
 use Rattle.mi_cond.specs.declared.token.Mark.{Mark}
 use Rattle.mi_cond.specs.declared.token.Token.{Token}
 use Rattle.mi_cond.specs.declared.token.Token.TheVariants.{Negate, Operand, Compare as Compares}
 use Rattle.mi_cond.specs.Tree.{Tree}
 use Rattle.mi_cond.specs.Integer.{is_digit, signed}
 use Rattle.mi_cond.specs.Lex.{is_name_byte, keyword, all_ops, operator_in, is_good}
-use Rattle.mi_cond.specs.Steps.{State, Wants, HasValue, WantsRight, Has, step}
-use Rattle.mi_cond.specs.Moves.{Mode, Nothing, InWord, InSymbol, InLiteral, AfterMinus, InDigits, AfterTilde, InComparison, Move, Grows, Takes, Leaves, Wrong, named, relation_by, relation_with, finished, left, compares, begin, move, Place, begins_with, begins_operator, wants_value, has_value, may_stand, within, between, or_property, word}
+use Rattle.mi_cond.specs.Steps.{State, Wants, HasValue, WantsRight, Has, step, wants_value, has_value}
+use Rattle.mi_cond.specs.Moves.{Mode, Nothing, InWord, InSymbol, InLiteral, AfterMinus, InDigits, AfterTilde, InComparison, Move, Grows, Takes, Leaves, Wrong, named, relation_by, relation_with, finished, left, compares, begin, move, Place, begins_with, begins_operator, may_stand, within, between, or_property, word}
 use Rattle.mi_cond.proofs.Runs.{limited, step_to, run}
 use Rattle.mi_cond.proofs.Lexer.{then_token, first, after_move, one_token, ended, tokens_in, first_to, after_to, byte_to, bytes_to, read}
 

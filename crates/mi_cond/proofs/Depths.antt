@@ -1,15 +1,15 @@
 -- The nesting of brackets, and the steps at it.
-use Rattle.std.proofs.Common.{◌≡◌, ◌≢◌, ◌+◌, List, [], ◌∷◌, ◌++◌, map, reverse, Option, Some, None, refl, sym, ap, ◌∙◌, arith}
-use Rattle.std.proofs.lemmas.List.{reverse-append, reverse-reverse}
+use Rattle.std.specs.Prelude.{Bool}
+use Rattle.std.proofs.Common.{◌≡◌, ◌+◌, ◌≤◌, length, List, [], ◌∷◌, map, reverse, refl, ap, ◌∙◌, arith}
+use Rattle.std.proofs.lemmas.List.{reverse-append}
 use Rattle.std.proofs.lemmas.List.Sums.{sum_by-append, sum_by-cons}
 use Rattle.mi_cond.specs.declared.bracket.Bracket.{Bracket}
-use Rattle.mi_cond.specs.declared.token.Token.TheVariants as token
-use Rattle.mi_cond.specs.Tree.{Tree}
-use Rattle.mi_cond.specs.Steps.{Frame, fresh, depth, Wants, step, ends}
+use Rattle.mi_cond.specs.Steps.{FrameOf, depth, depth_at}
+use Rattle.mi_cond.specs.declared.reader.Reader.{Reader}
+use Rattle.mi_cond.specs.declared.reader.Stage.{Stage}
+use Rattle.mi_cond.specs.declared.reader.Stage.TheVariants as stage
+use Rattle.mi_cond.specs.States.{at_stage, state_of}
 use Rattle.mi_cond.specs.Brackets.{frame_of, frames_of, depth_of}
-
-pub frames_of-push : (bs : List Bracket) (b : Bracket) → frames_of (bs ++ b ∷ []) ≡ frame_of b ∷ frames_of bs
-frames_of-push bs b = ap (map frame_of) (reverse-append bs (b ∷ []))
 
 depth_front : (bs : List Bracket) → depth (map frame_of bs) ≡ depth_of bs
 depth_front [] = refl
@@ -24,14 +24,19 @@ depth_of-reverse (b ∷ bs) =
 pub depth-frames_of : (bs : List Bracket) → depth (frames_of bs) ≡ depth_of bs
 depth-frames_of bs = depth_front (reverse bs) ∙ depth_of-reverse bs
 
-pub opens : (bs cs : List Bracket) (b n : Bracket) → cs ≡ bs ++ b ∷ [] → frame_of n ≡ fresh → step (Wants (frames_of bs) (frame_of b)) token.Open ≡ Some (Wants (frames_of cs) (frame_of n))
-opens bs cs b n e f = sym (ap (λ (fr : Frame). Some (Wants (frames_of cs) fr)) f ∙ ap (λ (below : List Frame). Some (Wants below fresh)) (ap frames_of e ∙ frames_of-push bs b))
+-- each open bracket is one level
+pub open_within : (bs : List Bracket) → length bs ≤ depth_of bs
+open_within [] = omega arith
+open_within (b ∷ bs) = omega (arith, open_within bs, sum_by-cons (λ (x : Bracket). x.nots + 1) b bs)
 
-none_under : (xs : List Bracket) (rows : List (Option Tree)) (t : Tree) → xs ≢ [] → ends (map frame_of xs) rows t ≡ None
-none_under [] rows t ne = absurd (ne refl)
-none_under (x ∷ xs) rows t ne = refl
+deep_stage : (below : List (FrameOf Bool)) (top : FrameOf Bool) (g : Stage) → depth below ≤ depth_at (at_stage below top g)
+deep_stage below top stage.Wants = omega arith
+deep_stage below top (stage.Value v) = omega arith
+deep_stage below top (stage.Compares l c) = omega arith
+deep_stage below top (stage.Has b) = omega arith
 
-pub not_ended : (bs : List Bracket) (rows : List (Option Tree)) (t : Tree) → bs ≢ [] → ends (frames_of bs) rows t ≡ None
-not_ended bs rows t ne = none_under (reverse bs) rows t (λ e. ne (sym (reverse-reverse bs) ∙ ap reverse e))
+-- no more brackets are open than it is deep
+pub open_depth : (r : Reader) → length r.below.items ≤ depth_at (state_of r)
+open_depth r = omega (arith, open_within r.below.items, depth-frames_of r.below.items, deep_stage (frames_of r.below.items) (frame_of r.top) r.stage)
 
 pub ruleset depths = (depth-frames_of)

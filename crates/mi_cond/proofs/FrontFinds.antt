@@ -1,6 +1,6 @@
 -- The functions that read the front of a text find what stands there.
-use Rattle.std.proofs.Common.{◌≡◌, ℕ, zero, suc, ◌+◌, ◌*◌, ◌-◌, ◌<◌, ◌≤◌, leb, eqb, Bool, true, false, cond, ◌&&◌, length, take, drop, get_or, List, [], ◌∷◌, Some, None, Result, Ok, Err, refl, sym, ap, subst, ◌∙◌, arith, inl, inr}
-use Rattle.std.specs.Prelude.{nat_lt, IfOk}
+use Rattle.std.proofs.Common.{◌≡◌, ℕ, zero, suc, ◌+◌, ◌*◌, ◌-◌, ◌<◌, ◌≤◌, leb, eqb, Bool, true, false, cond, ◌&&◌, length, take, drop, get_or, List, [], ◌∷◌, Some, None, refl, sym, ap, subst, ◌∙◌, arith, inl, inr}
+use Rattle.std.specs.Prelude.{nat_lt}
 use Rattle.std.proofs.lemmas.Bool.{cases_Bool, cases_eq, eqb-true, le-leb, lt-leb}
 use Rattle.std.proofs.lemmas.Bool.Decides.{nat_tests}
 use Rattle.std.proofs.lemmas.List.{drop_more, drop_all, length-drop, length-map, take-map}
@@ -8,9 +8,8 @@ use Rattle.std.specs.Char.{to_ascii_lowercase}
 use Rattle.std.specs.List.{list_all}
 use Rattle.std.specs.Str.{IsAscii, bytes_eq}
 use Rattle.mi_text.specs.Fold.{folded}
-use Rattle.mi_text.specs.declared.text.NoMemory.{NoMemory}
 use Rattle.mi_cond.proofs.Basics.{and_true}
-use Rattle.mi_cond.specs.declared.node.Value.TheVariants as value
+use Rattle.mi_cond.specs.declared.operand.Value.TheVariants as value
 use Rattle.mi_cond.specs.declared.token.Mark.{Mark}
 use Rattle.mi_cond.specs.declared.token.Token.{Token}
 use Rattle.mi_cond.specs.declared.token.Token.TheVariants.{Operand}
@@ -19,8 +18,8 @@ use Rattle.mi_cond.specs.declared.front.Front.TheVariants as front
 use Rattle.mi_cond.proofs.Lexis.{begin-letter}
 use Rattle.mi_cond.specs.Integer.{is_digit, signed}
 use Rattle.mi_cond.specs.Lex.{is_blank, is_letter, is_name_byte, are_name_bytes, all_ops}
-use Rattle.mi_cond.specs.Steps.{State, Wants, HasValue, WantsRight, Has}
-use Rattle.mi_cond.specs.Moves.{Mode, InWord, InSymbol, InLiteral, InDigits, Move, Grows, Wrong, named, begins_with, begin, word, begins_operator, wants_value, has_value, may_stand, within, first_at}
+use Rattle.mi_cond.specs.Steps.{State, Wants, HasValue, WantsRight, Has, wants_value, has_value}
+use Rattle.mi_cond.specs.Moves.{Mode, InWord, InSymbol, InLiteral, InDigits, Move, Grows, Wrong, named, begins_with, begin, word, begins_operator, may_stand, within, first_at}
 use Rattle.mi_cond.specs.Fronts.{front_length, is_plain, Follows, IsAt, WantsValue, WantsOperator, digits_front}
 use Rattle.mi_cond.proofs.FrontLaws.{begins_at, in_mode, literal_dies, literal_is, operator_dies, refused_at, symbol_dies, symbol_is, word_is}
 
@@ -214,16 +213,11 @@ pub at_start : (rest : List ℕ) (m : Mode) (Such : State → Type 0) (f : Front
 at_start [] m Such f some e stands follows = absurd (omega arith)
 at_start (b ∷ bs) m Such f some e stands follows = begins_at b bs m Such f e stands follows
 
-pub if_start : (rest : List ℕ) (m : Mode) (Such : State → Type 0) (r : Result Front NoMemory) → 0 < length rest → begin (get_or rest 0 0) ≡ Grows m → ((s : State) → Such s → may_stand s m ≡ true)
-    → IfOk r (λ f. Follows 1 m Such rest f) → IfOk r (λ f. IsAt Such rest f)
-if_start rest m Such (Ok f) some e stands follows = at_start rest m Such f some e stands follows
-if_start rest m Such (Err x) some e stands follows = tt
-
 -- a word begins with its first byte
-pub if_word : (rest : List ℕ) (Such : State → Type 0) (r : Result Front NoMemory) → 0 < length rest → is_letter (get_or rest 0 0) ≡ true → ((s : State) → Such s → may_stand s (InWord (take 1 rest)) ≡ true)
-    → IfOk r (λ f. Follows 1 (InWord (take 1 rest)) Such rest f) → IfOk r (λ f. IsAt Such rest f)
-if_word [] Such r some is stands follows = absurd (omega arith)
-if_word (b ∷ bs) Such r some is stands follows = if_start (b ∷ bs) (InWord (b ∷ [])) Such r some (begin-letter b is) stands follows
+pub at_word : (rest : List ℕ) (Such : State → Type 0) (f : Front) → 0 < length rest → is_letter (get_or rest 0 0) ≡ true → ((s : State) → Such s → may_stand s (InWord (take 1 rest)) ≡ true)
+    → Follows 1 (InWord (take 1 rest)) Such rest f → IsAt Such rest f
+at_word [] Such f some is stands follows = absurd (omega arith)
+at_word (b ∷ bs) Such f some is stands follows = at_start (b ∷ bs) (InWord (b ∷ [])) Such f some (begin-letter b is) stands follows
 
 pub letter_first : (rest : List ℕ) → 0 < length rest → is_letter (get_or rest 0 0) ≡ true → 0 < front_length is_name_byte rest
 letter_first [] some is = absurd (omega arith)
@@ -250,10 +244,6 @@ wants_not_has (Has below rows t) e = absurd cc
 
 pub at_such : (A B : State → Type 0) (rest : List ℕ) (f : Front) → ((s : State) → B s → A s) → IsAt A rest f → IsAt B rest f
 at_such A B rest f h is = record { within = is.within; reads = λ at s b. is.reads at s (h s b) }
-
-pub if_such : (A B : State → Type 0) (rest : List ℕ) (r : Result Front NoMemory) → ((s : State) → B s → A s) → IfOk r (λ f. IsAt A rest f) → IfOk r (λ f. IsAt B rest f)
-if_such A B rest (Ok f) h is = at_such A B rest f h is
-if_such A B rest (Err x) h is = tt
 
 pub digit_stands : (s : State) (negative : Bool) (b : ℕ) → wants_value s ≡ true → is_digit b ≡ true → may_stand s (InDigits negative (b - 48)) ≡ true
 digit_stands s negative b w is = let nine : leb (b - 48) 2147483647 ≡ true = grind (arith, nat_tests) in rw w nine

@@ -7,10 +7,10 @@ use Rattle.std.proofs.lemmas.List.{append-nil, drop_more, drop_all, length-drop}
 use Rattle.mi_text.specs.Fold.{folded}
 use Rattle.mi_cond.specs.declared.error.CondFault.{CondFault}
 use Rattle.mi_cond.specs.declared.error.CondFault.TheVariants.{Syntax, TooDeep}
-use Rattle.mi_cond.specs.declared.node.Relation.{Relation}
-use Rattle.mi_cond.specs.declared.node.Relation.TheVariants as relation
-use Rattle.mi_cond.specs.declared.node.Comparison.{Comparison}
-use Rattle.mi_cond.specs.declared.node.Value.TheVariants as value
+use Rattle.mi_cond.specs.declared.operand.Relation.{Relation}
+use Rattle.mi_cond.specs.declared.operand.Relation.TheVariants as relation
+use Rattle.mi_cond.specs.declared.operand.Comparison.{Comparison}
+use Rattle.mi_cond.specs.declared.operand.Value.TheVariants as value
 use Rattle.mi_cond.specs.declared.token.Mark.{Mark}
 use Rattle.mi_cond.specs.declared.token.Token.{Token}
 use Rattle.mi_cond.specs.declared.token.Token.TheVariants.{Operand, Compare as Compares}
@@ -21,10 +21,9 @@ use Rattle.mi_cond.proofs.ByteSteps.{pick}
 use Rattle.mi_cond.proofs.Lexis.{BeginSpelt, begin_spelt, begin-blank}
 use Rattle.mi_cond.specs.Integer.{is_digit, signed, is_empty}
 use Rattle.mi_cond.specs.Lex.{is_blank, is_name_byte, all_ops}
-use Rattle.mi_cond.specs.Steps.{State, Wants, HasValue, WantsRight, Has, negated, depth_at, step, end_of}
-use Rattle.mi_cond.specs.Moves.{Mode, InWord, InSymbol, InLiteral, AfterMinus, InDigits, AfterTilde, InComparison, Move, Grows, Takes, Leaves, Wrong, Place, named, relation_by, relation_with, finished, left, compares, begin, move, word, begins_operator, wants_value, may_stand, within, between, first_at, after, end_in}
+use Rattle.mi_cond.specs.Steps.{State, Wants, HasValue, WantsRight, Has, negated, depth_at, step, end_of, wants_value}
+use Rattle.mi_cond.specs.Moves.{Mode, InWord, InSymbol, InLiteral, AfterMinus, InDigits, AfterTilde, InComparison, Move, Grows, Takes, Leaves, Wrong, Place, named, relation_by, relation_with, finished, left, compares, begin, move, word, begins_operator, may_stand, within, between, first_at, after, end_in}
 use Rattle.mi_cond.specs.Answer.{ended, shallow, goes_on, read_from}
-use Rattle.mi_cond.specs.Rooms.{deepest}
 use Rattle.mi_cond.specs.Fronts.{front_length, read_at, left_at, by_front, IsLong, IsWithin, Follows, IsAt, WantsValue, WantsOperator, ComparesValue, digits_front}
 
 abbrev pub Answer : Type 0
@@ -620,6 +619,6 @@ blank_is Such (b ∷ bs) some is =
           ∙ shallow_same at s (read_from (at + 1) bs (between s)) (read_at (at + 1) s bs) (λ le. between_reads (at + 1) s bs);
     }
 
-pub bracket_is : (Such : State → Type 0) (rest : List ℕ) (x : Token) → 0 < length rest → begin (get_or rest 0 0) ≡ Takes x → deepest x ≡ 65 → IsAt Such rest (front.Bracket x)
-bracket_is Such [] x some is deep = absurd (omega arith)
-bracket_is Such (b ∷ bs) x some is deep = record { within = deep; reads = λ at s such. ap (λ (v : Move). goes_on at (first_at s v) (read_from (at + 1) bs)) is }
+pub bracket_is : (Such : State → Type 0) (rest : List ℕ) (x : Token) → 0 < length rest → begin (get_or rest 0 0) ≡ Takes x → IsAt Such rest (front.Bracket x)
+bracket_is Such [] x some is = absurd (omega arith)
+bracket_is Such (b ∷ bs) x some is = record { within = tt; reads = λ at s such. ap (λ (v : Move). goes_on at (first_at s v) (read_from (at + 1) bs)) is }

@@ -1,6 +1,4 @@
 pub mod Basics
-pub mod Trees
-pub mod HeightLaws
 pub mod Depths
 pub mod Runs
 pub mod Complete
@@ -13,13 +11,11 @@ pub mod LexLaws
 pub mod Texts
 pub mod Bounds
 pub mod Comparing
-pub mod Rows
 pub mod Digits
 pub mod Laws
 pub mod AnswerLaws
 pub mod FrontLaws
 pub mod FrontFinds
 pub mod Containing
+pub mod Values
 pub mod ReadLaws
-pub mod Closing
-pub mod RoomLaws

@@ -1,10 +1,11 @@
 -- The answer for a text as one function, byte by byte. proofs/AnswerLaws shows that it is the one that the grammar gives.
-use Rattle.std.specs.Prelude.{◌≡◌, ℕ, ◌+◌, nat_lt, if◌then◌else◌, List, [], ◌∷◌, Option, Some, None, Result, Ok, Err}
+use Rattle.std.specs.Prelude.{◌≡◌, ℕ, ◌+◌, nat_lt, if◌then◌else◌, List, [], ◌∷◌, Option, Some, None, Result, Ok, Err, pos}
 use Rattle.mi_cond.specs.declared.error.CondFault.{CondFault}
 use Rattle.mi_cond.specs.declared.error.CondFault.TheVariants.{Syntax, TooDeep}
 use Rattle.mi_cond.specs.declared.error.CondError.{CondError}
 use Rattle.mi_cond.specs.declared.error.CondError.TheVariants as error
-use Rattle.mi_cond.specs.Tree.{Tree}
+use Rattle.mi_cond.specs.declared.operand.Value.TheVariants as value
+use Rattle.mi_cond.specs.Tree.{Tree, Alone}
 use Rattle.mi_cond.specs.Place.{IsRead, IsConditionFault}
 use Rattle.mi_cond.specs.Steps.{State, Wants, fresh, depth_at}
 use Rattle.mi_cond.specs.Moves.{Place, between, byte, read_end}
@@ -33,6 +34,15 @@ read_from place (b ∷ bs) p = goes_on place (byte p b) (read_from (place + 1) b
 -- the condition of a text, or its fault
 unfoldable pub condition_of : List ℕ → Result Tree CondFault
 condition_of text = read_from 0 text (between (Wants [] fresh))
+
+-- the tree of an answer that has one
+abbrev pub tree_in : Result Tree CondFault → Tree
+tree_in (Ok tree) = tree
+tree_in (Err f) = Alone (value.Integer (pos 0))
+
+-- the text is a condition
+unfoldable pub IsCondition : List ℕ → Type 0
+IsCondition text = condition_of text ≡ Ok (tree_in (condition_of text))
 
 -- what `Cond::read` answers
 abbrev pub Answers : Result Tree CondError → List ℕ → Type 0

@@ -5,13 +5,13 @@ use Rattle.std.specs.Coded.{Coded}
 use base.Stored.{Gv, gnil, gnum, gcons}
 use Rattle.mi_text.specs.declared.env.Sign.{Sign}
 use Rattle.mi_text.specs.declared.env.Sign.TheVariants as sign
-use Rattle.mi_cond.specs.declared.node.Operator.{Operator}
-use Rattle.mi_cond.specs.declared.node.Operator.TheVariants as op
-use Rattle.mi_cond.specs.declared.node.Relation.{Relation}
-use Rattle.mi_cond.specs.declared.node.Relation.TheVariants as relation
-use Rattle.mi_cond.specs.declared.node.Comparison.{Comparison}
-use Rattle.mi_cond.specs.declared.node.Value.{Value}
-use Rattle.mi_cond.specs.declared.node.Value.TheVariants as value
+use Rattle.mi_cond.specs.declared.operand.Operator.{Operator}
+use Rattle.mi_cond.specs.declared.operand.Operator.TheVariants as op
+use Rattle.mi_cond.specs.declared.operand.Relation.{Relation}
+use Rattle.mi_cond.specs.declared.operand.Relation.TheVariants as relation
+use Rattle.mi_cond.specs.declared.operand.Comparison.{Comparison}
+use Rattle.mi_cond.specs.declared.operand.Value.{Value}
+use Rattle.mi_cond.specs.declared.operand.Value.TheVariants as value
 use Rattle.mi_cond.specs.Tree.{Tree, Alone, Compare, Not, Both}
 
 abbrev op_code : Operator → ℕ

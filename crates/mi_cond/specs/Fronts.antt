@@ -1,10 +1,9 @@
 -- What stands at the front of a text, for the private functions that read one.
-use Rattle.std.specs.Prelude.{◌≡◌, ℕ, zero, suc, ◌+◌, ◌*◌, ◌-◌, ◌<◌, ◌≤◌, nat_le, ◌==◌, ◌&&◌, not, Bool, true, false, if◌then◌else◌, List, [], ◌∷◌, length, drop, Option, Some, None, option_map, Result, Ok, Err}
+use Rattle.std.specs.Prelude.{◌≡◌, ℕ, zero, suc, ◌+◌, ◌*◌, ◌-◌, ◌<◌, ◌≤◌, nat_le, nat_lt, ◌==◌, ◌&&◌, not, Bool, true, false, if◌then◌else◌, List, [], ◌∷◌, length, drop, Option, Some, None, option_map, Result, Ok, Err}
+use Rattle.mi_text.specs.Lookups.{Lookups}
 use Rattle.mi_cond.specs.declared.error.CondFault.{CondFault}
-use Rattle.mi_cond.specs.declared.error.CondFault.TheVariants.{Syntax}
-use Rattle.mi_cond.specs.declared.error.CondError.{CondError}
-use Rattle.mi_cond.specs.declared.error.CondError.TheVariants as error
-use Rattle.mi_cond.specs.declared.node.Value.TheVariants as value
+use Rattle.mi_cond.specs.declared.error.CondFault.TheVariants.{Syntax, TooDeep}
+use Rattle.mi_cond.specs.declared.operand.Value.TheVariants as value
 use Rattle.mi_cond.specs.declared.token.Token.{Token}
 use Rattle.mi_cond.specs.declared.token.Token.TheVariants as token
 use Rattle.mi_cond.specs.declared.front.Front.{Front}
@@ -14,9 +13,9 @@ use Rattle.mi_cond.specs.declared.front.Begun.TheVariants as begin_as
 use Rattle.mi_cond.specs.Tree.{Tree}
 use Rattle.mi_cond.specs.Integer.{is_digit, signed}
 use Rattle.mi_cond.specs.Lex.{is_blank, is_letter}
-use Rattle.mi_cond.specs.Steps.{State, depth_at, step, end_of}
-use Rattle.mi_cond.specs.Moves.{Mode, InWord, InSymbol, InLiteral, AfterMinus, InDigits, AfterTilde, InComparison, Move, Grows, Wrong, begin, first_at, between, wants_value, has_value}
-use Rattle.mi_cond.specs.Rooms.{deepest}
+use Rattle.mi_cond.specs.Steps.{Forms, StateOf, State, depth_at, step_by, step, end_of, wants_value, has_value}
+use Rattle.mi_cond.specs.Moves.{Mode, InWord, InSymbol, InLiteral, AfterMinus, InDigits, AfterTilde, InComparison, Move, Grows, Wrong, begin, first_at, between}
+use Rattle.mi_cond.specs.Truths.{state_value}
 use Rattle.mi_cond.specs.Answer.{ended, shallow, goes_on, read_from}
 
 -- no blank and no bracket
@@ -71,7 +70,6 @@ by_front at s rest front.Refused = Err (Syntax at)
 abbrev pub IsWithin : Front → List ℕ → Type 0
 IsWithin (front.Token x n) rest = (0 < n) × (n ≤ length rest)
 IsWithin (front.Dead n) rest = n ≤ length rest
-IsWithin (front.Bracket x) rest = deepest x ≡ 65
 IsWithin f rest = Unit {0}
 
 abbrev pub IsLong : Front → Type 0
@@ -118,19 +116,19 @@ pub record ReadsTo (text : List ℕ) (at : ℕ) (old : State) (later : ℕ) (new
   pub shallow : depth_at new ≤ 65
   pub same : read_at at old (drop at text) ≡ read_at later new (drop later text)
 
-abbrev pub ReadsOn : List ℕ → ℕ → State → State → Result ℕ CondError → Type 0
-ReadsOn text at old new (Ok later) = ReadsTo text at old later new
-ReadsOn text at old new (Err error.NoMemory) = Unit {0}
-ReadsOn text at old new (Err (error.Fault f)) = read_at at old (drop at text) ≡ Err f
+-- and what was read so far is the value of what stands there then
+abbrev pub ReadsOn : Lookups → List ℕ → ℕ → State → StateOf Bool → Result ℕ CondFault → Type 0
+ReadsOn env text at old new (Ok later) = (s : State) × (state_value env s ≡ new) × ReadsTo text at old later s
+ReadsOn env text at old new (Err f) = read_at at old (drop at text) ≡ Err f
 
 -- behind a token of n bytes
-abbrev pub TokenRead : ℕ → ℕ → State → Token → State → Result ℕ CondError → Type 0
-TokenRead at n old x new (Ok later) = (later ≡ at + n) × (depth_at old ≤ 64) × (step old x ≡ Some new)
-TokenRead at n old x new (Err error.NoMemory) = Unit {0}
-TokenRead at n old x new (Err (error.Fault f)) = (rest : List ℕ) → shallow at old (left_at (at + n) (step old x) rest) ≡ Err f
+abbrev pub TokenRead : {T : Type 0} → Forms T → ℕ → ℕ → StateOf T → Token → StateOf T → Result ℕ CondFault → Type 0
+TokenRead by at n old x new (Ok later) = (later ≡ at + n) × (depth_at old ≤ 64) × (step_by by old x ≡ Some new)
+TokenRead by at n old x new (Err f) =
+    (f ≡ (if nat_lt 64 (depth_at old) then TooDeep at else Syntax (at + n))) × (depth_at old ≤ 64 → step_by by old x ≡ None)
 
 -- behind a bracket
-abbrev pub BracketRead : ℕ → State → Token → State → Result ℕ CondError → Type 0
-BracketRead at old x new (Ok later) = (later ≡ at + 1) × (depth_at new ≤ 64) × (step old x ≡ Some new)
-BracketRead at old x new (Err error.NoMemory) = Unit {0}
-BracketRead at old x new (Err (error.Fault f)) = (rest : List ℕ) → goes_on at (option_map between (step old x)) (read_from (at + 1) rest) ≡ Err f
+abbrev pub BracketRead : {T : Type 0} → Forms T → ℕ → StateOf T → Token → StateOf T → Result ℕ CondFault → Type 0
+BracketRead by at old x new (Ok later) = (later ≡ at + 1) × (depth_at new ≤ 64) × (step_by by old x ≡ Some new)
+BracketRead by at old x new (Err (Syntax place)) = (place ≡ at) × (step_by by old x ≡ None)
+BracketRead by at old x new (Err (TooDeep place)) = (place ≡ at) × (64 < depth_at new) × (step_by by old x ≡ Some new)

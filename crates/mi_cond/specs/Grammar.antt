@@ -1,9 +1,9 @@
 -- Which texts read as which condition (Conditional Statement Syntax; operators of one kind group from the left,
 -- and brackets and NOT nest to a bound: both this project's own).
 use Rattle.std.specs.Prelude.{◌≡◌, ℕ, zero, suc, IsTrue, ◌⊎◌, List, [], ◌∷◌, ◌++◌}
-use Rattle.mi_cond.specs.declared.node.Operator.{Operator}
-use Rattle.mi_cond.specs.declared.node.Comparison.{Comparison}
-use Rattle.mi_cond.specs.declared.node.Value.{Value}
+use Rattle.mi_cond.specs.declared.operand.Operator.{Operator}
+use Rattle.mi_cond.specs.declared.operand.Comparison.{Comparison}
+use Rattle.mi_cond.specs.declared.operand.Value.{Value}
 use Rattle.mi_cond.specs.declared.token.Token.{Token}
 use Rattle.mi_cond.specs.declared.token.Token.TheVariants as token
 use Rattle.mi_cond.specs.Tree.{Tree, Alone, Compare, Not, Both}

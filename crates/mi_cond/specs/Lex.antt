@@ -6,13 +6,13 @@ use Rattle.mi_text.specs.Fold.{folded}
 use Rattle.mi_text.specs.PropertyNames.{begins_name, continues_name, is_property_name}
 use Rattle.mi_text.specs.declared.env.Sign.{Sign}
 use Rattle.mi_text.specs.declared.env.Sign.TheVariants as sign
-use Rattle.mi_cond.specs.declared.node.Operator.{Operator}
-use Rattle.mi_cond.specs.declared.node.Operator.TheVariants as op
-use Rattle.mi_cond.specs.declared.node.Relation.{Relation}
-use Rattle.mi_cond.specs.declared.node.Relation.TheVariants as relation
-use Rattle.mi_cond.specs.declared.node.Comparison.{Comparison}
-use Rattle.mi_cond.specs.declared.node.Value.{Value}
-use Rattle.mi_cond.specs.declared.node.Value.TheVariants as value
+use Rattle.mi_cond.specs.declared.operand.Operator.{Operator}
+use Rattle.mi_cond.specs.declared.operand.Operator.TheVariants as op
+use Rattle.mi_cond.specs.declared.operand.Relation.{Relation}
+use Rattle.mi_cond.specs.declared.operand.Relation.TheVariants as relation
+use Rattle.mi_cond.specs.declared.operand.Comparison.{Comparison}
+use Rattle.mi_cond.specs.declared.operand.Value.{Value}
+use Rattle.mi_cond.specs.declared.operand.Value.TheVariants as value
 use Rattle.mi_cond.specs.declared.token.Token.{Token}
 use Rattle.mi_cond.specs.declared.token.Token.TheVariants.{Open, Close, Negate, Join, Operand, Compare}
 use Rattle.mi_cond.specs.Integer.{integer_of, is_small}

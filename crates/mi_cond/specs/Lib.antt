@@ -4,15 +4,12 @@ pub mod Lex
 pub mod Grammar
 pub mod Place
 pub mod Value
-pub mod View
-pub mod Height
 pub mod Code
 pub mod Steps
 pub mod Moves
 pub mod Outcome
 pub mod Brackets
-pub mod Rooms
 pub mod States
 pub mod Answer
+pub mod Truths
 pub mod Fronts
-pub mod Texts

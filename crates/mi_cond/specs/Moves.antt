@@ -3,12 +3,12 @@ use Rattle.std.specs.Prelude.{ℕ, ◌+◌, ◌*◌, ◌-◌, nat_le, ◌==◌, 
 use Rattle.std.specs.Str.{bytes_eq}
 use Rattle.mi_text.specs.Fold.{folded}
 use Rattle.mi_text.specs.declared.env.Sign.TheVariants as sign
-use Rattle.mi_cond.specs.declared.node.Operator.{Operator}
-use Rattle.mi_cond.specs.declared.node.Relation.{Relation}
-use Rattle.mi_cond.specs.declared.node.Relation.TheVariants as relation
-use Rattle.mi_cond.specs.declared.node.Comparison.{Comparison}
-use Rattle.mi_cond.specs.declared.node.Value.{Value}
-use Rattle.mi_cond.specs.declared.node.Value.TheVariants as value
+use Rattle.mi_cond.specs.declared.operand.Operator.{Operator}
+use Rattle.mi_cond.specs.declared.operand.Relation.{Relation}
+use Rattle.mi_cond.specs.declared.operand.Relation.TheVariants as relation
+use Rattle.mi_cond.specs.declared.operand.Comparison.{Comparison}
+use Rattle.mi_cond.specs.declared.operand.Value.{Value}
+use Rattle.mi_cond.specs.declared.operand.Value.TheVariants as value
 use Rattle.mi_cond.specs.declared.token.Mark.{Mark}
 use Rattle.mi_cond.specs.declared.token.Mark.TheVariants as mark
 use Rattle.mi_cond.specs.declared.token.Token.{Token}
@@ -16,7 +16,7 @@ use Rattle.mi_cond.specs.declared.token.Token.TheVariants as token
 use Rattle.mi_cond.specs.Integer.{is_digit, is_empty, signed}
 use Rattle.mi_cond.specs.Lex.{is_blank, is_letter, is_name_byte, keyword, all_ops, operator_in}
 use Rattle.mi_cond.specs.Tree.{Tree}
-use Rattle.mi_cond.specs.Steps.{State, Wants, HasValue, WantsRight, Has, step, end_of}
+use Rattle.mi_cond.specs.Steps.{State, wants_value, has_value, step, end_of}
 
 abbrev pub or_property : List ℕ → Option Operator → Token
 or_property w None = token.Operand (value.Property w)
@@ -151,18 +151,6 @@ begins_with (x ∷ xs) (y ∷ ys) = if x == y then begins_with xs ys else false
 abbrev pub begins_operator : List Operator → List ℕ → Bool
 begins_operator [] small = false
 begins_operator (o ∷ os) small = begins_with (keyword o) small || begins_operator os small
-
-abbrev pub wants_value : State → Bool
-wants_value (Wants below f) = true
-wants_value (HasValue below f v) = false
-wants_value (WantsRight below f l c) = true
-wants_value (Has below rows t) = false
-
-abbrev pub has_value : State → Bool
-has_value (Wants below f) = false
-has_value (HasValue below f v) = true
-has_value (WantsRight below f l c) = false
-has_value (Has below rows t) = false
 
 -- whether some token that begins so may stand here
 abbrev pub may_stand : State → Mode → Bool

@@ -1,8 +1,8 @@
 -- What a condition is: operators of one kind group from the left, and brackets leave no trace.
 use Rattle.std.specs.Prelude.{Option, None, Some}
-use Rattle.mi_cond.specs.declared.node.Operator.{Operator}
-use Rattle.mi_cond.specs.declared.node.Comparison.{Comparison}
-use Rattle.mi_cond.specs.declared.node.Value.{Value}
+use Rattle.mi_cond.specs.declared.operand.Operator.{Operator}
+use Rattle.mi_cond.specs.declared.operand.Comparison.{Comparison}
+use Rattle.mi_cond.specs.declared.operand.Value.{Value}
 
 pub data Tree : Type 0 where
   Alone : (value : Value) → Tree
@@ -10,7 +10,10 @@ pub data Tree : Type 0 where
   Not : (inside : Tree) → Tree
   Both : (op : Operator) → (left right : Tree) → Tree
 
--- a row of operands so far, and one operand more
+-- a row of operands so far, and one operand more, where `both` joins two
+abbrev pub joined_by : {T : Type 0} → (Operator → T → T → T) → Operator → Option T → T → T
+joined_by both op None t = t
+joined_by both op (Some row) t = both op row t
+
 abbrev pub joined : Operator → Option Tree → Tree → Tree
-joined op None t = t
-joined op (Some row) t = Both op row t
+joined = joined_by Both

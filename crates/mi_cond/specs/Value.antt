@@ -7,15 +7,15 @@ use Rattle.std.specs.Int.{cast_unsigned, w32}
 use Rattle.std.specs.List.{starts_with, ends_with}
 use Rattle.mi_text.specs.Fold.{folded}
 use Rattle.mi_text.specs.Lookups.{Lookups}
-use Rattle.mi_cond.specs.declared.node.Operator.{Operator}
-use Rattle.mi_cond.specs.declared.node.Operator.TheVariants as op
-use Rattle.mi_cond.specs.declared.node.Relation.{Relation}
-use Rattle.mi_cond.specs.declared.node.Relation.TheVariants as relation
-use Rattle.mi_cond.specs.declared.node.Comparison.{Comparison}
-use Rattle.mi_cond.specs.declared.node.Value.{Value}
-use Rattle.mi_cond.specs.declared.node.Value.TheVariants as side
+use Rattle.mi_cond.specs.declared.operand.Operator.{Operator}
+use Rattle.mi_cond.specs.declared.operand.Operator.TheVariants as op
+use Rattle.mi_cond.specs.declared.operand.Relation.{Relation}
+use Rattle.mi_cond.specs.declared.operand.Relation.TheVariants as relation
+use Rattle.mi_cond.specs.declared.operand.Comparison.{Comparison}
+use Rattle.mi_cond.specs.declared.operand.Value.{Value}
+use Rattle.mi_cond.specs.declared.operand.Value.TheVariants as side
 use Rattle.mi_cond.specs.Integer.{is_empty, spelled_integer}
-use Rattle.mi_cond.specs.Tree.{Tree, Alone, Compare, Not, Both}
+use Rattle.mi_cond.specs.Tree.{Tree, Alone, Compare, Not, Both, joined_by}
 
 -- ---- values
 
@@ -120,8 +120,7 @@ combine op.Imp l r = if l then r else true
 
 -- a row so far, and one operand more
 abbrev pub with_operand : Operator → Option Bool → Bool → Bool
-with_operand op None b = b
-with_operand op (Some a) b = combine op a b
+with_operand = joined_by combine
 
 -- the value of a condition
 abbrev pub value : Tree → Lookups → Bool

@@ -10,7 +10,7 @@ ghost use Rattle.mi_cond.specs.Integer.{digits_of, is_small, spelled_integer};
 ghost use Rattle.mi_cond.specs.Value.{cased, contains, bits_of, high_half, low_half, is_not_equal};
 ghost use Rattle.mi_cond.specs.Value as spec;
 
-use crate::node::Relation;
+use crate::operand::Relation;
 use crate::token::is_digit;
 use memchr::memmem;
 use std::cmp::Ordering;

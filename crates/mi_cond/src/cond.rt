@@ -1,28 +1,25 @@
 //! A condition that has been read.
 
-ghost use Rattle.std.specs.Prelude.{◌≡◌, ◌≤◌, ℕ, IfOk, IfErr, MatchResult};
-ghost use Rattle.mi_cond.specs.View.{tree_of};
-ghost use Rattle.mi_cond.specs.Height.{height, limit};
+ghost use Rattle.std.specs.Prelude.{◌≡◌, ℕ, IfOk, IfErr, Err, MatchOption};
 ghost use Rattle.mi_cond.specs.Tree.{Tree};
 ghost use Rattle.mi_cond.specs.Grammar.{Reads};
 ghost use Rattle.mi_cond.specs.Place.{IsCause};
 ghost use Rattle.mi_cond.specs.Value.{value};
-ghost use Rattle.mi_cond.specs.Answer.{Answers};
+ghost use Rattle.mi_cond.specs.Answer.{Answers, IsCondition, condition_of};
 
-use crate::error::CondError;
-use crate::node::Node;
-use crate::origin::Origin;
-use crate::read::read_node;
-use mi_text::Env;
+use crate::error::{CondError, CondFault};
+use crate::nothing::Nothing;
+use crate::read::read_value;
+use mi_text::{Env, Text};
 use std::alloc::Global;
 use std::marker::Model;
 use std::rc::Rc;
 
-/// A condition (Conditional Statement Syntax), seen as its tree. At most `limit` nodes stand in one another, five for each
-/// level of nesting, however long the text was: its value and its drop go from a node to those in it.
+/// A condition (Conditional Statement Syntax), seen as its tree. It is kept as its text, and read anew where its value is
+/// asked for.
 #[derive(Drop)]
 pub struct Cond {
-    node: Box<Node>,
+    text: Text,
 }
 
 impl Model for Cond {
@@ -33,14 +30,21 @@ impl Model for Cond {
 
     ghost coded = { coded_tree };
 
-    ghost use Rattle.mi_cond.specs.View.{tree_of};
+    ghost use Rattle.mi_cond.specs.Answer.{tree_in, condition_of, IsCondition};
 
-    ghost view = { λ c. tree_of c.node.value };
+    ghost view = { λ c. tree_in (condition_of c.text) };
 
-    ghost use Rattle.std.specs.Prelude.{◌≤◌};
-    ghost use Rattle.mi_cond.specs.Height.{height, limit};
+    ghost invariant = { λ c. IsCondition c.text };
+}
 
-    ghost invariant = { λ c. height c.node.value ≤ limit };
+// Why a text is no condition, if it isn't one.
+fn fault_in(text: &str) -> Option<CondFault>
+    ensures { MatchOption result (IsCondition text.now) (λ f. condition_of text.now ≡ Err f) }
+{
+    match read_value(&Nothing, text.as_bytes()) {
+        Ok(_) => None,
+        Err(fault) => Some(fault),
+    }
 }
 
 impl Cond {
@@ -54,11 +58,16 @@ impl Cond {
         // The same as one function of the text.
         ensures answer { Answers result text.now }
     {
-        Cond::read_at(Origin::nowhere(alloc), text)
+        match fault_in(text) {
+            None => Ok(Cond {
+                text: Text::copy_of(alloc, text)?,
+            }),
+            Some(fault) => Err(CondError::Fault(fault)),
+        }
     }
 
-    /// The same of a text that stands in a string from a place on, in bytes. The names in the condition are parts of that
-    /// string, where they stand there.
+    /// The same of a text that stands in a string from a place on, in bytes. The condition is kept as a part of that
+    /// string, where it stands there.
     pub fn read_part(
         alloc: Global,
         whole: &Rc<String>,
@@ -70,33 +79,21 @@ impl Cond {
         ensures fault { IfErr result (λ e. IsCause e text.now) }
         ensures answer { Answers result text.now }
     {
-        Cond::read_at(Origin::part(alloc, whole, start), text)
-    }
-
-    fn read_at(origin: Origin<'_>, text: &str) -> Result<Cond, CondError>
-        ensures reads { IfOk result (λ c. Reads 64 text.now c) }
-        ensures only { IfOk result (λ c. (n : ℕ) (t : Tree) → Reads n text.now t → t ≡ c) }
-        ensures fault { IfErr result (λ e. IsCause e text.now) }
-        ensures answer { Answers result text.now }
-    {
-        match read_node(origin, text.as_bytes()) {
-            Ok(node) => Cond::of(origin.alloc, node),
-            Err(error) => Err(error),
+        match fault_in(text) {
+            None => Ok(Cond {
+                text: Text::part_of(alloc, whole, start, text)?,
+            }),
+            Some(fault) => Err(CondError::Fault(fault)),
         }
-    }
-
-    fn of(alloc: Global, node: Node) -> Result<Cond, CondError>
-        requires { height node ≤ limit }
-        ensures { MatchResult result (λ c. c ≡ tree_of node) (λ e. e ≡ CondError.NoMemory) }
-    {
-        let node = Box::new(alloc, node)?;
-        Ok(Cond { node })
     }
 
     /// Whether the condition holds. Takes no memory.
     pub fn value<E: Env>(&self, env: &E) -> bool
         ensures { result ≡ value self.now (E.lookups env.now) }
     {
-        self.node.value(env)
+        match read_value(env, self.text.as_bytes()) {
+            Ok(holds) => holds,
+            Err(_) => unreachable!(),
+        }
     }
 }

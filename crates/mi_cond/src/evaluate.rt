@@ -1,14 +1,14 @@
-//! The value of a condition, without memory.
+//! The values of the parts of a condition, without memory.
 
-ghost use Rattle.std.specs.Prelude.{◌≡◌};
-ghost use Rattle.mi_cond.specs.Value.{text_of, number_of, is_number, is_true, compare, combine, with_operand, value};
-ghost use Rattle.mi_cond.specs.View.{tree_of};
+ghost use Rattle.std.specs.Prelude.{◌≡◌, not};
+ghost use Rattle.mi_cond.specs.Value.{text_of, number_of, is_number, is_true, compare, combine, with_operand};
+ghost use Rattle.mi_cond.specs.Steps.{negated_by};
 
 use crate::compare::{compare_numbers, compare_texts, spelled_integer};
-use crate::node::{Comparison, Node, Operator, Value};
+use crate::operand::{Comparison, Operator, Value};
 use mi_text::Env;
 
-impl Value {
+impl<'t> Value<'t> {
     // The text of a side that is no integer and no state.
     fn text<'a, E: Env>(&'a self, env: &'a E) -> &'a [u8]
         ensures { result.now ≡ text_of (E.lookups env.now) self.now }
@@ -16,7 +16,7 @@ impl Value {
         match self {
             Value::Property(name) => env.property(name.as_str()).as_bytes(),
             Value::Variable(name) => env.variable(name.as_str()).as_bytes(),
-            Value::Literal(text) => text.as_slice(),
+            Value::Literal(literal) => literal.as_bytes(),
             Value::State(_, _) | Value::Integer(_) => &[],
         }
     }
@@ -37,7 +37,8 @@ impl Value {
         matches!(self, Value::State(_, _) | Value::Integer(_))
     }
 
-    fn is_true<E: Env>(&self, env: &E) -> bool
+    /// Whether the value holds where it stands alone.
+    pub fn is_true<E: Env>(&self, env: &E) -> bool
         ensures { result ≡ is_true (E.lookups env.now) self.now }
     {
         match self {
@@ -48,7 +49,8 @@ impl Value {
     }
 }
 
-fn compare<E: Env>(env: &E, comparison: Comparison, left: &Value, right: &Value) -> bool
+/// Whether a comparison holds.
+pub fn compare<E: Env>(env: &E, comparison: Comparison, left: &Value, right: &Value) -> bool
     ensures { result ≡ compare (E.lookups env.now) comparison left.now right.now }
 {
     let Comparison { relation, folds } = comparison;
@@ -71,8 +73,8 @@ const fn combine(op: Operator, left: bool, right: bool) -> bool
     }
 }
 
-// A row so far, and one operand more.
-const fn with_operand(op: Operator, row: Option<bool>, next: bool) -> bool
+/// A row of equal operators so far, and one operand more.
+pub const fn with_operand(op: Operator, row: Option<bool>, next: bool) -> bool
     ensures { result ≡ with_operand op row next }
 {
     match row {
@@ -81,23 +83,13 @@ const fn with_operand(op: Operator, row: Option<bool>, next: bool) -> bool
     }
 }
 
-impl Node {
-    /// Whether the condition holds.
-    pub fn value<E: Env>(&self, env: &E) -> bool
-        ensures { result ≡ value (tree_of self.now) (E.lookups env.now) }
-    {
-        match self {
-            Node::Alone(value) => value.is_true(env),
-            Node::Compare(comparison, left, right) => compare(env, *comparison, left, right),
-            Node::Not(inside) => !inside.value(env),
-            Node::Row(op, nodes) => {
-                let mut all: Option<bool> = None;
-                for node in nodes {
-                    let next = node.value(env);
-                    all = Some(with_operand(*op, all, next));
-                }
-                all.unwrap_or(false)
-            }
-        }
+/// A factor behind so many NOT.
+pub fn negated(nots: u32, factor: bool) -> bool
+    ensures { result ≡ negated_by not nots factor }
+{
+    let mut value = factor;
+    for _ in 0..nots {
+        value = !value;
     }
+    value
 }

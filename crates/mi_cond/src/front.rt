@@ -1,30 +1,28 @@
 //! What stands at the front of a text.
 
-ghost use Rattle.std.specs.Prelude.{◌≡◌, ◌<◌, ◌≤◌, [], ◌&&◌, nat_lt, true, false, take, drop, length, slice_index, Some, None, MatchOption, IfOk};
+ghost use Rattle.std.specs.Prelude.{◌≡◌, ◌<◌, ◌≤◌, [], ◌&&◌, nat_lt, true, false, take, drop, length, slice_index, Some, None, MatchOption};
 ghost use Rattle.mi_text.specs.Fold.{folded};
 ghost use Rattle.mi_cond.specs.Lex.{is_letter, is_name_byte, all_ops};
 ghost use Rattle.mi_cond.specs.Integer.{is_digit, signed};
 ghost use Rattle.mi_cond.specs.Moves.{Grows, begin, begin_name, relation_by, relation_with, begins_operator, InWord, InSymbol, InLiteral, AfterMinus, AfterTilde, InComparison};
 ghost use Rattle.mi_cond.specs.Fronts.{front_length, is_plain, begun, IsNamed, digits_front, Follows, IsAt, WantsValue, WantsOperator, ComparesValue, BehindValue, Stands};
 
-use crate::node::{Comparison, Relation, Value};
-use crate::origin::Origin;
+use crate::operand::{Comparison, Literal, Relation, Value};
 use crate::token::{
     Mark, Token, begins_operator, is_blank, is_digit, is_letter, is_name_byte, marked_by, named,
     relation_by, relation_with, word,
 };
 use memchr::memchr;
-use mi_text::{Bytes, NoMemory};
 
 /// What stands at the front of a text, behind a part of a condition.
 #[derive(Drop)]
-pub enum Front {
+pub enum Front<'t> {
     /// A blank or a tab.
     Blank,
     /// A bracket.
-    Bracket(Token),
+    Bracket(Token<'t>),
     /// Another token, of so many bytes, with which the next byte doesn't go on.
-    Token(Token, usize),
+    Token(Token<'t>, usize),
     /// The first so many bytes begin a token that may stand here, and with the next byte none does.
     Dead(usize),
     /// With the first byte no token begins that may stand here.
@@ -94,61 +92,61 @@ fn name_length(text: &[u8]) -> usize
 }
 
 // A keyword or a property, where a value may stand.
-fn word_at(origin: Origin<'_>, rest: &[u8]) -> Result<Front, NoMemory>
+fn word_at(rest: &[u8]) -> Front<'_>
     requires { 0 < front_length is_name_byte rest.now }
-    ensures { IfOk result (λ f. Follows 1 (InWord (take 1 rest.now)) WantsValue rest.now f) }
+    ensures { Follows 1 (InWord (take 1 rest.now)) WantsValue rest.now result }
 {
     let n = name_length(rest);
-    let token = word(origin, &rest[..n])?;
-    Ok(Front::Token(token, n))
+    let token = word(&rest[..n]);
+    Front::Token(token, n)
 }
 
 // An operator between conditions, where no value may stand.
-fn operator_at(origin: Origin<'_>, rest: &[u8]) -> Result<Front, NoMemory>
+fn operator_at(rest: &[u8]) -> Front<'_>
     requires begins { 0 < front_length is_name_byte rest.now }
     requires stands { begins_operator all_ops (folded (take 1 rest.now)) ≡ true }
-    ensures { IfOk result (λ f. Follows 1 (InWord (take 1 rest.now)) WantsOperator rest.now f) }
+    ensures { Follows 1 (InWord (take 1 rest.now)) WantsOperator rest.now result }
 {
     let n = name_length(rest);
     for i in 1..n {
         if !begins_operator(&rest[..i + 1]) {
-            return Ok(Front::Dead(i));
+            return Front::Dead(i);
         }
     }
-    let token = word(origin, &rest[..n])?;
-    Ok(Front::Token(token, n))
+    let token = word(&rest[..n]);
+    Front::Token(token, n)
 }
 
 // A mark and its name.
-fn symbol_at(origin: Origin<'_>, mark: Mark, rest: &[u8]) -> Result<Front, NoMemory>
+fn symbol_at(mark: Mark, rest: &[u8]) -> Front<'_>
     requires { 0 < length rest.now }
-    ensures { IfOk result (λ f. Follows 1 (InSymbol mark []) WantsValue rest.now f) }
+    ensures { Follows 1 (InSymbol mark []) WantsValue rest.now result }
 {
     let name = &rest[1..];
     let n = name_length(name);
     if n == 0 {
-        return Ok(Front::Dead(1));
+        return Front::Dead(1);
     }
-    let value = named(origin.behind(1), mark, &name[..n])?;
-    Ok(Front::Token(Token::Operand(value), n + 1))
+    let value = named(mark, &name[..n]);
+    Front::Token(Token::Operand(value), n + 1)
 }
 
 // What stands between two `"`.
-fn literal_at(origin: Origin<'_>, rest: &[u8]) -> Result<Front, NoMemory>
+fn literal_at(rest: &[u8]) -> Front<'_>
     requires { 0 < length rest.now }
-    ensures { IfOk result (λ f. Follows 1 (InLiteral []) WantsValue rest.now f) }
+    ensures { Follows 1 (InLiteral []) WantsValue rest.now result }
 {
     let text = &rest[1..];
     match memchr(b'"', text) {
         Some(n) => {
-            let literal = Bytes::copy_of(origin.alloc, &text[..n])?;
-            Ok(Front::Token(Token::Operand(Value::Literal(literal)), n + 2))
+            let literal = Literal::of(&text[..n]);
+            Front::Token(Token::Operand(Value::Literal(literal)), n + 2)
         }
-        None => Ok(Front::Dead(rest.len())),
+        None => Front::Dead(rest.len()),
     }
 }
 
-fn integer(negative: bool, size: u64, n: usize) -> Front
+fn integer<'t>(negative: bool, size: u64, n: usize) -> Front<'t>
     requires { size ≤ 2147483647 }
     ensures { result ≡ Front.Token (Token.Operand (Value.Integer (signed negative size))) n }
 {
@@ -158,7 +156,7 @@ fn integer(negative: bool, size: u64, n: usize) -> Front
 }
 
 // Digits from the place `from` on.
-fn digits_at(negative: bool, rest: &[u8], from: usize) -> Front
+fn digits_at(negative: bool, rest: &[u8], from: usize) -> Front<'_>
     requires { from ≤ length rest.now }
     ensures { result ≡ digits_front negative 0 from (drop from rest.now) }
 {
@@ -182,7 +180,7 @@ fn is_digit_at(rest: &[u8], n: usize) -> bool
 }
 
 // `-` and digits.
-fn negative_at(rest: &[u8]) -> Front
+fn negative_at(rest: &[u8]) -> Front<'_>
     requires { 0 < length rest.now }
     ensures { Follows 1 AfterMinus WantsValue rest.now result }
 {
@@ -205,7 +203,7 @@ fn longer(relation: Relation, rest: &[u8], n: usize) -> Option<Relation>
 }
 
 // An operator of comparison of which `n` bytes are read.
-fn comparison_at(folds: bool, relation: Relation, rest: &[u8], n: usize) -> Front
+fn comparison_at(folds: bool, relation: Relation, rest: &[u8], n: usize) -> Front<'_>
     requires some { 0 < n }
     requires within { n ≤ length rest.now }
     ensures { Follows n (InComparison (record { relation = relation; folds = folds })) ComparesValue rest.now result }
@@ -228,7 +226,7 @@ fn relation_at(rest: &[u8], n: usize) -> Option<Relation>
 }
 
 // `~` and an operator of comparison.
-fn tilde_at(rest: &[u8]) -> Front
+fn tilde_at(rest: &[u8]) -> Front<'_>
     requires { 0 < length rest.now }
     ensures { Follows 1 AfterTilde ComparesValue rest.now result }
 {
@@ -239,36 +237,36 @@ fn tilde_at(rest: &[u8]) -> Front
 }
 
 // What stands at the front where a value may stand.
-fn value_at(origin: Origin<'_>, rest: &[u8]) -> Result<Front, NoMemory>
+fn value_at(rest: &[u8]) -> Front<'_>
     requires some { 0 < length rest.now }
     requires plain { is_plain (slice_index rest.now 0) ≡ true }
-    ensures { IfOk result (λ f. IsAt WantsValue rest.now f) }
+    ensures { IsAt WantsValue rest.now result }
 {
     match begun_by(rest[0]) {
-        Begun::Quote => literal_at(origin, rest),
-        Begun::Minus => Ok(negative_at(rest)),
-        Begun::Digit => Ok(digits_at(false, rest, 0)),
-        Begun::Letter => word_at(origin, rest),
-        Begun::Symbol(mark) => symbol_at(origin, mark, rest),
-        Begun::Tilde => Ok(Front::Refused),
-        Begun::Comparison(_) => Ok(Front::Refused),
-        Begun::Nothing => Ok(Front::Refused),
+        Begun::Quote => literal_at(rest),
+        Begun::Minus => negative_at(rest),
+        Begun::Digit => digits_at(false, rest, 0),
+        Begun::Letter => word_at(rest),
+        Begun::Symbol(mark) => symbol_at(mark, rest),
+        Begun::Tilde => Front::Refused,
+        Begun::Comparison(_) => Front::Refused,
+        Begun::Nothing => Front::Refused,
     }
 }
 
-fn operator_behind(origin: Origin<'_>, rest: &[u8]) -> Result<Front, NoMemory>
+fn operator_behind(rest: &[u8]) -> Front<'_>
     requires some { 0 < length rest.now }
     requires letter { is_letter (slice_index rest.now 0) ≡ true }
-    ensures { IfOk result (λ f. IsAt WantsOperator rest.now f) }
+    ensures { IsAt WantsOperator rest.now result }
 {
     if begins_operator(&rest[..1]) {
-        operator_at(origin, rest)
+        operator_at(rest)
     } else {
-        Ok(Front::Refused)
+        Front::Refused
     }
 }
 
-fn tilde_behind(has: bool, rest: &[u8]) -> Front
+fn tilde_behind(has: bool, rest: &[u8]) -> Front<'_>
     requires some { 0 < length rest.now }
     requires begins { begin (slice_index rest.now 0) ≡ Grows AfterTilde }
     ensures { IsAt (BehindValue has) rest.now result }
@@ -276,7 +274,7 @@ fn tilde_behind(has: bool, rest: &[u8]) -> Front
     if has { tilde_at(rest) } else { Front::Refused }
 }
 
-fn comparison_behind(has: bool, relation: Relation, rest: &[u8]) -> Front
+fn comparison_behind(has: bool, relation: Relation, rest: &[u8]) -> Front<'_>
     requires some { 0 < length rest.now }
     requires begins { begin (slice_index rest.now 0) ≡ Grows (InComparison (record { relation = relation; folds = false })) }
     ensures { IsAt (BehindValue has) rest.now result }
@@ -289,42 +287,42 @@ fn comparison_behind(has: bool, relation: Relation, rest: &[u8]) -> Front
 }
 
 // What stands at the front where no value may stand.
-fn behind_value(origin: Origin<'_>, has: bool, rest: &[u8]) -> Result<Front, NoMemory>
+fn behind_value(has: bool, rest: &[u8]) -> Front<'_>
     requires some { 0 < length rest.now }
     requires plain { is_plain (slice_index rest.now 0) ≡ true }
-    ensures { IfOk result (λ f. IsAt (BehindValue has) rest.now f) }
+    ensures { IsAt (BehindValue has) rest.now result }
 {
     match begun_by(rest[0]) {
-        Begun::Letter => operator_behind(origin, rest),
-        Begun::Tilde => Ok(tilde_behind(has, rest)),
-        Begun::Comparison(relation) => Ok(comparison_behind(has, relation, rest)),
-        Begun::Quote => Ok(Front::Refused),
-        Begun::Minus => Ok(Front::Refused),
-        Begun::Digit => Ok(Front::Refused),
-        Begun::Symbol(_) => Ok(Front::Refused),
-        Begun::Nothing => Ok(Front::Refused),
+        Begun::Letter => operator_behind(rest),
+        Begun::Tilde => tilde_behind(has, rest),
+        Begun::Comparison(relation) => comparison_behind(has, relation, rest),
+        Begun::Quote => Front::Refused,
+        Begun::Minus => Front::Refused,
+        Begun::Digit => Front::Refused,
+        Begun::Symbol(_) => Front::Refused,
+        Begun::Nothing => Front::Refused,
     }
 }
 
 /// What stands at the front of a text, where `wants` says whether a value may stand there, and `has` whether an
 /// operator of comparison may.
-pub fn front_of(origin: Origin<'_>, wants: bool, has: bool, rest: &[u8]) -> Result<Front, NoMemory>
+pub fn front_of(wants: bool, has: bool, rest: &[u8]) -> Front<'_>
     requires { 0 < length rest.now }
-    ensures { IfOk result (λ f. IsAt (Stands wants has) rest.now f) }
+    ensures { IsAt (Stands wants has) rest.now result }
 {
     let byte = rest[0];
     if is_blank(byte) {
-        return Ok(Front::Blank);
+        return Front::Blank;
     }
     if byte == b'(' {
-        return Ok(Front::Bracket(Token::Open));
+        return Front::Bracket(Token::Open);
     }
     if byte == b')' {
-        return Ok(Front::Bracket(Token::Close));
+        return Front::Bracket(Token::Close);
     }
     if wants {
-        value_at(origin, rest)
+        value_at(rest)
     } else {
-        behind_value(origin, has, rest)
+        behind_value(has, rest)
     }
 }

@@ -1,49 +1,43 @@
-//! Reading a condition token by token.
+//! Reading a condition token by token, to its value.
 
-ghost use Rattle.std.specs.Prelude.{◌≡◌, ◌≤◌, ◌+◌, ◌*◌, [], Some, IfOk};
+ghost use Rattle.std.specs.Prelude.{◌≡◌, ◌≤◌, Bool, []};
 ghost use Rattle.mi_cond.specs.Lex.{is_good};
-ghost use Rattle.mi_cond.specs.Steps.{fresh, Wants, settled_of, step, end_of, depth_at};
-ghost use Rattle.mi_cond.specs.Moves.{wants_value, has_value};
-ghost use Rattle.mi_cond.specs.Outcome.{Steps, StepsTo};
+ghost use Rattle.mi_cond.specs.Steps.{Forms, fresh, Wants, settled_by, step_by, end_by, depth_at, wants_value, has_value};
+ghost use Rattle.mi_cond.specs.Outcome.{StepsTo};
 ghost use Rattle.mi_cond.specs.Brackets.{depth_of};
-ghost use Rattle.mi_cond.specs.View.{tree_of};
-ghost use Rattle.mi_cond.specs.Height.{height, limit};
-ghost use Rattle.mi_cond.specs.Rooms.{IsLow, IsLow-prop, AreLow, AreLow-prop, room, taken, deepest};
+ghost use Rattle.mi_cond.specs.Truths.{truths};
 ghost use Rattle.mi_cond.specs.declared.token.Token.TheVariants.{Open, Close, Negate, Join, Compare, Operand};
 
-use crate::bracket::{Bracket, negated};
-use crate::error::TokenError;
-use crate::node::{Comparison, Node, Operator, Value};
+use crate::bracket::Bracket;
+use crate::evaluate::{compare, negated};
+use crate::operand::{Comparison, Operator, Value};
 use crate::token::{Token, is_keyword};
-use mi_text::NoMemory;
-use std::alloc::Global;
+use arrayvec::ArrayVec;
+use mi_text::Env;
 use std::mem;
 
 /// What stands before the next token in the innermost bracket.
 #[derive(Drop)]
-pub enum Stage {
+pub enum Stage<'t> {
     /// A factor is wanted.
     Wants,
     /// A value, which may be the left side of a comparison.
-    Value(Value),
+    Value(Value<'t>),
     /// The left side of a comparison and its operator.
-    Compares(Value, Comparison),
-    /// A factor.
-    Has(Node),
+    Compares(Value<'t>, Comparison),
+    /// A factor, as whether it holds.
+    Has(bool),
 }
 
-/// What has been read so far: the rows of the open brackets, and what stands in the innermost of them.
+/// What has been read so far: the rows of the open brackets, and what stands in the innermost of them. A token is looked at
+/// behind at most 65 levels of brackets and NOT, and may open one more.
 #[derive(Drop)]
-pub struct Reader {
-    alloc: Global,
-    below: Vec<Bracket>,
+pub struct Reader<'t> {
+    below: ArrayVec<Bracket, 66>,
     top: Bracket,
     depth: u32,
-    stage: Stage,
+    stage: Stage<'t>,
     ghost counted: { depth ≡ depth_of below.items },
-    ghost below_low: { AreLow 0 below.items } by { AreLow-prop 0 below.items },
-    ghost top_low: { IsLow (room depth) top } by { IsLow-prop (room depth) top },
-    ghost stage_low: { taken depth top.nots stage ≤ 321 },
 }
 
 // Keywords aren't names. The bounds of integers were asked for digit by digit.
@@ -51,22 +45,21 @@ fn is_good(value: &Value) -> bool
     ensures { result ≡ is_good value.now }
 {
     match value {
-        Value::Variable(name) | Value::State(_, name) => !is_keyword(name.as_bytes()),
+        Value::Variable(name) | Value::State(_, name) => !is_keyword(name.as_str().as_bytes()),
         Value::Property(_) | Value::Literal(_) => true,
         Value::Integer(integer) => *integer != i32::MIN,
     }
 }
 
-impl Reader {
-    ghost use Rattle.mi_cond.specs.States.{state_of, with_factor};
+impl<'t> Reader<'t> {
+    ghost use Rattle.mi_cond.specs.States.{state_of};
 
-    pub fn new(alloc: Global) -> Reader
+    pub fn new() -> Reader<'t>
         ensures { state_of result ≡ Wants [] fresh }
     {
         Reader {
-            alloc,
-            below: Vec::new(alloc),
-            top: Bracket::new(alloc),
+            below: ArrayVec::new(),
+            top: Bracket::new(),
             depth: 0,
             stage: Stage::Wants,
         }
@@ -106,172 +99,126 @@ impl Reader {
     }
 
     // What stands in the innermost bracket; a factor is wanted then.
-    fn take(&mut self) -> Stage
+    fn take(&mut self) -> Stage<'t>
         ensures stage { result ≡ self.old.stage }
-        ensures after { (h : _) × (self.new ≡ record self.old { stage = Stage.Wants; stage_low = h }) }
+        ensures wants { self.new.stage ≡ Stage.Wants }
+        ensures stays { (self.new.below ≡ self.old.below) × (self.new.top ≡ self.old.top) × (self.new.depth ≡ self.old.depth) }
     {
         mem::replace(&mut self.stage, Stage::Wants)
     }
 
-    fn put(&mut self, stage: Stage)
-        requires { taken self.old.depth self.old.top.nots stage ≤ 321 }
-        ensures { (h : _) × (self.new ≡ record self.old { stage = stage; stage_low = h }) }
-    {
-        drop(mem::replace(&mut self.stage, stage));
-    }
-
-    // A factor, behind the NOT that wait for it.
-    fn factor(&mut self, node: Node) -> Result<(), TokenError>
-        requires { height node + 5 * (self.old.depth + self.old.top.nots) ≤ 321 }
-        ensures { StepsTo result (Some (with_factor self.old (tree_of node))) (state_of self.new) }
-    {
-        let factor = negated(self.alloc, self.top.nots, node)?;
-        self.put(Stage::Has(factor));
-        Ok(())
-    }
-
     // The factor that has been read. None is left here then.
-    #[tactic(auto, using(crate::proofs::Trees::rows, crate::proofs::HeightLaws::low_nodes))]
-    fn settled(&mut self) -> Result<Node, TokenError>
-        ensures gives { Steps tree_of result (settled_of (state_of self.old)) }
-        ensures after { (h : _) × (self.new ≡ record self.old { stage = Stage.Wants; stage_low = h }) }
-        ensures low { IfOk result (λ n. height n + 5 * self.old.depth ≤ 321) }
+    fn settled<E: Env>(&mut self, env: &E) -> Option<bool>
+        ensures gives { result ≡ settled_by (truths (E.lookups env.now)) (state_of self.old) }
+        ensures wants { self.new.stage ≡ Stage.Wants }
+        ensures stays { (self.new.below ≡ self.old.below) × (self.new.top ≡ self.old.top) × (self.new.depth ≡ self.old.depth) }
     {
         match self.take() {
-            Stage::Value(value) => Ok(negated(self.alloc, self.top.nots, Node::Alone(value))?),
-            Stage::Has(node) => Ok(node),
-            Stage::Wants => Err(TokenError::Syntax),
-            Stage::Compares(left, _) => {
-                drop(left);
-                Err(TokenError::Syntax)
-            }
+            Stage::Value(value) => Some(negated(self.top.nots, value.is_true(env))),
+            Stage::Has(factor) => Some(factor),
+            Stage::Wants | Stage::Compares(_, _) => None,
         }
     }
 
-    #[tactic(auto, using(crate::proofs::Trees::rows, crate::proofs::HeightLaws::low_nodes))]
-    fn value(&mut self, value: Value) -> Result<(), TokenError>
-        requires { depth_at (state_of self.old) ≤ 64 }
-        ensures { StepsTo result (step (state_of self.old) (Operand value)) (state_of self.new) }
+    fn value<E: Env>(&mut self, env: &E, value: Value<'t>) -> Option<()>
+        ensures { StepsTo result (step_by (truths (E.lookups env.now)) (state_of self.old) (Operand value.entry)) (state_of self.new) }
     {
         if !is_good(&value) {
-            drop(value);
-            return Err(TokenError::Syntax);
+            return None;
         }
         match self.take() {
-            Stage::Wants => {
-                self.put(Stage::Value(value));
-                Ok(())
-            }
+            Stage::Wants => self.stage = Stage::Value(value),
             Stage::Compares(left, comparison) => {
-                self.factor(Node::Compare(comparison, left, value))
+                let holds = compare(env, comparison, &left, &value);
+                self.stage = Stage::Has(negated(self.top.nots, holds));
             }
-            Stage::Value(left) => {
-                drop(left);
-                drop(value);
-                Err(TokenError::Syntax)
-            }
-            Stage::Has(node) => {
-                drop(node);
-                drop(value);
-                Err(TokenError::Syntax)
-            }
+            Stage::Value(_) | Stage::Has(_) => return None,
         }
+        Some(())
     }
 
-    fn compare(&mut self, comparison: Comparison) -> Result<(), TokenError>
-        ensures { StepsTo result (step (state_of self.old) (Compare comparison)) (state_of self.new) }
+    fn compare(&mut self, comparison: Comparison) -> Option<()>
+        ensures { (by : Forms Bool) → StepsTo result (step_by by (state_of self.old) (Compare comparison)) (state_of self.new) }
     {
         match self.take() {
             Stage::Value(left) => {
-                self.put(Stage::Compares(left, comparison));
-                Ok(())
+                self.stage = Stage::Compares(left, comparison);
+                Some(())
             }
-            Stage::Wants => Err(TokenError::Syntax),
-            Stage::Compares(left, _) => {
-                drop(left);
-                Err(TokenError::Syntax)
-            }
-            Stage::Has(node) => {
-                drop(node);
-                Err(TokenError::Syntax)
-            }
+            Stage::Wants | Stage::Compares(_, _) | Stage::Has(_) => None,
         }
     }
 
-    fn join(&mut self, operator: Operator) -> Result<(), TokenError>
-        ensures { StepsTo result (step (state_of self.old) (Join operator)) (state_of self.new) }
+    fn join<E: Env>(&mut self, env: &E, operator: Operator) -> Option<()>
+        ensures { StepsTo result (step_by (truths (E.lookups env.now)) (state_of self.old) (Join operator)) (state_of self.new) }
     {
-        let last = self.settled()?;
-        self.top.join(self.alloc, operator, last)?;
-        Ok(())
+        let last = self.settled(env)?;
+        self.top = self.top.join(operator, last);
+        Some(())
     }
 
-    fn close(&mut self) -> Result<(), TokenError>
-        ensures { StepsTo result (step (state_of self.old) Close) (state_of self.new) }
+    fn close<E: Env>(&mut self, env: &E) -> Option<()>
+        ensures { StepsTo result (step_by (truths (E.lookups env.now)) (state_of self.old) Close) (state_of self.new) }
     {
-        let last = self.settled()?;
-        let Some(outer) = self.below.pop() else {
-            drop(last);
-            return Err(TokenError::Syntax);
-        };
+        let last = self.settled(env)?;
+        let outer = self.below.pop()?;
         self.depth = self.depth - outer.nots - 1;
-        let inner = mem::replace(&mut self.top, outer);
-        let all = inner.whole(last)?;
-        self.factor(all)
+        let inner = self.top.whole(last);
+        self.top = outer;
+        self.stage = Stage::Has(negated(outer.nots, inner));
+        Some(())
     }
 
     #[tactic(auto, using(crate::proofs::Depths::depths))]
-    fn open(&mut self) -> Result<(), TokenError>
+    fn open(&mut self) -> Option<()>
         requires { depth_at (state_of self.old) ≤ 65 }
-        ensures { StepsTo result (step (state_of self.old) Open) (state_of self.new) }
+        ensures { (by : Forms Bool) → StepsTo result (step_by by (state_of self.old) Open) (state_of self.new) }
     {
         let Stage::Wants = &self.stage else {
-            return Err(TokenError::Syntax);
+            return None;
         };
         let depth = self.depth + self.top.nots + 1;
-        let outer = mem::replace(&mut self.top, Bracket::new(self.alloc));
-        self.below.push(outer)?;
+        self.below.push(self.top);
         self.depth = depth;
-        Ok(())
+        self.top = Bracket::new();
+        Some(())
     }
 
-    fn negate(&mut self) -> Result<(), TokenError>
+    fn negate(&mut self) -> Option<()>
         requires { depth_at (state_of self.old) ≤ 65 }
-        ensures { StepsTo result (step (state_of self.old) Negate) (state_of self.new) }
+        ensures { (by : Forms Bool) → StepsTo result (step_by by (state_of self.old) Negate) (state_of self.new) }
     {
         let Stage::Wants = &self.stage else {
-            return Err(TokenError::Syntax);
+            return None;
         };
         self.top.nots += 1;
-        Ok(())
+        Some(())
     }
 
-    /// Reads a token.
-    pub fn step(&mut self, token: Token) -> Result<(), TokenError>
-        requires { depth_at (state_of self.old) ≤ deepest token }
-        ensures { StepsTo result (step (state_of self.old) token) (state_of self.new) }
+    /// Reads a token, where it may stand here.
+    pub fn step<E: Env>(&mut self, env: &E, token: Token<'t>) -> Option<()>
+        requires { depth_at (state_of self.old) ≤ 65 }
+        ensures { StepsTo result (step_by (truths (E.lookups env.now)) (state_of self.old) token.entry) (state_of self.new) }
     {
         match token {
-            Token::Operand(value) => self.value(value),
+            Token::Operand(value) => self.value(env, value),
             Token::Compare(comparison) => self.compare(comparison),
-            Token::Join(operator) => self.join(operator),
+            Token::Join(operator) => self.join(env, operator),
             Token::Open => self.open(),
-            Token::Close => self.close(),
+            Token::Close => self.close(env),
             Token::Negate => self.negate(),
         }
     }
 
-    /// The condition, where the text ends.
-    pub fn end(&mut self) -> Result<Node, TokenError>
-        ensures tree { Steps tree_of result (end_of (state_of self.old)) }
-        ensures low { IfOk result (λ n. height n ≤ limit) }
+    /// Whether the condition holds, where the text may end here.
+    pub fn end<E: Env>(&mut self, env: &E) -> Option<bool>
+        ensures { result ≡ end_by (truths (E.lookups env.now)) (state_of self.old) }
     {
-        let last = self.settled()?;
-        if !self.below.is_empty() {
-            drop(last);
-            return Err(TokenError::Syntax);
+        let last = self.settled(env)?;
+        if self.below.is_empty() {
+            Some(self.top.whole(last))
+        } else {
+            None
         }
-        let top = mem::replace(&mut self.top, Bracket::new(self.alloc));
-        Ok(top.whole(last)?)
     }
 }

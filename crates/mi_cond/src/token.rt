@@ -1,25 +1,24 @@
 //! The tokens of a condition.
 
-ghost use Rattle.std.specs.Prelude.{◌≡◌, IfOk, true};
+ghost use Rattle.std.specs.Prelude.{◌≡◌, true};
 ghost use Rattle.std.specs.Str.{bytes_eq};
 ghost use Rattle.mi_text.specs.Fold.{folded};
 ghost use Rattle.mi_cond.specs.Integer.{is_digit};
 ghost use Rattle.mi_cond.specs.Lex.{is_blank, is_letter, is_name_byte, are_name_bytes, all_ops, operator_in, is_keyword};
 ghost use Rattle.mi_cond.specs.Moves.{marked_by, relation_by, relation_with, begins_with, begins_operator, word, named};
 
-use crate::node::{Comparison, Operator, Relation, Value};
-use crate::origin::Origin;
-use mi_text::{NoMemory, Sign, Text};
+use crate::operand::{Comparison, Name, Operator, Relation, Value};
+use mi_text::Sign;
 
 /// A token: a bracket, a keyword, an operator of comparison, or a value.
 #[derive(Drop)]
-pub enum Token {
+pub enum Token<'t> {
     Open,
     Close,
     Negate,
     Join(Operator),
     Compare(Comparison),
-    Operand(Value),
+    Operand(Value<'t>),
 }
 
 /// What stands before a name that is no property.
@@ -156,38 +155,38 @@ pub fn is_keyword(name: &[u8]) -> bool
 }
 
 // A name as a text.
-fn text_of(origin: Origin<'_>, name: &[u8]) -> Result<Text, NoMemory>
+fn name_of(name: &[u8]) -> Name<'_>
     requires { are_name_bytes name.now ≡ true }
-    ensures { IfOk result (λ t. t ≡ name.now) }
+    ensures { result ≡ name.now }
 {
     match str::from_utf8(name) {
-        Ok(text) => origin.text(text),
+        Ok(text) => Name::of(text),
         Err(_) => unreachable!(),
     }
 }
 
 /// A keyword, or a property.
-pub fn word(origin: Origin<'_>, name: &[u8]) -> Result<Token, NoMemory>
+pub fn word(name: &[u8]) -> Token<'_>
     requires { are_name_bytes name.now ≡ true }
-    ensures { IfOk result (λ t. t ≡ word name.now) }
+    ensures { result ≡ word name.now }
 {
     if is_word(name, b"not") {
-        return Ok(Token::Negate);
+        return Token::Negate;
     }
     match operator_of(name) {
-        Some(operator) => Ok(Token::Join(operator)),
-        None => Ok(Token::Operand(Value::Property(text_of(origin, name)?))),
+        Some(operator) => Token::Join(operator),
+        None => Token::Operand(Value::Property(name_of(name))),
     }
 }
 
 /// The value that a mark and a name are.
-pub fn named(origin: Origin<'_>, mark: Mark, name: &[u8]) -> Result<Value, NoMemory>
+pub fn named(mark: Mark, name: &[u8]) -> Value<'_>
     requires { are_name_bytes name.now ≡ true }
-    ensures { IfOk result (λ v. v ≡ named mark name.now) }
+    ensures { result ≡ named mark name.now }
 {
-    let name = text_of(origin, name)?;
+    let name = name_of(name);
     match mark {
-        Mark::Variable => Ok(Value::Variable(name)),
-        Mark::State(sign) => Ok(Value::State(sign, name)),
+        Mark::Variable => Value::Variable(name),
+        Mark::State(sign) => Value::State(sign, name),
     }
 }

@@ -2,7 +2,7 @@
 use Rattle.std.specs.Prelude.{ℕ, ℤ, pos, List, map, Option, Some, None, unwrap_or}
 use Rattle.mi_text.specs.declared.guid.Guid.{Guid}
 use Rattle.mi_cond.specs.Tree.{Tree, Alone}
-use Rattle.mi_cond.specs.declared.node.Value.TheVariants as value
+use Rattle.mi_cond.specs.declared.operand.Value.TheVariants as value
 use Rattle.mi_rows.specs.Cells.{Cell}
 use Rattle.mi_rows.specs.Cells.{Integer, Code, Condition}
 use Rattle.mi_rows.specs.Values.{Row, cell_at, text_at, some_text_at, number_at}

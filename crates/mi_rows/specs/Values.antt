@@ -13,7 +13,7 @@ use Rattle.mi_text.specs.Version.{version_of}
 use Rattle.mi_text.specs.declared.guid.Guid.{Guid}
 use Rattle.mi_idt.specs.Cells as raw
 use Rattle.mi_cond.specs.Tree.{Tree, Alone}
-use Rattle.mi_cond.specs.declared.node.Value.TheVariants as value
+use Rattle.mi_cond.specs.declared.operand.Value.TheVariants as value
 use Rattle.mi_rows.specs.Cells.{Cell}
 use Rattle.mi_rows.specs.Cells.{Text, Integer, Code, Condition}
 use Rattle.mi_rows.specs.declared.field.Bad.{Bad}

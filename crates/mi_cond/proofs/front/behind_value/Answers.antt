@@ -1,11 +1,11 @@
 use Rattle.std.proofs.Common.{◌-◌, [], false, get_or}
 use Rattle.mi_cond.specs.Moves.{InSymbol, InLiteral, AfterMinus, InDigits, begin}
 use Rattle.mi_cond.specs.Fronts.{WantsOperator, BehindValue}
-use Rattle.mi_cond.proofs.FrontFinds.{if_such, refused_start, refused_mode, refused_wrong, digit_refused}
+use Rattle.mi_cond.proofs.FrontFinds.{at_such, refused_start, refused_mode, refused_wrong, digit_refused}
 use Rattle.mi_cond.proofs.front.behind_value.Goals as goal
 
 pub returns-in-Letter : goal.returns-in-Letter
-returns-in-Letter c = if_such WantsOperator (BehindValue c.args.has) c.args.rest.now c.operator_behind.result (λ s b. b.0) c.operator_behind.ensures
+returns-in-Letter c = at_such WantsOperator (BehindValue c.args.has) c.args.rest.now c.operator_behind.result (λ s b. b.0) c.operator_behind.ensures
 
 pub returns-in-Nothing : goal.returns-in-Nothing
 returns-in-Nothing c = refused_start c.args.rest.now (BehindValue c.args.has) c.requires.some (λ s b. refused_wrong s (begin (get_or c.args.rest.now 0 0)) c.in-Nothing.ensures.gives)

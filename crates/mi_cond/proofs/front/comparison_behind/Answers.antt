@@ -1,5 +1,5 @@
 use Rattle.std.proofs.Common.{◌∙◌, false, sym, get_or}
-use Rattle.mi_cond.specs.declared.node.Comparison.{Comparison}
+use Rattle.mi_cond.specs.declared.operand.Comparison.{Comparison}
 use Rattle.mi_cond.specs.Moves.{InComparison, begin}
 use Rattle.mi_cond.specs.Fronts.{ComparesValue, BehindValue}
 use Rattle.mi_cond.proofs.FrontFinds.{at_start, at_such, refused_start, refused_mode}

@@ -14,11 +14,11 @@ returns-then-not-begins_operator c = operator_lost c.args.rest.now c.loop-i.i c.
 pub loop-i-preserved : goal.loop-i-preserved
 loop-i-preserved c = operator_more c.args.rest.now c.loop-i.i c.loop-i.invariant (sym c.begins_operator.ensures ∙ c.if-not-begins_operator.false)
 
-pub word-requires : goal.word-requires
-word-requires c = front_is_name c.args.rest.now c.name_length-n.result c.name_length-n.ensures
+pub word-token-requires : goal.word-token-requires
+word-token-requires c = front_is_name c.args.rest.now c.name_length-n.result c.name_length-n.ensures
 
 pub returns : goal.returns
-returns c = operator_found c.args.rest.now c.in_ok-token.token c.name_length-n.result c.loop-i.i c.name_length-n.ensures (omega (arith, c.requires.begins)) (omega arith) c.loop-i.invariant c.in_ok-token.ensures
+returns c = operator_found c.args.rest.now c.word-token.result c.name_length-n.result c.loop-i.i c.name_length-n.ensures (omega (arith, c.requires.begins)) (omega arith) c.loop-i.invariant c.word-token.ensures
 
 pub slice_bounds-word-end : goal.slice_bounds-word-end
 slice_bounds-word-end c =

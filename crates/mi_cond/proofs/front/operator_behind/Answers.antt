@@ -1,7 +1,7 @@
 use Rattle.std.proofs.Common.{◌∙◌, [], ◌∷◌, sym, take, get_or}
 use Rattle.mi_cond.specs.Moves.{InWord, begin}
 use Rattle.mi_cond.specs.Fronts.{WantsOperator}
-use Rattle.mi_cond.proofs.FrontFinds.{if_word, letter_first, refused_start, refused_mode, word_refused, word_stands}
+use Rattle.mi_cond.proofs.FrontFinds.{at_word, letter_first, refused_start, refused_mode, word_refused, word_stands}
 use Rattle.mi_cond.proofs.Lexis.{begin-letter}
 use Rattle.mi_cond.proofs.front.operator_behind.Goals as goal
 
@@ -14,7 +14,7 @@ operator_at-requires-clause-stands c = sym c.begins_operator.ensures ∙ c.if-be
 pub returns-then-begins_operator : goal.returns-then-begins_operator
 returns-then-begins_operator c =
     let begins = sym c.begins_operator.ensures ∙ c.if-begins_operator.true in
-    if_word c.args.rest.now WantsOperator c.operator_at.result c.requires.some c.requires.letter (λ s w. word_stands s (take 1 c.args.rest.now) w begins) c.operator_at.ensures
+    at_word c.args.rest.now WantsOperator c.operator_at.result c.requires.some c.requires.letter (λ s w. word_stands s (take 1 c.args.rest.now) w begins) c.operator_at.ensures
 
 pub returns-else-begins_operator : goal.returns-else-begins_operator
 returns-else-begins_operator c =

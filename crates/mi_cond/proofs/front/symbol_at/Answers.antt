@@ -1,6 +1,6 @@
 use Rattle.std.proofs.Common.{◌+◌, ◌≤◌, ◌-◌, List, [], ℕ, refl, sym, ap, ◌∙◌, subst, take, drop, length, arith}
 use Rattle.std.proofs.lemmas.List.{take_rest, length-drop, length-take-le}
-use Rattle.mi_cond.specs.declared.node.Value.{Value}
+use Rattle.mi_cond.specs.declared.operand.Value.{Value}
 use Rattle.mi_cond.specs.declared.token.Token.TheVariants.{Operand}
 use Rattle.mi_cond.specs.declared.front.Front.TheVariants as front
 use Rattle.mi_cond.specs.Lex.{is_name_byte}
@@ -15,8 +15,8 @@ returns-then-n-eq0 c =
     let rest = c.args.rest.now in
     symbol_lost c.args.mark rest (take (length rest - 1) (drop 1 rest)) c.name_length-n.result c.requires (take_rest rest 1) c.name_length-n.ensures c.if-n-eq0.true
 
-pub named-requires : goal.named-requires
-named-requires c =
+pub named-value-requires : goal.named-value-requires
+named-value-requires c =
     let rest = c.args.rest.now in
     front_is_name (take (length rest - 1) (drop 1 rest)) c.name_length-n.result c.name_length-n.ensures
 
@@ -26,7 +26,7 @@ returns c =
     let text : List ℕ = take (length rest - 1) (drop 1 rest) in
     let n = c.name_length-n.result in
     let base = symbol_found c.args.mark rest text (take n text) n c.requires (take_rest rest 1) c.name_length-n.ensures (omega arith) refl in
-    subst (λ (v : Value). Follows 1 (InSymbol c.args.mark []) WantsValue rest (front.Token (Operand v) (n + 1))) (sym c.in_ok-value.ensures) base
+    subst (λ (v : Value). Follows 1 (InSymbol c.args.mark []) WantsValue rest (front.Token (Operand v) (n + 1))) (sym c.named-value.ensures) base
 
 pub slice_bounds-named-end : goal.slice_bounds-named-end
 slice_bounds-named-end c =

@@ -6,12 +6,12 @@ use Rattle.std.proofs.Common.{◌≤◌, length, take, suc, arith}
 use Rattle.std.proofs.lemmas.List.{length-take-le}
 use Rattle.mi_cond.proofs.front.word_at.Goals as goal
 
-pub word-requires : goal.word-requires
-word-requires c = front_is_name c.args.rest.now c.name_length-n.result c.name_length-n.ensures
+pub word-token-requires : goal.word-token-requires
+word-token-requires c = front_is_name c.args.rest.now c.name_length-n.result c.name_length-n.ensures
 
 pub returns : goal.returns
 returns c =
-    word_found WantsValue c.args.rest.now c.in_ok-token.token c.name_length-n.result c.name_length-n.ensures (omega arith) (λ s such k lt. wants_word s (take (suc k) c.args.rest.now) such) c.in_ok-token.ensures
+    word_found WantsValue c.args.rest.now c.word-token.result c.name_length-n.result c.name_length-n.ensures (omega arith) (λ s such k lt. wants_word s (take (suc k) c.args.rest.now) such) c.word-token.ensures
 
 pub slice_bounds-word-end : goal.slice_bounds-word-end
 slice_bounds-word-end c =
