@@ -58,7 +58,8 @@ fn unescaped_bytes(alloc: Global, field: &[u8]) -> Result<Vec<u8>, AllocError>
     field.iter().map(|byte| unescaped(*byte)).collect(alloc)
 }
 
-fn unescaped_text(alloc: Global, field: &str) -> Result<String, AllocError>
+/// A text in which each escape is the byte that it stands for (Importing and exporting tables); it has as many bytes.
+pub fn unescaped_text(alloc: Global, field: &str) -> Result<String, NoMemory>
     ensures { IfOk result (λ s. string_bytes s ≡ map unescaped field.now) }
 {
     let bytes = unescaped_bytes(alloc, field.as_bytes())?;

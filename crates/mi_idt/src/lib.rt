@@ -17,6 +17,7 @@ mod stands;
 mod table;
 mod write;
 
+pub use escape::unescaped_text;
 pub use laws::spells_one;
 pub use number::integer_within;
 pub use read::read_table;

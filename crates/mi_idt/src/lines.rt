@@ -47,11 +47,15 @@ pub fn text_fields(alloc: Global, line: &str, count: usize) -> Result<Vec<&str>,
     Ok(fields)
 }
 
-/// How many bytes equal `mark`.
+/// How many bytes equal `mark`. They are passed one by one, since so the search skips what lies between them.
 pub fn count(bytes: &[u8], mark: u8) -> usize
     ensures { result ≡ count_by (λ b. b == mark) bytes.now }
 {
-    memchr_iter(mark, bytes).count()
+    let mut marks = 0;
+    for _ in memchr_iter(mark, bytes) {
+        marks += 1;
+    }
+    marks
 }
 
 /// How many fields a line has.

@@ -1,6 +1,6 @@
 -- The values that the fields of a row are.
 use Rattle.std.proofs.Common.{◌≡◌, ℕ, pos, zero, suc, ◌<◌, ◌≤◌, length, get_or, arith, Bool, true, false, cond, ◌||◌, List, [], ◌∷◌, ◌++◌, map, Option, Some, None, refl, sym, ap, subst, ◌∙◌}
-use Rattle.std.specs.Prelude.{option_map, unwrap_or}
+use Rattle.std.specs.Prelude.{option_map, unwrap_or, is_none, not}
 use Rattle.std.specs.declared.alloc.Global.{Global}
 use Rattle.std.specs.Prelude.{string_bytes, String}
 use Rattle.std.specs.HashSet as bag
@@ -20,6 +20,8 @@ use Rattle.mi_idt.specs.Raw.{text_of}
 use Rattle.mi_idt.proofs.Numbers.{is_integer}
 use Rattle.mi_rows.specs.declared.column.Kind.{Kind}
 use Rattle.mi_rows.specs.declared.column.Kind.TheVariants as kind
+use Rattle.mi_rows.specs.declared.column.Rule.{Rule}
+use Rattle.mi_rows.specs.declared.column.Rule.TheVariants as rule
 use Rattle.mi_rows.specs.declared.field.Field.{Field}
 use Rattle.mi_rows.specs.declared.column.Column.{Column as Listed}
 use Rattle.mi_rows.specs.Cells.{Cell, Integer}
@@ -29,7 +31,7 @@ use Rattle.mi_rows.specs.declared.field.Bad.{Bad}
 use Rattle.mi_rows.specs.Rows.{◌or_else◌, cell_fault}
 use Rattle.mi_rows.specs.Columns.{column_as}
 use Rattle.mi_rows.specs.Typed.{some_condition_in}
-use Rattle.mi_rows.specs.Values.{Row, cell_at, value_of, text_value, row_of, text_at, text_in, is_key_in, kind_fault, meets, unless}
+use Rattle.mi_rows.specs.Values.{Row, cell_at, value_of, text_value, row_of, text_at, text_in, is_key_in, takes_any, kind_fault, meets, unless}
 use Rattle.mi_rows.proofs.FitLemmas.{AllFit}
 
 pub cell_there : (row : List Field) (column : ℕ) (f : Field) → column < length row → f ≡ get_or row column f → cell_at (values_of row) column ≡ field_value f
@@ -78,6 +80,37 @@ judged c f x same shows fits keys before front none b is =
     let at : value_of c.kind x ≡ field_value f = ap (λ (k : Kind). value_of k x) (sym same) ∙ sym (value_shown f x shows (subst (λ (k : Kind). FitsKind k x) (sym same) fits)) in
     let first : kind_fault c.kind c.nullable x ≡ None = ap (λ (k : Kind). kind_fault k c.nullable x) (sym same) ∙ none in
     ap (λ (o : Option Bad). o or_else unless (meets c.rule keys before front (value_of c.kind x))) first ∙ ap (λ (v : Option Cell). unless (meets c.rule keys before front v)) at ∙ ap unless (sym is)
+
+-- a field of a free column that takes any text, or integers
+any_fits : (k : Kind) (nullable : Bool) (shown : Option (List ℕ)) (x : raw.Cell) → takes_any k ≡ true → (nullable || not (is_none shown)) ≡ true → Shows shown x → kind_fault k nullable x ≡ None
+any_fits k true None raw.Nothing any may shows = refl
+any_fits k false None raw.Nothing any may shows = absurd cc
+any_fits k nullable (Some t) raw.Nothing any may shows = absurd shows
+any_fits kind.Text nullable shown (raw.Text t) any may shows = refl
+any_fits kind.Formatted nullable shown (raw.Text t) any may shows = refl
+any_fits kind.Integer nullable shown (raw.Text t) any may shows = refl
+any_fits kind.Name nullable shown (raw.Text t) any may shows = absurd cc
+any_fits kind.Pattern nullable shown (raw.Text t) any may shows = absurd cc
+any_fits kind.Condition nullable shown (raw.Text t) any may shows = absurd cc
+any_fits kind.Code nullable shown (raw.Text t) any may shows = absurd cc
+any_fits k nullable shown (raw.Number z) any may shows = refl
+
+no_condition : (k : Kind) (shown : Option (List ℕ)) → takes_any k ≡ true → None ≡ some_condition_in (option_map (shown_value k) shown)
+no_condition k None any = refl
+no_condition kind.Text (Some t) any = refl
+no_condition kind.Formatted (Some t) any = refl
+no_condition kind.Integer (Some t) any = refl
+no_condition kind.Name (Some t) any = absurd cc
+no_condition kind.Pattern (Some t) any = absurd cc
+no_condition kind.Condition (Some t) any = absurd cc
+no_condition kind.Code (Some t) any = absurd cc
+
+pub free_value : (c : Listed) (f : Field) (x : raw.Cell) → f.kind ≡ c.kind → Shows (text_shown f.text.now) x → FitsKind c.kind x → (keys : List Name) (before : List Row) (front : Row)
+    → c.rule ≡ rule.Free → takes_any c.kind ≡ true → (c.nullable || not (is_none (text_shown f.text.now))) ≡ true → (cell_fault (column_as c) keys before front x ≡ None) × (None ≡ some_condition_in (field_value f))
+free_value c f x same shows fits keys before front free any may =
+    let any_f : takes_any f.kind ≡ true = ap takes_any same ∙ any in
+    let met : true ≡ meets c.rule keys before front (field_value f) = sym (ap (λ (r : Rule). meets r keys before front (field_value f)) free) in
+    (judged c f x same shows fits keys before front (any_fits f.kind c.nullable (text_shown f.text.now) x any_f may shows) true met, no_condition f.kind (text_shown f.text.now) any_f)
 
 -- one value more
 pub last_more : (row : Row) (x : Option Cell) → last_condition (row ++ x ∷ []) ≡ (some_condition_in x or_else last_condition row)

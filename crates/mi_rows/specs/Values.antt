@@ -101,6 +101,13 @@ text_fault kind.Code text = unless (is_some (guid_of text))
 text_fault kind.Condition text = place_of_fault (condition_of text)
 text_fault other text = None
 
+-- each field that a column of this kind can hold is of it
+abbrev pub takes_any : Kind → Bool
+takes_any kind.Text = true
+takes_any kind.Formatted = true
+takes_any kind.Integer = true
+takes_any other = false
+
 -- why a field isn't of its kind
 abbrev pub kind_fault : Kind → Bool → raw.Cell → Option Bad
 kind_fault kind nullable raw.Nothing = unless nullable

@@ -19,6 +19,18 @@ pub enum Kind {
     Integer,
 }
 
+impl Kind {
+    ghost use Rattle.std.specs.Prelude.{◌≡◌};
+    ghost use Rattle.mi_rows.specs.Values.{takes_any};
+
+    /// Whether each field that a column of this kind can hold is of it: any text, or an integer.
+    pub(crate) fn takes_any(self) -> bool
+        ensures { result ≡ takes_any self }
+    {
+        matches!(self, Kind::Text | Kind::Formatted | Kind::Integer)
+    }
+}
+
 /// What the values of a column meet beside their kind. A null meets every rule but `OneRoot` and `WordCount`.
 #[derive(Clone, Copy)]
 pub enum Rule {

@@ -1,6 +1,6 @@
 //! What a row holds: the texts of its fields, and the values that they are.
 
-ghost use Rattle.std.specs.Prelude.{◌≡◌, None, IfSome, IfNone};
+ghost use Rattle.std.specs.Prelude.{◌≡◌, None, option_map, IfSome, IfNone};
 ghost use Rattle.std.specs.Option.{option_copied};
 ghost use Rattle.mi_text.specs.Guid.{guid_of};
 ghost use Rattle.mi_idt.specs.Means.{text_shown};
@@ -119,12 +119,22 @@ fn field_at<'r, 'a>(row: &'r [Field<'a>], column: usize) -> Option<&'r Field<'a>
     }
 }
 
+/// The field of a column of a row, from 0, where its value is a text.
+pub fn text_field_at<'r, 'a>(row: &'r [Field<'a>], column: usize) -> Option<&'r Field<'a>>
+    ensures { option_map (λ f. f.text.now) (option_copied result) ≡ text_in (cell_at (values_of row.now) column) }
+{
+    match field_at(row, column) {
+        Some(field) if some_text(field).is_some() => Some(field),
+        _ => None,
+    }
+}
+
 /// The text of a column of a row, from 0, where it has one.
 pub fn some_text_at<'r>(row: &'r [Field<'_>], column: usize) -> Option<&'r str>
     ensures { option_copied result ≡ text_in (cell_at (values_of row.now) column) }
 {
-    match field_at(row, column) {
-        Some(field) => some_text(field),
+    match text_field_at(row, column) {
+        Some(field) => Some(field.text),
         None => None,
     }
 }
@@ -134,14 +144,6 @@ pub fn text_at<'r>(row: &'r [Field<'_>], column: usize) -> &'r str
     ensures { result.now ≡ text_at (values_of row.now) column }
 {
     some_text_at(row, column).unwrap_or("")
-}
-
-/// Where a column of a row, from 0, begins in the text of its table, in bytes; 0 where there is none.
-pub fn start_at(row: &[Field], column: usize) -> usize {
-    match field_at(row, column) {
-        Some(field) => field.start,
-        None => 0,
-    }
 }
 
 /// The number of a column of a row, from 0, where it has one.

@@ -1,6 +1,6 @@
 //! The rows of a table as structs.
 
-ghost use Rattle.std.specs.Prelude.{◌≡◌, ◌+◌, ◌<◌, ◌++◌, ◌∷◌, List, [], true, false, None, Some, map, option_map, unwrap_or, string_bytes, vec_len, IfOk, OnOk};
+ghost use Rattle.std.specs.Prelude.{◌≡◌, ◌+◌, ◌<◌, ◌++◌, ◌∷◌, ◌||◌, not, List, [], true, false, None, Some, is_none, map, option_map, unwrap_or, string_bytes, vec_len, IsTrue, IfOk, OnOk};
 ghost use Rattle.std.specs.List.{list_any};
 ghost use Rattle.mi_text.specs.Maps.{Name};
 ghost use Rattle.mi_idt.specs.Cells as raw;
@@ -9,7 +9,7 @@ ghost use Rattle.mi_rows.specs.Fields.{field_value, shown_value, values_of, last
 ghost use Rattle.mi_rows.specs.Reads.{Answers, KnowsKeys, asks_key, keys_asked, IsSeen, IsDraft, ReadsAs, RefusesAs, FitsKind, raw_row};
 ghost use Rattle.mi_rows.specs.Columns.{column_as, table_as};
 ghost use Rattle.mi_rows.specs.Typed.{keyed, some_condition_in};
-ghost use Rattle.mi_rows.specs.Values.{KeysTell, Row, row_of, text_in, text_at, all_suit};
+ghost use Rattle.mi_rows.specs.Values.{KeysTell, Row, row_of, text_in, text_at, all_suit, takes_any};
 ghost use Rattle.mi_rows.specs.Rows.{◌or_else◌, cell_fault, row_fault, rows_fault, rows_in, keys_of, begins_with, has_columns, fault_at};
 
 use crate::column::{Column, Kind, Layout, Rule};
@@ -43,6 +43,17 @@ fn error_at(alloc: Global, table: &str, row: u32, column: u32, error: FieldError
     }
 }
 
+/// Whether a field is a value of its column, whatever it is; of some that are it says no.
+fn is_free(column: &Column, field: &Field) -> bool
+    ensures rule { IsTrue result → column.now.rule ≡ Rule.Free }
+    ensures kind { IsTrue result → takes_any column.now.kind ≡ true }
+    ensures null { IsTrue result → (column.now.nullable || not (is_none (text_shown field.now.text.now))) ≡ true }
+{
+    matches!(column.rule, Rule::Free)
+        && column.kind.takes_any()
+        && (column.nullable || !field.text.is_empty())
+}
+
 /// Why a field isn't a value of its column, by its kind and its rule, or the condition that it is, where it is one.
 fn read_field(
     take: &Take,
@@ -55,6 +66,9 @@ fn read_field(
     ensures { (x : raw.Cell) → Shows (text_shown field.now.text.now) x → FitsKind column.now.kind x → (keys : List Name) (before : List Row) → KnowsKeys seen.now.keys keys → IsSeen seen.now before
         → ReadsAs (cell_fault (column_as column.now) keys before (values_of front.now) x) (some_condition_in (field_value field.now)) result }
 {
+    if is_free(column, field) {
+        return Ok(None);
+    }
     let condition = read_kind(take, field, column.nullable)?;
     if meets(column.rule, seen, front, field) {
         Ok(condition)

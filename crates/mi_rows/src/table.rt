@@ -1,7 +1,7 @@
 //! A table that its bytes spell: its columns and its keys beside those of its layout, and its rows.
 
 ghost use Rattle.mi_base.specs.declared.answers.Fault.TheVariants as faults;
-ghost use Rattle.std.specs.Prelude.{◌≡◌, ◌&&◌, Some, map};
+ghost use Rattle.std.specs.Prelude.{◌≡◌, ◌&&◌, Some, map, string_bytes};
 ghost use Rattle.std.specs.Str.{bytes_eq};
 ghost use Rattle.mi_idt.specs.Means.{IsSpelled, meaning, column_value};
 ghost use Rattle.mi_rows.specs.Reads.{Answers, Refuses};
@@ -16,7 +16,7 @@ use crate::row::read_rows;
 use crate::table_row::{Key, TableRow};
 use indexmap::IndexMap;
 use mi_base::{Fault, IdtFault, Text};
-use mi_idt::{Column as Spelled, IdtError, Table, read_table};
+use mi_idt::{Column as Spelled, IdtError, Table, read_table, unescaped_text};
 use mi_text::Bytes;
 use std::alloc::Global;
 use std::rc::Rc;
@@ -129,7 +129,38 @@ fn read_bytes<K: Key, R: TableRow<K>>(
     }
 }
 
-/// Reads the rows of a known table in these bytes into a map, which keeps the bytes for the texts of the rows, or refuses
+/// Whether no byte of a table's text is below 28, as each escape is, but for tabs and the ends of lines. All bytes are
+/// looked at, since a loop that may end before takes longer.
+fn is_plain(bytes: &[u8]) -> bool {
+    let mut plain = true;
+    for byte in bytes {
+        plain &= *byte > 27 || matches!(*byte, b'\t' | b'\n' | b'\r');
+    }
+    plain
+}
+
+/// Reads the rows of a known table of this text into a map, or refuses with its first fault. What the rows keep is the
+/// text itself, or where something is escaped in it, the unescaped one, in which their texts stand at the same places.
+fn read_text<K: Key, R: TableRow<K>>(
+    alloc: Global,
+    layout: &Layout,
+    text: String,
+    rows: &mut IndexMap<K, R>,
+) -> Checked
+    requires is { table_as layout.now ≡ R.layout }
+    requires apart { KeysTell K.eq K.key R.layout.columns }
+    ensures { Answers ⊥ (table_fault (table_as layout.now) (Some (string_bytes text))) (λ _. rows.new.entries ≡ keyed K.key R.value (table_rows (table_as layout.now) (Some (string_bytes text)))) result }
+{
+    if is_plain(text.as_bytes()) {
+        let whole = Rc::new(alloc, text)?;
+        read_bytes(alloc, layout, &whole, whole.as_bytes(), rows)
+    } else {
+        let whole = Rc::new(alloc, unescaped_text(alloc, text.as_str())?)?;
+        read_bytes(alloc, layout, &whole, text.as_bytes(), rows)
+    }
+}
+
+/// Reads the rows of a known table in these bytes into a map, which keeps their text for the texts of the rows, or refuses
 /// with its first fault. Bytes that aren't text spell no table, so nothing is kept of them.
 pub fn read_shared<K: Key, R: TableRow<K>>(
     alloc: Global,
@@ -144,8 +175,7 @@ pub fn read_shared<K: Key, R: TableRow<K>>(
     match String::from_utf8(bytes.into_vec()) {
         Ok(mut text) => {
             text.shrink_to_fit();
-            let whole = Rc::new(alloc, text)?;
-            read_bytes(alloc, layout, &whole, whole.as_bytes(), rows)
+            read_text(alloc, layout, text, rows)
         }
         Err(error) => {
             let none = Rc::new(alloc, String::new(alloc))?;

@@ -5,7 +5,7 @@ ghost use Rattle.mi_rows.specs.Fields.{values_of, Takes};
 ghost use Rattle.mi_rows.specs.Rows.{◌or_else◌};
 ghost use Rattle.mi_rows.specs.Values.{cell_at, text_in, text_at};
 
-use crate::field::{Field, some_text_at, start_at, text_at};
+use crate::field::{Field, text_field_at};
 use mi_base::Text;
 use mi_cond::Cond;
 use std::alloc::Global;
@@ -84,13 +84,12 @@ impl Take {
         }
     }
 
-    /// The text of a column of a row, from 0; empty where there is none.
-    pub fn text(&mut self, row: &[Field], column: usize) -> Text
-        ensures text { Takes self.old.failed self.new.failed (result ≡ text_at (values_of row.now) column) }
+    // A text that begins at this place of the table's text, in bytes, where it stands there.
+    fn part(&mut self, start: usize, text: &str) -> Text
+        ensures text { Takes self.old.failed self.new.failed (result ≡ text.now) }
         ensures condition { self.new.condition ≡ self.old.condition }
     {
-        let start = start_at(row, column);
-        match Text::part_of(self.alloc, &self.whole, start, text_at(row, column)) {
+        match Text::part_of(self.alloc, &self.whole, start, text) {
             Ok(text) => text,
             Err(_) => {
                 self.failed = true;
@@ -104,9 +103,20 @@ impl Take {
         ensures text { Takes self.old.failed self.new.failed (result ≡ text_in (cell_at (values_of row.now) column)) }
         ensures condition { self.new.condition ≡ self.old.condition }
     {
-        match some_text_at(row, column) {
-            Some(_) => Some(self.text(row, column)),
+        match text_field_at(row, column) {
+            Some(field) => Some(self.part(field.start, field.text)),
             None => None,
+        }
+    }
+
+    /// The text of a column of a row, from 0; empty where there is none.
+    pub fn text(&mut self, row: &[Field], column: usize) -> Text
+        ensures text { Takes self.old.failed self.new.failed (result ≡ text_at (values_of row.now) column) }
+        ensures condition { self.new.condition ≡ self.old.condition }
+    {
+        match self.some_text(row, column) {
+            Some(text) => text,
+            None => Text::new(self.alloc),
         }
     }
 
