@@ -337,11 +337,12 @@ fn fill_rows<K: Key, R: TableRow<K>>(
 }
 
 /// The rows of a table that has the columns of its layout, by their keys, or the first fault among them. Their texts
-/// are parts of the table's, `whole`, where they stand there.
+/// are parts of the table's, `whole`, where they stand there; the line of the first row begins at the place `line` in it.
 pub fn read_rows<K: Key, R: TableRow<K>>(
     alloc: Global,
     layout: &Layout,
     whole: Rc<String>,
+    line: usize,
     table: &Table,
 ) -> Result<IndexMap<K, R>, LoadError>
     requires is { table_as layout.now ≡ R.layout }
@@ -357,7 +358,7 @@ pub fn read_rows<K: Key, R: TableRow<K>>(
         return Err(LoadError::NoMemory);
     };
     let mut seen = Seen::new(alloc, keys);
-    let mut take = Take::new(alloc, whole);
+    let mut take = Take::new(alloc, whole, line);
     let filled = fill_rows(layout, table, &mut seen, &mut take, &mut rows);
     drop(take);
     drop(seen);

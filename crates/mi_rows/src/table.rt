@@ -14,6 +14,7 @@ use crate::column::{Column, Kind, Layout};
 use crate::error::{Checked, LoadError};
 use crate::row::read_rows;
 use crate::table_row::{Key, TableRow};
+use crate::take::fourth_line;
 use indexmap::IndexMap;
 use mi_base::{Fault, IdtFault, Text};
 use mi_idt::{Column as Spelled, IdtError, Table, read_table, unescaped_text};
@@ -88,11 +89,12 @@ pub fn misspelled(alloc: Global, table: &str, why: IdtFault) -> LoadError
 }
 
 /// Reads the rows of a known table that its bytes spell into a map, or refuses with its first fault. Texts of the rows
-/// that stand in `whole` where the rows do are parts of it.
+/// that stand in `whole` where the rows do, the first from the place `line` on, are parts of it.
 fn read_spelled<K: Key, R: TableRow<K>>(
     alloc: Global,
     layout: &Layout,
     whole: &Rc<String>,
+    line: usize,
     table: &Table,
     rows: &mut IndexMap<K, R>,
 ) -> Checked
@@ -105,7 +107,7 @@ fn read_spelled<K: Key, R: TableRow<K>>(
         let name = Text::copy_of(alloc, layout.name)?;
         return Err(LoadError::Table(Fault::Columns(name)));
     }
-    *rows = read_rows(alloc, layout, whole.clone()?, table)?;
+    *rows = read_rows(alloc, layout, whole.clone()?, line, table)?;
     Ok(())
 }
 
@@ -123,7 +125,7 @@ fn read_bytes<K: Key, R: TableRow<K>>(
     ensures { Answers ⊥ (table_fault (table_as layout.now) (Some bytes.now)) (λ _. rows.new.entries ≡ keyed K.key R.value (table_rows (table_as layout.now) (Some bytes.now))) result }
 {
     match read_table(alloc, bytes) {
-        Ok(table) => read_spelled(alloc, layout, whole, &table, rows),
+        Ok(table) => read_spelled(alloc, layout, whole, fourth_line(bytes), &table, rows),
         Err(IdtError::NoMemory) => Err(LoadError::NoMemory),
         Err(IdtError::Fault(fault)) => Err(misspelled(alloc, layout.name, fault)),
     }

@@ -12,7 +12,7 @@ use std::alloc::Global;
 use std::rc::Rc;
 
 /// Where the fourth line begins, in bytes: that of the first row (Importing and exporting tables).
-fn fourth_line(bytes: &[u8]) -> usize {
+pub fn fourth_line(bytes: &[u8]) -> usize {
     let mut before = 3usize;
     for (i, byte) in bytes.iter().enumerate() {
         if *byte == b'\n' {
@@ -44,12 +44,11 @@ pub struct Take {
 }
 
 impl Take {
-    /// Before the first row of a table of this text.
-    pub fn new(alloc: Global, whole: Rc<String>) -> Take
+    /// Before the first row of a table of this text, whose line begins at this place, in bytes.
+    pub fn new(alloc: Global, whole: Rc<String>, line: usize) -> Take
         ensures condition { result.condition ≡ None }
         ensures failed { result.failed ≡ false }
     {
-        let line = fourth_line(whole.as_bytes());
         Take {
             alloc,
             whole,
