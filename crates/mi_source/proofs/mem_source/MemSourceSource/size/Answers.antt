@@ -1,0 +1,9 @@
+-- Written out, so that an edit that turns it is refused at once (docs/GATE.md).
+use Rattle.std.proofs.Common.{rules}
+use Rattle.mi_source.proofs.mem_source.MemSourceSource.size.Goals as goal
+
+pub returns-then-fails_now-clause-value : goal.returns-then-fails_now-clause-value
+returns-then-fails_now-clause-value c = search rules
+
+pub returns-then-fails_now-clause-fails : goal.returns-then-fails_now-clause-fails
+returns-then-fails_now-clause-fails c = search rules
