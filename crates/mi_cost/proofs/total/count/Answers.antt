@@ -1,0 +1,6 @@
+-- Written out, so that an edit that turns it is refused at once (docs/GATE.md).
+use Rattle.std.proofs.Common.{rules}
+use Rattle.mi_cost.proofs.total.count.Goals as goal
+
+pub returns-clause-ok : goal.returns-clause-ok
+returns-clause-ok c = search rules

@@ -1,0 +1,6 @@
+-- Written out, so that an edit that turns it is refused at once (docs/GATE.md).
+use Rattle.std.proofs.Common.{rules}
+use Rattle.mi_gen.proofs.generated.GeneratedSource.size.Goals as goal
+
+pub returns-clause-value : goal.returns-clause-value
+returns-clause-value c = search rules
