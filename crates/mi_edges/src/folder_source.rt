@@ -4,10 +4,7 @@ ghost use Rattle.std.specs.Prelude.{◌≡◌, ◌≤◌, IfOk, vec_len};
 ghost use Rattle.std.specs.FinMap.{empty};
 ghost use Rattle.mi_edges.specs.Count.{Counts};
 
-use crate::found::{Found, look_through};
-use crate::reading::read_at;
-use crate::trouble::Trouble;
-use crate::walk::{Visit, path_in, visit_all};
+use mi_disk::{Found, Trouble, Visit, look_through, path_in, read_at, visit_all};
 use mi_source::{Failed, Source, SrcFault};
 use mi_text::{Bytes, Text};
 use std::alloc::Global;

@@ -5,12 +5,8 @@ ghost use Rattle.std.specs.Option.{option_copied};
 ghost use Rattle.mi_volume.specs.Maps.{IsAbove};
 ghost use Rattle.mi_edges.specs.Count.{Counts};
 
-use crate::disk::Disk;
-use crate::found::{Found, Lockable};
 use crate::held::{Held, Written};
-use crate::listing::{Folders, Listed};
-use crate::trouble::Trouble;
-use crate::writing::sync_open;
+use mi_disk::{Disk, Folders, Found, Listed, Lockable, Trouble, sync_open};
 use mi_text::{Bytes, Name};
 use mi_volume::{Failed, PutFault, VolFault, Volume};
 use std::alloc::Global;

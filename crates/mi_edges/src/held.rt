@@ -4,9 +4,7 @@ ghost use Rattle.std.specs.Prelude.{◌≤◌, IfOk, IfSome, IsTrue, length};
 ghost use Rattle.std.specs.Option.{option_copied};
 ghost use Rattle.mi_volume.specs.Maps.{IsAbove};
 
-use crate::names::LONGEST_NAME;
-use crate::order::sort_names;
-use crate::trouble::Trouble;
+use mi_disk::{LONGEST_NAME, Trouble, sort_names};
 use mi_text::{Name, NameError};
 use std::alloc::Global;
 use std::cmp::Ordering;
