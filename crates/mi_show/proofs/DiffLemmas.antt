@@ -26,10 +26,11 @@ use Rattle.mi_image.specs.declared.item.Item.{Item}
 use Rattle.mi_image.specs.declared.item.Item.TheVariants.{Head, Whole}
 use Rattle.mi_image.specs.Items.{Items, AreRight, content_bytes, entry_over, bytes_of_file, ImageOf}
 use Rattle.mi_image.proofs.LookupLemmas.{get_over}
-use Rattle.mi_show.specs.Texts.{field}
-use Rattle.mi_show.specs.Lines.{head_details, file_line}
+use Rattle.mi_print.specs.Texts.{field}
+use Rattle.mi_print.specs.Lines.{head_details, file_line}
 use Rattle.mi_show.specs.Machines.{no_files, machine_in, plain_machine, IsScanned}
-use Rattle.mi_show.specs.Prints.{names_of, other_line}
+use Rattle.mi_print.specs.Entries.{other_line}
+use Rattle.mi_show.specs.Prints.{names_of}
 use Rattle.mi_show.specs.Differences.{name_set, names_of_either, entry_line, line_at, item_line, different}
 use Rattle.mi_show.specs.Sets.{set_of}
 use Rattle.mi_show.proofs.ImageLemmas.{plain_keys, drop_more}

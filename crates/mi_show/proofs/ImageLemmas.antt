@@ -24,11 +24,12 @@ use Rattle.mi_image.specs.Fronts.{value_front}
 use Rattle.mi_image.specs.Items.{Items, AreRight, content_bytes, entry_over, bytes_of_file, machine_over, ImageOf}
 use Rattle.mi_image.specs.Lookups.{whole_of, head_in}
 use Rattle.mi_image.proofs.LookupLemmas.{over_whole, get_over}
-use Rattle.mi_show.specs.Lines.{details, head_details}
-use Rattle.mi_show.specs.Registry.{key_line, stray}
-use Rattle.mi_show.specs.Trees.{path_lines, tree}
+use Rattle.mi_print.specs.Lines.{details, head_details}
+use Rattle.mi_print.specs.Registry.{key_line, stray}
+use Rattle.mi_print.specs.Trees.{path_lines, tree}
 use Rattle.mi_show.specs.Machines.{no_files, machine_in, plain_machine, IsScanned, head_lines, heads_tree, heads_of, lines_after, path_after}
-use Rattle.mi_show.specs.Prints.{other_line, other_at, names_of, lines, exported_at, values_of, key_with_values, stray_at, registry, section, others, shown}
+use Rattle.mi_print.specs.Entries.{other_line}
+use Rattle.mi_show.specs.Prints.{other_at, names_of, lines, exported_at, values_of, key_with_values, stray_at, registry, section, others, shown}
 
 -- ---- a source without files
 

@@ -12,11 +12,11 @@ use Rattle.mi_base.specs.declared.entry.Entry.{Entry}
 use Rattle.mi_base.specs.declared.entry.Entry.TheVariants as entry
 use Rattle.mi_base.specs.Machine.{Machine, key_at}
 use Rattle.mi_image.specs.Fronts.{value_front}
-use Rattle.mi_show.specs.Registry.{key_line, exported, stray}
+use Rattle.mi_print.specs.Registry.{key_line, exported, stray}
 use Rattle.mi_show.specs.Prints.{names_of, exported_at, values_of, key_with_values, stray_at, registry}
-use Rattle.mi_show.proofs.CodeLemmas.{AreApart, all_apart}
-use Rattle.mi_show.proofs.LineLemmas.{spread, tails}
-use Rattle.mi_show.proofs.RegistryLemmas.{differ, Fits32, key_line_apart, Named, NamedFits, exported_named, exported_apart, exported_never}
+use Rattle.mi_print.proofs.CodeLemmas.{AreApart, all_apart}
+use Rattle.mi_print.proofs.LineLemmas.{spread, tails}
+use Rattle.mi_print.proofs.RegistryLemmas.{differ, Fits32, key_line_apart, Named, NamedFits, exported_named, exported_apart, exported_never}
 use Rattle.mi_show.proofs.MachineLemmas.{starts, given, given_text, text_or_none}
 
 -- items, and a rest that no item begins
@@ -157,7 +157,7 @@ pub lone_never : (s : Lone) (x y : List ℕ) → ¬ (stray_text s ++ x ≡ 10 �
 lone_never s x y e = differ 59 10 _ _ refl (sym (lone_spread s x) ∙ e)
 
 item_head : (i : Item) (x : List ℕ) → (z : List ℕ) × (item_text i ++ x ≡ 91 ∷ z)
-unfolding key_line Rattle.mi_show.specs.Registry.key_text
+unfolding key_line Rattle.mi_print.specs.Registry.key_text
 item_head i x = (_, refl)
 
 pub no_item : (ss : List Lone) (x : List ℕ) (a : Item) (z : List ℕ) → ¬ (item_text a ++ z ≡ flat_map stray_text ss ++ 10 ∷ x)

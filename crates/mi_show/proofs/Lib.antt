@@ -1,13 +1,7 @@
-mod CodeLemmas
 mod DiffLawLemmas
 mod DiffLemmas
 mod ImageLemmas
 mod KeyLemmas
-mod LawLemmas
-mod LineLemmas
 mod MachineLemmas
 mod PrintLemmas
-mod RegistryLemmas
-mod TreeCodeLemmas
-mod TreeLemmas
 mod WholeLemmas

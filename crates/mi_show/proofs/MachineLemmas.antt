@@ -11,9 +11,10 @@ use Rattle.mi_base.specs.Names.{file_name, folder_name, key_name, value_name, sh
 use Rattle.mi_base.specs.Spelling.{name_of}
 use Rattle.mi_base.specs.Machine.{Machine, Fits, IsMachine}
 use Rattle.mi_image.proofs.PrefixLemmas.{starts_is}
-use Rattle.mi_show.specs.Prints.{other_line, other_at, lines}
-use Rattle.mi_show.specs.Laws.{letter}
-use Rattle.mi_show.proofs.CodeLemmas.{heads}
+use Rattle.mi_print.specs.Entries.{other_line}
+use Rattle.mi_show.specs.Prints.{other_at, lines}
+use Rattle.mi_print.specs.Laws.{letter}
+use Rattle.mi_print.proofs.CodeLemmas.{heads}
 
 -- ---- the first letter of a name
 

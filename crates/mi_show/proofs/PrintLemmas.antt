@@ -19,14 +19,15 @@ use Rattle.mi_base.specs.Spelling.{name_of}
 use Rattle.mi_base.specs.Machine.{Machine, IsMachine, key_at, as_file}
 use Rattle.mi_image.proofs.PrefixLemmas.{starts_is}
 use Rattle.mi_image.specs.Fronts.{value_front}
-use Rattle.mi_show.specs.Trees.{tree}
+use Rattle.mi_print.specs.Trees.{tree}
 use Rattle.mi_show.specs.Prints.{lines, files_in, registry, section, others, shown}
-use Rattle.mi_show.specs.Laws.{letter, IsFile, IsSmallFile, IsShown, ToldByHash}
-use Rattle.mi_show.proofs.CodeLemmas.{AreApart, NeverBegins, all_apart, long_apart, heads}
-use Rattle.mi_show.proofs.LineLemmas.{spread, tails}
-use Rattle.mi_show.proofs.RegistryLemmas.{differ, Named, NamedFits}
-use Rattle.mi_show.proofs.TreeLemmas.{tree_apart}
-use Rattle.mi_show.proofs.LawLemmas.{entry_apart, head_is, apart, small_value, key_root, value_root}
+use Rattle.mi_print.specs.Laws.{letter, IsFile, IsSmallFile}
+use Rattle.mi_show.specs.Laws.{IsShown, ToldByHash}
+use Rattle.mi_print.proofs.CodeLemmas.{AreApart, NeverBegins, all_apart, long_apart, heads}
+use Rattle.mi_print.proofs.LineLemmas.{spread, tails}
+use Rattle.mi_print.proofs.RegistryLemmas.{differ, Named, NamedFits}
+use Rattle.mi_print.proofs.TreeLemmas.{tree_apart}
+use Rattle.mi_print.proofs.LawLemmas.{entry_apart, head_is, apart, small_value, key_root, value_root}
 use Rattle.mi_show.proofs.MachineLemmas.{starts, all_given, IsOf, are_of, entries_at, line, lines_text, front_of}
 use Rattle.mi_show.proofs.KeyLemmas.{Item, Lone, in_key, values, named_value, key_item, key_items, stray_item, strays, item_text, stray_text, header, registry_spread, rest_apart, IsItem, item_apart, IsLone, lone_apart, lone_never, no_item}
 

@@ -21,10 +21,11 @@ use Rattle.mi_image.proofs.ListLemmas.{value_short}
 use Rattle.mi_image.proofs.PrefixLemmas.{starts_append}
 use Rattle.mi_image.specs.Fronts.{value_front}
 use Rattle.mi_show.specs.Prints.{files_in}
-use Rattle.mi_show.specs.Laws.{letter, PrintsAreExact}
-use Rattle.mi_show.proofs.CodeLemmas.{heads}
-use Rattle.mi_show.proofs.LineLemmas.{tails}
-use Rattle.mi_show.proofs.RegistryLemmas.{Named}
+use Rattle.mi_print.specs.Laws.{letter}
+use Rattle.mi_show.specs.Laws.{PrintsAreExact}
+use Rattle.mi_print.proofs.CodeLemmas.{heads}
+use Rattle.mi_print.proofs.LineLemmas.{tails}
+use Rattle.mi_print.proofs.RegistryLemmas.{Named}
 use Rattle.mi_show.proofs.MachineLemmas.{Among, of_all, given_among, starts, starts_so, stand_so, is_listed, entries_at, one_machine}
 use Rattle.mi_show.proofs.KeyLemmas.{Item, in_key, values, named_value, key_item, key_items, stray_item, strays}
 use Rattle.mi_show.proofs.PrintLemmas.{SameParts, each_value, each_item, each_stray, each_file, value_folded, of_key, is_machine, same_parts}

@@ -12,9 +12,10 @@ use Rattle.mi_base.specs.Machine.{Machine}
 use Rattle.mi_image.specs.declared.item.Item.{Item}
 use Rattle.mi_image.specs.declared.item.Item.TheVariants as item
 use Rattle.mi_image.specs.Items.{bytes_of_file}
-use Rattle.mi_show.specs.Texts.{field}
-use Rattle.mi_show.specs.Lines.{head_details, file_line}
-use Rattle.mi_show.specs.Prints.{names_of, other_line, section}
+use Rattle.mi_print.specs.Texts.{field}
+use Rattle.mi_print.specs.Lines.{head_details, file_line}
+use Rattle.mi_print.specs.Entries.{other_line}
+use Rattle.mi_show.specs.Prints.{names_of, section}
 
 -- ---- names
 

@@ -9,8 +9,8 @@ use Rattle.mi_base.specs.Names.{file_name}
 use Rattle.mi_base.specs.Machine.{Machine}
 use Rattle.mi_image.specs.Items.{Items, machine_over, AreThere, bytes_of_file}
 use Rattle.mi_image.specs.Lookups.{head_in}
-use Rattle.mi_show.specs.Lines.{head_details}
-use Rattle.mi_show.specs.Trees.{path_lines}
+use Rattle.mi_print.specs.Lines.{head_details}
+use Rattle.mi_print.specs.Trees.{path_lines}
 
 -- no file of a source
 abbrev pub no_files : Map (List ℕ)

@@ -12,10 +12,10 @@ ghost use Rattle.mi_show.specs.Differences.{line_at, change, difference, differe
 use crate::fault::{DiffError, SideFault};
 use crate::lines_of::line_at;
 use crate::name_set::NameSet;
-use crate::texts::push_word;
 use mi_base::{Bytes, NoMemory};
 use mi_hashes::HashError;
 use mi_image::{Image, ImageError};
+use mi_print::push_word;
 use mi_volume::Volume;
 use std::alloc::Global;
 

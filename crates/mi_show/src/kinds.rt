@@ -11,10 +11,9 @@ ghost use Rattle.mi_show.specs.Machines.{plain_machine};
 ghost use Rattle.mi_show.specs.Prints.{names_of, exported_at, values_of, key_with_values, stray_at, registry};
 
 use crate::entries::entry_at;
-use crate::registry::{push_exported, push_key_line, push_stray};
-use crate::texts::push_word;
 use mi_base::{Entry, NoMemory, RegValue, ValueKey, fold};
 use mi_image::Image;
+use mi_print::{push_exported, push_key_line, push_stray, push_word};
 use std::alloc::Global;
 
 // Adds the last four decimal digits of a number.

@@ -1,13 +1,6 @@
-//! Laws of what is printed.
+//! Laws of what is printed of machines.
 
-ghost use Rattle.mi_show.specs.Laws.{LinesAreExact, TreesAreExact, PrintsAreExact, SameDiffersNowhere, NothingDiffersInOne};
-
-/// What is printed stands for one entry alone: two entries of one kind with one line are one entry, and two lists of files
-/// with one tree are one list, where files of one length and one MD5 have the same bytes.
-pub fn lines_are_exact()
-    ensures lines { LinesAreExact }
-    ensures trees { TreesAreExact }
-{}
+ghost use Rattle.mi_show.specs.Laws.{PrintsAreExact, SameDiffersNowhere, NothingDiffersInOne};
 
 /// Two machines with one print are one machine, where files of one name, one length and one MD5 have the same bytes.
 pub fn prints_are_exact()

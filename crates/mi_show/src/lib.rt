@@ -1,4 +1,4 @@
-//! The print of a machine.
+//! The print of a machine, and what differs between two.
 #![tactic(auto)]
 
 mod differences;
@@ -7,15 +7,12 @@ mod fault;
 mod files;
 mod kinds;
 mod laws;
-mod lines;
 mod lines_of;
 mod name_set;
-mod registry;
-mod texts;
-mod trees;
 mod whole;
 
 pub use differences::diff;
 pub use fault::{DiffError, ShowError};
-pub use laws::{lines_are_exact, nothing_differs_in_one};
+pub use laws::nothing_differs_in_one;
+pub use mi_print::lines_are_exact;
 pub use whole::{is_waiting, show};

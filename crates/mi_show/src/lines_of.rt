@@ -7,18 +7,17 @@ ghost use Rattle.mi_base.specs.Names.{file_name};
 ghost use Rattle.mi_volume.specs.State.{Passes, Rose};
 ghost use Rattle.mi_image.specs.Items.{bytes_of_file};
 ghost use Rattle.mi_image.specs.Looks.{OnlyLooks};
-ghost use Rattle.mi_show.specs.Texts.{field};
-ghost use Rattle.mi_show.specs.Lines.{head_details};
-ghost use Rattle.mi_show.specs.Prints.{other_line};
+ghost use Rattle.mi_print.specs.Texts.{field};
+ghost use Rattle.mi_print.specs.Lines.{head_details};
+ghost use Rattle.mi_print.specs.Entries.{other_line};
 ghost use Rattle.mi_show.specs.Machines.{machine_in, IsScanned};
 ghost use Rattle.mi_show.specs.Differences.{item_line, line_at};
 
-use crate::entries::push_other;
 use crate::files::push_details_of;
-use crate::texts::push_field;
 use mi_base::{Entry, FileHead, NoMemory};
 use mi_hashes::HashError;
 use mi_image::{Image, Item};
+use mi_print::{push_field, push_other};
 use mi_volume::Volume;
 use std::alloc::Global;
 

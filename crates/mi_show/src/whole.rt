@@ -7,7 +7,7 @@ ghost use Rattle.mi_base.specs.Machine.{machine_of};
 ghost use Rattle.mi_image.specs.Looks.{OnlyLooks};
 ghost use Rattle.mi_undo.specs.Names.{marker};
 ghost use Rattle.mi_undo.specs.Stands.{is_one};
-ghost use Rattle.mi_show.specs.Trees.{tree};
+ghost use Rattle.mi_print.specs.Trees.{tree};
 ghost use Rattle.mi_show.specs.Machines.{machine_in, plain_machine, IsScanned};
 ghost use Rattle.mi_show.specs.Prints.{lines, section, files_in, registry, shown, others};
 
@@ -15,10 +15,10 @@ use crate::entries::push_section;
 use crate::fault::ShowError;
 use crate::files::push_files;
 use crate::kinds::push_registry;
-use crate::texts::push_word;
 use mi_base::{Bytes, Name, NameError, NoMemory};
 use mi_hashes::HashError;
 use mi_image::Image;
+use mi_print::push_word;
 use mi_volume::{VolFault, Volume};
 use std::alloc::Global;
 

@@ -1,7 +1,7 @@
 use Rattle.std.proofs.Common.{◌++◌, [], ℕ, List, ap, ◌∙◌}
 use Rattle.std.specs.Prelude.{codes}
 use Rattle.mi_show.specs.Machines.{machine_in, plain_machine}
-use Rattle.mi_show.specs.Trees.{tree}
+use Rattle.mi_print.specs.Trees.{tree}
 use Rattle.mi_show.specs.Prints.{lines, files_in, section, others, shown}
 use Rattle.mi_show.proofs.ImageLemmas.{three, lines_same, others_same}
 use Rattle.mi_show.proofs.whole.push_machine.Goals as goal
