@@ -20,7 +20,8 @@ fn push_value(out: &mut Vec<u8>, key: &ValueKey, value: &RegValue) -> Result<(),
     push_value_line(out, key.shown.as_str(), value)
 }
 
-/// Adds the line of an entry that isn't a file.
+/// Adds the line of an entry that isn't a file, fields parted by tabs, with its line feed; of a file nothing. A value of the
+/// registry stands behind its key.
 #[tactic(auto, unfolding(crate::specs::Entries::other_line))]
 pub fn push_other(alloc: Global, out: &mut Vec<u8>, entry: &Entry) -> Result<(), NoMemory>
     ensures { OnOk result (out.new.items ≡ out.old.items ++ other_line entry.now) }

@@ -1,4 +1,6 @@
-//! How an entry of a machine is printed.
+//! How an entry of a machine is printed, in lines of its own form (this project's own) and as an exported .reg file has it.
+//!
+//! Each call adds bytes behind those that `out` has. Its one error is want of memory, and what `out` has then isn't said.
 #![tactic(auto)]
 
 mod entry;

@@ -116,7 +116,8 @@ fn push_details_middle(alloc: Global, out: &mut Vec<u8>, head: &FileHead) -> Res
     push_counted(alloc, out, "\tmodified ", head.modified)
 }
 
-/// Adds what stands behind the path of a file, by its head and the MD5 of its bytes.
+/// Adds what stands behind the path of a file, by its head and the MD5 of its bytes: size in bytes, version, languages,
+/// attributes, both moments in seconds since 1970 and the MD5, with a line feed.
 #[tactic(auto, unfolding(crate::specs::Lines::head_details))]
 pub fn push_details(
     alloc: Global,

@@ -33,7 +33,7 @@ pub fn push_key_text(out: &mut Vec<u8>, root: u8, key: &str) -> Result<(), NoMem
     Ok(())
 }
 
-/// Adds the line of a key.
+/// Adds the line of a key: its root and its path in brackets, and a line feed.
 #[tactic(auto, unfolding(crate::specs::Registry::key_line))]
 pub fn push_key_line(out: &mut Vec<u8>, root: u8, key: &str) -> Result<(), NoMemory>
     ensures { OnOk result (out.new.items ≡ out.old.items ++ key_line root key.now) }
@@ -157,7 +157,8 @@ fn push_comment(out: &mut Vec<u8>, shown: &str, value: &RegValue) -> Result<(), 
     push_value_line(out, shown, value)
 }
 
-/// Adds a value as an exported file has it.
+/// Adds a value as an exported .reg file has it (Registry Editor, version 5.00), with a line feed. A text that is to be
+/// expanded, and a list, stand there as bytes, behind a comment that can be read.
 #[tactic(auto, unfolding(crate::specs::Registry::exported))]
 pub fn push_exported(
     alloc: Global,
@@ -184,7 +185,8 @@ pub fn push_exported(
     }
 }
 
-/// Adds a value whose key isn't recorded.
+/// Adds a value whose key isn't recorded: a comment, the line of the key, the value as an exported file has it, and an
+/// empty line.
 #[tactic(auto, unfolding(crate::specs::Registry::stray))]
 pub fn push_stray(
     alloc: Global,

@@ -97,7 +97,8 @@ fn push_key_byte(out: &mut Vec<u8>, byte: u8) -> Result<(), NoMemory>
     Ok(())
 }
 
-/// Adds a text as a field of a line.
+/// Adds a text as a field of a line: a control character and `<` by two digits of sixteen in angle brackets, any other byte
+/// as itself.
 pub fn push_field(out: &mut Vec<u8>, text: &str) -> Result<(), NoMemory>
     ensures { OnOk result (out.new.items ≡ out.old.items ++ field text.now) }
 {
@@ -232,7 +233,7 @@ pub fn push_wide(alloc: Global, out: &mut Vec<u8>, text: &str) -> Result<(), NoM
     Ok(())
 }
 
-/// Adds a fixed text.
+/// Adds a fixed text as it stands.
 pub fn push_word(out: &mut Vec<u8>, word: &str) -> Result<(), NoMemory>
     ensures { OnOk result (out.new.items ≡ out.old.items ++ word.now) }
 {

@@ -76,7 +76,8 @@ fn depth(path: &[u8]) -> usize
     path.iter().filter(|byte| **byte == b'\\').count()
 }
 
-/// Adds the lines of a path, behind those of another.
+/// Adds the lines of a path in a tree of files, behind those of the path before: a line for each folder that isn't there yet,
+/// and the file's own, without a line feed.
 #[tactic(auto, unfolding(crate::specs::Trees::shared, crate::specs::Trees::path_lines))]
 pub fn push_path(out: &mut Vec<u8>, former: &[u8], path: &[u8]) -> Result<(), NoMemory>
     ensures { OnOk result (out.new.items ≡ out.old.items ++ path_lines former.now path.now) }
