@@ -267,3 +267,6 @@ five o a b c d e =
     ∙ ap (λ (l : List ℕ). l ++ d ++ e) (append_assoc o (a ++ b) c)
     ∙ ap (λ (l : List ℕ). l ++ e) (append_assoc o (a ++ b ++ c) d)
     ∙ append_assoc o (a ++ b ++ c ++ d) e
+
+pub six : (o a b c d e f : List ℕ) → o ++ a ++ b ++ c ++ d ++ e ++ f ≡ o ++ (a ++ b ++ c ++ d ++ e ++ f)
+six o a b c d e f = ap (λ (l : List ℕ). l ++ f) (five o a b c d e) ∙ append_assoc o (a ++ b ++ c ++ d ++ e) f
