@@ -1,6 +1,6 @@
 //! The line of an entry that isn't a file.
 
-ghost use Rattle.std.specs.Prelude.{◌≡◌, ◌++◌, ◌∷◌, [], OnOk};
+ghost use Rattle.std.specs.Prelude.{◌≡◌, ◌++◌, ◌∷◌, OnOk};
 ghost use Rattle.mi_print.specs.Registry.{key_text, value_line};
 ghost use Rattle.mi_print.specs.Entries.{other_line};
 
