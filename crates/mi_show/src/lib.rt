@@ -13,6 +13,6 @@ mod whole;
 
 pub use differences::diff;
 pub use fault::{DiffError, ShowError};
-pub use laws::nothing_differs_in_one;
+pub use laws::{nothing_differs_in_one, prints_are_exact};
 pub use mi_print::lines_are_exact;
 pub use whole::{is_waiting, show};
