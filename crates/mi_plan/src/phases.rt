@@ -20,9 +20,7 @@ ghost use Rattle.mi_plan.specs.Stages.{IsRight};
 use crate::copies::check_copies;
 use crate::error::PhaseError;
 use mi_clients::plan_process_components;
-use mi_extras::{
-    plan_create_shortcuts, plan_remove_environment, plan_remove_shortcuts, plan_write_environment,
-};
+use mi_environment::{plan_remove_environment, plan_write_environment};
 use mi_files::{
     plan_create_folders, plan_duplicate, plan_remove_duplicate, plan_remove_files,
     plan_remove_folders,
@@ -30,6 +28,7 @@ use mi_files::{
 use mi_installs::{InstallError, plan_install_files};
 use mi_records::{PlanError, plan_publish_product, plan_remove_registry, plan_write_registry};
 use mi_seq::Phase;
+use mi_shortcuts::{plan_create_shortcuts, plan_remove_shortcuts};
 use mi_source::Source;
 use mi_steps::Plan;
 use mi_volume::Volume;

@@ -1,0 +1,38 @@
+-- Row by row.
+use Rattle.std.proofs.Common.{arith}
+use Rattle.mi_model.specs.WriteEnvironmentStrings.{write_string}
+use Rattle.mi_steps.specs.Makes.{plan_machine}
+use Rattle.mi_steps.proofs.RowLemmas.{rows_started}
+use Rattle.mi_records.specs.Order.{as_numbered}
+use Rattle.mi_records.proofs.KeyLemmas.{keeps_not, keeps_on}
+use Rattle.mi_records.proofs.RowLemmas.{one_row, all_rows}
+use Rattle.mi_records.proofs.WriteLemmas.{rows_refused}
+use Rattle.mi_environment.proofs.write.write_rows.Goals as goal
+
+pub loop-row-init : goal.loop-row-init
+loop-row-init g c = record {
+  rows = λ held files w same. rows_started files (plan_machine held files c.args.plan.now) c.args.plan.now.script;
+  keeps = keeps_not c.args.plan.now;
+}
+
+pub loop-row-preserved : goal.loop-row-preserved
+loop-row-preserved g c = record {
+  rows = λ held files w same.
+      let row = c.in-Ok.ensures.row held files w same in
+      one_row (λ r. write_string w (as_numbered r)) c.args.rows.now c.loop-row.row-index c.row-item.result c.loop-row-test.true c.row-item.is files (plan_machine held files c.args.plan.now) (plan_machine held files c.loop-row.plan) c.args.plan.now.script c.loop-row.plan.script (c.loop-row.invariant.rows held files w same)
+      (plan_machine held files c.write_row.new.plan) c.write_row.new.plan.script row.touches row.gives row.makes;
+  keeps = keeps_on c.args.plan.now c.loop-row.plan c.write_row.new.plan c.loop-row.invariant.keeps c.in-Ok.ensures.keeps;
+}
+
+pub returns-clause-rows : goal.returns-clause-rows
+returns-clause-rows g c = λ held files w same.
+    all_rows (λ r. write_string w (as_numbered r)) c.args.rows.now c.loop-row.row-index files (plan_machine held files c.args.plan.now) (plan_machine held files c.loop-row.plan) c.args.plan.now.script c.loop-row.plan.script
+    (omega (arith, c.loop-row-test.false)) (c.loop-row.invariant.rows held files w same)
+
+pub returns-in-Err-clause-rows : goal.returns-in-Err-clause-rows
+returns-in-Err-clause-rows g c = λ held files w same.
+    rows_refused held files c.args.plan.now c.loop-row.plan (Unit {0}) (Unit {0}) (λ r. write_string w (as_numbered r)) c.args.rows.now c.loop-row.row-index c.row-item.result c.write_row.new.plan c.in-Err.error c.loop-row-test.true c.row-item.is
+    (c.loop-row.invariant.rows held files w same) (c.in-Err.ensures.row held files w same)
+
+pub returns-in-Err-clause-keeps : goal.returns-in-Err-clause-keeps
+returns-in-Err-clause-keeps g c = keeps_on c.args.plan.now c.loop-row.plan c.write_row.new.plan c.loop-row.invariant.keeps c.in-Err.ensures.keeps

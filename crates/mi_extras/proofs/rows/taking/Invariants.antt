@@ -1,7 +1,0 @@
-use Rattle.std.proofs.Common.{◌≡◌, take}
-use Rattle.std.specs.Prelude.{filter}
-use Rattle.mi_extras.specs.Variables.{is_taken}
-use Rattle.mi_extras.proofs.rows.taking.Given as goal
-
-abbrev pub invariant-loop-row : goal.invariant-loop-row
-invariant-loop-row g l = l.taken.items ≡ filter (λ r. is_taken (g.S.Sees.choices l.seen) r.1.now) (take l.row-index l.rows)

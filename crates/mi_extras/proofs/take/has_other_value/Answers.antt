@@ -1,6 +1,0 @@
--- Written out, so that an edit that turns it is refused at once (docs/GATE.md).
-use Rattle.std.proofs.Common.{rules}
-use Rattle.mi_extras.proofs.take.has_other_value.Goals as goal
-
-pub returns-in-Some : goal.returns-in-Some
-returns-in-Some c = search rules

@@ -1,0 +1,24 @@
+-- The path first.
+use Rattle.std.proofs.Common.{List, ℕ, ◌∙◌}
+use Rattle.mi_model.specs.Shortcuts.{path_or_refused}
+use Rattle.mi_steps.specs.Makes.{plan_machine}
+use Rattle.mi_records.specs.Meaning.{numbered}
+use Rattle.mi_records.proofs.ClientLemmas.{row_same}
+use Rattle.mi_shortcuts.specs.Entries.{created_at, create_effect}
+use Rattle.mi_row_steps.proofs.RowLemmas.{row_untold}
+use Rattle.mi_shortcuts.proofs.ShortcutLemmas.{created_by, then_ok, then_err}
+use Rattle.mi_shortcuts.proofs.create.create_row.Goals as goal
+
+pub returns-in-Ok-clause-row : goal.returns-in-Ok-clause-row
+returns-in-Ok-clause-row g c = λ held files w asked.
+    let r = numbered c.args.row.0 c.args.row.1.now in
+    let m = plan_machine held files c.args.plan.now in
+    row_same held files c.args.plan.now c.create_at-done.new.plan (created_at w r c.in-Ok.path) (create_effect w r) c.create_at-done.result
+    (created_by w r m ∙ then_ok (λ path. created_at w r path m) (path_or_refused w r) c.in-Ok.path (c.in-Ok.ensures.path w asked)) (c.create_at-done.ensures.row held files w asked)
+
+pub returns-in-Err-clause-row : goal.returns-in-Err-clause-row
+returns-in-Err-clause-row g c = λ held files w asked.
+    let r = numbered c.args.row.0 c.args.row.1.now in
+    let m = plan_machine held files c.args.plan.now in
+    row_untold held files c.args.plan.now c.args.plan.now (Unit {0}) (λ (p : List ℕ). p) (path_or_refused w r) (create_effect w r) c.in-Err.error
+    (λ f is. created_by w r m ∙ then_err (λ path. created_at w r path m) (path_or_refused w r) f is) (c.in-Err.ensures.path w asked)
