@@ -1,6 +1,6 @@
 -- What rows of Shortcut name and make.
 use Rattle.std.proofs.Common.{◌≡◌, ℕ, suc, ◌+◌, ◌^◌, ◌≤◌, Bool, true, false, cond, ◌&&◌, List, [], ◌∷◌, ◌++◌, map, length, Bor, Option, Some, None, refl, sym, ap, subst, ◌∙◌, arith, length-append}
-use Rattle.std.specs.Prelude.{nat_lt, nat_le, option_map, option_and_then, ok_or, is_some, filter, All, IfSome, pos, negsuc, Result, Ok, Err}
+use Rattle.std.specs.Prelude.{nat_lt, nat_le, option_map, option_and_then, ok_or, unwrap_or, is_some, filter, All, IfSome, pos, negsuc, Result, Ok, Err}
 use Rattle.std.specs.List.{AllByRecursion, filter_map, cons_option}
 use Rattle.std.specs.Option.{option_map_or}
 use Rattle.std.specs.Result.{result_ok}
@@ -41,7 +41,7 @@ use Rattle.mi_model.specs.Asked.{comes, leaves, lookups}
 use Rattle.mi_model.specs.ComponentRows.{rows_that}
 use Rattle.mi_model.specs.Refusals.{◌>>=◌, expanded, expanded_or_empty, unless}
 use Rattle.mi_model.specs.ClientRows.{recorded_path}
-use Rattle.mi_model.specs.Shortcuts.{shortcut_table, shortcut_path, path_or_refused, target_text, shortcut_entry, shortcut_touches, created_touches, create_shortcuts, removed_shortcut, without_shortcut, leaving_shortcuts, touched_folders, remove_shortcuts, is_guarded_shortcut}
+use Rattle.mi_model.specs.Shortcuts.{shortcut_table, shortcut_path, path_or_refused, target_text, natural, folder_text, shortcut_entry, shortcut_touches, created_touches, create_shortcuts, removed_shortcut, without_shortcut, leaving_shortcuts, touched_folders, remove_shortcuts, is_guarded_shortcut}
 use Rattle.mi_model.specs.Prune.{prune_folders}
 use Rattle.mi_steps.specs.declared.plan.Plan.{Plan}
 use Rattle.mi_steps.specs.Makes.{Makes}
@@ -114,6 +114,11 @@ find_own (x ∷ rows) key r is = by_test (same_name key x.component) refl (find_
 
 pub entry_at : (w : World) (r : ShortcutRow) (path target arguments : Text) → IsShortcutAt path (shortcut_entry w r path target arguments)
 entry_at w r path target arguments = record { shortcut = _; is = refl; shown = refl }
+
+-- the entry of a row, by its fields
+pub entry_is : (w : World) (r : ShortcutRow) (s : Shortcut) → s.description ≡ unwrap_or r.description [] → s.hotkey ≡ natural (unwrap_or r.hotkey (pos 0)) → s.icon ≡ unwrap_or r.icon [] → s.icon_index ≡ unwrap_or r.icon_index (pos 0)
+    → s.show ≡ natural (unwrap_or r.show_cmd (pos 1)) → s.folder ≡ folder_text w r.wk_dir → entry.Shortcut s ≡ shortcut_entry w r s.shown s.target s.arguments
+entry_is w r s description hotkey icon icon_index show folder = cc
 
 pub entry_named : (path : Text) (e : Entry) → IsShortcutAt path e → name_of e ≡ shortcut_name path
 entry_named path e at = ap name_of at.is ∙ ap shortcut_name at.shown
