@@ -1,6 +1,6 @@
 -- What rows of Shortcut name and make.
 use Rattle.std.proofs.Common.{◌≡◌, ℕ, suc, ◌+◌, ◌^◌, ◌≤◌, Bool, true, false, cond, ◌&&◌, List, [], ◌∷◌, ◌++◌, map, length, Bor, Option, Some, None, refl, sym, ap, subst, ◌∙◌, arith, length-append}
-use Rattle.std.specs.Prelude.{nat_lt, nat_le, option_map, option_and_then, ok_or, unwrap_or, is_some, filter, All, IfSome, pos, negsuc, Result, Ok, Err}
+use Rattle.std.specs.Prelude.{ℤ, nat_lt, nat_le, option_map, option_and_then, ok_or, unwrap_or, is_some, filter, All, IfSome, pos, negsuc, Result, Ok, Err}
 use Rattle.std.specs.List.{AllByRecursion, filter_map, cons_option}
 use Rattle.std.specs.Option.{option_map_or}
 use Rattle.std.specs.Result.{result_ok}
@@ -116,9 +116,10 @@ pub entry_at : (w : World) (r : ShortcutRow) (path target arguments : Text) → 
 entry_at w r path target arguments = record { shortcut = _; is = refl; shown = refl }
 
 -- the entry of a row, by its fields
-pub entry_is : (w : World) (r : ShortcutRow) (s : Shortcut) → s.description ≡ unwrap_or r.description [] → s.hotkey ≡ natural (unwrap_or r.hotkey (pos 0)) → s.icon ≡ unwrap_or r.icon [] → s.icon_index ≡ unwrap_or r.icon_index (pos 0)
-    → s.show ≡ natural (unwrap_or r.show_cmd (pos 1)) → s.folder ≡ folder_text w r.wk_dir → entry.Shortcut s ≡ shortcut_entry w r s.shown s.target s.arguments
-entry_is w r s description hotkey icon icon_index show folder = cc
+pub entry_is : (w : World) (r : ShortcutRow) (shown target arguments description icon folder : Text) (hotkey show : ℕ) (icon_index : ℤ)
+    → description ≡ unwrap_or r.description [] → hotkey ≡ natural (unwrap_or r.hotkey (pos 0)) → icon ≡ unwrap_or r.icon [] → icon_index ≡ unwrap_or r.icon_index (pos 0) → show ≡ natural (unwrap_or r.show_cmd (pos 1)) → folder ≡ folder_text w r.wk_dir
+    → entry.Shortcut (record { shown = shown; target = target; arguments = arguments; description = description; hotkey = hotkey; icon = icon; icon_index = icon_index; show = show; folder = folder }) ≡ shortcut_entry w r shown target arguments
+entry_is w r shown target arguments description icon folder hotkey show icon_index a b c d e f = cc
 
 pub entry_named : (path : Text) (e : Entry) → IsShortcutAt path e → name_of e ≡ shortcut_name path
 entry_named path e at = ap name_of at.is ∙ ap shortcut_name at.shown
