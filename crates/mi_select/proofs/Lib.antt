@@ -1,5 +1,3 @@
-mod HolderLemmas
-mod ActionLemmas
 mod KeyPathLemmas
 mod LookLemmas
 mod OrderLemmas

@@ -15,11 +15,11 @@ use Rattle.mi_fver.specs.declared.mode.Mode.{Mode}
 use Rattle.mi_model.specs.World.{Selection}
 use Rattle.mi_model.specs.States.{named}
 use Rattle.mi_model.specs.Components.{is_made_local, is_made_absent}
-use Rattle.mi_select.specs.declared.component.Action.{Action}
-use Rattle.mi_select.specs.declared.component.Action.TheVariants as action
+use Rattle.mi_components.specs.declared.component.Action.{Action}
+use Rattle.mi_components.specs.declared.component.Action.TheVariants as action
 use Rattle.mi_features.specs.declared.choice.FeatureChoice.{FeatureChoice}
 use Rattle.mi_select.specs.declared.selection.Chosen.{Chosen}
-use Rattle.mi_select.specs.Actions.{action_to, as_action, is_local, is_absent}
+use Rattle.mi_components.specs.Actions.{action_to, as_action, is_local, is_absent}
 use Rattle.mi_features.specs.Choices.{request_to}
 use Rattle.mi_select.specs.Selections.{as_named, names_that, selection_of}
 

@@ -14,7 +14,7 @@ use Rattle.mi_schema.specs.TableRows.{Rows}
 use Rattle.mi_model.specs.KeyPaths.{KeyPath, key_path_of}
 use Rattle.mi_base.specs.declared.answers.Fault.{Fault}
 use Rattle.mi_model.specs.Refusals.{◌>>=◌, each}
-use Rattle.mi_select.specs.declared.component.ComponentChoice.{ComponentChoice}
+use Rattle.mi_components.specs.declared.component.ComponentChoice.{ComponentChoice}
 use Rattle.mi_features.specs.declared.error.SelectError.{SelectError}
 use Rattle.mi_features.specs.declared.error.SelectError.TheVariants as error
 use Rattle.mi_select.specs.declared.selection.Chosen.{Chosen}

@@ -12,9 +12,9 @@ use Rattle.mi_model.specs.Components.{is_coming, is_leaving, is_kept}
 use Rattle.mi_model.specs.SharedCounts.{has_other_count}
 use Rattle.mi_model.specs.KeyPaths.{KeyPath, key_path_text, is_there, key_path_of}
 use Rattle.mi_model.specs.Refusals.{◌>>=◌}
-use Rattle.mi_select.specs.declared.component.ComponentChoice.{ComponentChoice}
+use Rattle.mi_components.specs.declared.component.ComponentChoice.{ComponentChoice}
 use Rattle.mi_select.specs.declared.selection.Chosen.{Chosen}
-use Rattle.mi_select.specs.Actions.{as_action}
+use Rattle.mi_components.specs.Actions.{as_action}
 
 -- with this key path its component leaves, over the machine before the run
 abbrev pub leaves_by : Machine → Rows → ComponentRow → ComponentChoice → KeyPath → Bool

@@ -2,7 +2,6 @@
 use Rattle.std.specs.Prelude.{[], Option, unwrap_or, Result, Ok}
 use Rattle.mi_text.specs.Maps.{Name}
 use Rattle.mi_base.specs.declared.answers.Fault.{Fault}
-use Rattle.mi_schema.specs.declared.typed_rows.FileRow.{FileRow}
 use Rattle.mi_schema.specs.declared.typed_rows.RegistryRow.{RegistryRow}
 use Rattle.mi_schema.specs.TableRows.{Rows, Numbered, numbered_from, row_of}
 use Rattle.mi_model.specs.KeyPaths as model
@@ -24,6 +23,3 @@ of_value place = place >>= λ p. Ok (model.Value p)
 -- the row of a key, with its number in the file
 abbrev pub registry_row_of : Rows → Name → Option (Numbered RegistryRow)
 registry_row_of rows key = row_of (λ (r : Numbered RegistryRow). r.row.registry) (numbered_from 1 rows.registry) key
-
-abbrev pub file_row_of : Rows → Name → Option (Numbered FileRow)
-file_row_of rows key = row_of (λ (r : Numbered FileRow). r.row.file) (numbered_from 1 rows.file) key

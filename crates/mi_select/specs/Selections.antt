@@ -7,7 +7,7 @@ use Rattle.mi_model.specs.World.{Selection}
 use Rattle.mi_features.specs.declared.choice.FeatureChoice.{FeatureChoice}
 use Rattle.mi_select.specs.declared.selection.Chosen.{Chosen}
 use Rattle.mi_features.specs.Choices.{request_to}
-use Rattle.mi_select.specs.Actions.{as_action}
+use Rattle.mi_components.specs.Actions.{as_action}
 
 -- what is kept of a name
 abbrev pub as_named : {V : Type 0} → String Global × V → Name × V

@@ -21,9 +21,10 @@ ghost use Rattle.mi_model.specs.RegistryRows.{registry_place};
 ghost use Rattle.mi_records.specs.Meaning.{numbered};
 ghost use Rattle.mi_records.specs.Order.{as_numbered};
 ghost use Rattle.mi_features.specs.Answers.{Refuses, Gives};
-ghost use Rattle.mi_select.specs.KeyPaths.{meant, of_value, registry_row_of, file_row_of};
+ghost use Rattle.mi_select.specs.KeyPaths.{meant, of_value, registry_row_of};
 
 use mi_base::{Fault, NoMemory, PathError, PathText, Text, long_name};
+use mi_components::file_row;
 use mi_dirs::Dirs;
 use mi_features::{SelectError, has_attribute};
 use mi_format::BoundedEnv;
@@ -136,19 +137,6 @@ fn registry_row_of<'a>(loaded: &'a Package, key: &Text) -> Option<Row<'a, Regist
     }
 }
 
-/// The row of File with this key, behind its number in the file.
-fn file_row_of<'a>(loaded: &'a Package, key: &Text) -> Option<Row<'a, FileRow>>
-    requires { IsLawful loaded.now }
-    ensures { option_map as_numbered result ≡ file_row_of (rows_in loaded.now) key.now }
-{
-    keys_stand(loaded);
-    tables_small(loaded);
-    match loaded.file.get_full(key) {
-        Some((place, _, row)) => Some((place as u32 + 1, row)),
-        None => None,
-    }
-}
-
 /// The row of Registry that KeyPath names, where attribute 4 is set.
 fn value_row<'a>(loaded: &'a Package, row: &ComponentRow) -> Option<Row<'a, RegistryRow>>
     requires { IsLawful loaded.now }
@@ -160,20 +148,6 @@ fn value_row<'a>(loaded: &'a Package, row: &ComponentRow) -> Option<Row<'a, Regi
     }
     match &row.key_path {
         Some(key) => registry_row_of(loaded, key),
-        None => None,
-    }
-}
-
-/// The row of File that KeyPath names, where attribute 4 isn't set.
-pub(crate) fn file_row<'a>(loaded: &'a Package, row: &ComponentRow) -> Option<Row<'a, FileRow>>
-    requires { IsLawful loaded.now }
-    ensures { option_map as_numbered result ≡ file_row (rows_in loaded.now) row.now }
-{
-    if has_attribute(4, row.attributes) {
-        return None;
-    }
-    match &row.key_path {
-        Some(key) => file_row_of(loaded, key),
         None => None,
     }
 }

@@ -2,16 +2,11 @@
 //! (CostFinalize Action; Component Table).
 #![tactic(auto)]
 
-mod acting;
-mod component;
-mod counts;
-mod holders;
 mod key_path;
 mod selecting;
 mod selection;
 
-pub use acting::components;
-pub use component::{Action, ComponentChoice};
 pub use key_path::KeyPath;
+pub use mi_components::{Action, ComponentChoice, components};
 pub use selecting::select;
 pub use selection::Selection;

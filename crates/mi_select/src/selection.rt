@@ -5,13 +5,13 @@ ghost use Rattle.std.specs.Option.{option_flatten};
 ghost use Rattle.mi_text.specs.Maps.{is_among};
 ghost use Rattle.mi_model.specs.Components.{is_made_local, is_made_absent};
 ghost use Rattle.mi_model.specs.States.{named};
-ghost use Rattle.mi_select.specs.Actions.{action_to};
+ghost use Rattle.mi_components.specs.Actions.{action_to};
 ghost use Rattle.mi_features.specs.Choices.{request_to};
 ghost use Rattle.mi_select.specs.Selections.{as_named, names_that};
 
-use crate::component::{Action, ComponentChoice, is_absent, is_local};
 use indexmap::IndexMap;
 use mi_base::{NoMemory, Text};
+use mi_components::{Action, ComponentChoice, is_absent, is_local};
 use mi_features::{FeatureChoice, Request};
 use mi_fver::Mode;
 use std::alloc::Global;

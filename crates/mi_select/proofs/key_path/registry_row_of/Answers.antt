@@ -7,7 +7,8 @@ use Rattle.mi_schema.specs.Checks.{row_with}
 use Rattle.mi_schema.specs.Laws.{IsWithin}
 use Rattle.mi_schema.specs.RowsOf.{rows_in, behind}
 use Rattle.mi_schema.proofs.CheckLemmas.{place_of_key}
-use Rattle.mi_select.proofs.KeyPathLemmas.{numbered-found, numbered-missing, at_place}
+use Rattle.mi_components.proofs.NumberedLemmas.{numbered-found, numbered-missing}
+use Rattle.mi_select.proofs.KeyPathLemmas.{at_place}
 use Rattle.mi_features.proofs.RowLemmas.{lookup-row, keys-own}
 use Rattle.mi_select.proofs.key_path.registry_row_of.Goals as goal
 

@@ -5,7 +5,7 @@ use Rattle.mi_image.specs.Items.{machine_over}
 use Rattle.mi_schema.specs.declared.typed_rows.ComponentRow.{ComponentRow}
 use Rattle.mi_schema.specs.RowsOf.{rows_in}
 use Rattle.mi_model.specs.Refusals.{◌>>=◌, each}
-use Rattle.mi_select.specs.declared.component.ComponentChoice.{ComponentChoice}
+use Rattle.mi_components.specs.declared.component.ComponentChoice.{ComponentChoice}
 use Rattle.mi_select.specs.Chosen.{chosen_entry, IsChosenAt}
 use Rattle.mi_select.specs.Selections.{as_named}
 use Rattle.mi_select.proofs.selecting.named_components.Given as goal

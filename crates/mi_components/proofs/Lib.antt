@@ -1,0 +1,3 @@
+mod HolderLemmas
+mod ActionLemmas
+pub mod NumberedLemmas
