@@ -25,20 +25,20 @@ use Rattle.mi_model.specs.States.{features_of, is_present, is_present_by}
 use Rattle.mi_model.specs.Components as components
 use Rattle.mi_model.specs.Components.{owners_of, has_id, has_other_client}
 use Rattle.mi_model.specs.Selecting.{record_of_product, feature_request, is_feature_after}
-use Rattle.mi_features.specs.declared.choice.FeatureChoice.{FeatureChoice}
+use Rattle.mi_wishes.specs.declared.choice.FeatureChoice.{FeatureChoice}
 use Rattle.mi_components.specs.declared.component.Action.{Action}
 use Rattle.mi_components.specs.declared.component.Action.TheVariants as action
 use Rattle.mi_components.specs.declared.component.ComponentChoice.{ComponentChoice}
 use Rattle.mi_components.specs.declared.holders.Holders.{Holders}
-use Rattle.mi_features.specs.Choices as choices
+use Rattle.mi_wishes.specs.Choices as choices
 use Rattle.mi_components.specs.Actions.{told, action_kept, present_kept, choice_kept, component_choice}
 use Rattle.mi_components.specs.Holders as held
 use Rattle.mi_components.specs.Holders.{says, choice_named, held_at, said_in, any_says, all_say, AreHeld}
 use Rattle.mi_features.specs.Records.{recorded_in}
 use Rattle.mi_features.specs.Requests.{choice_to}
-use Rattle.mi_features.proofs.ChainLemmas.{HasOwnKeys, row_of-with, row_of-own}
+use Rattle.mi_wishes.proofs.ChainLemmas.{HasOwnKeys, row_of-with, row_of-own}
 use Rattle.mi_features.proofs.RequestLemmas.{and_all, and_none}
-use Rattle.mi_features.proofs.LineLemmas.{same_tests, and_both, and_left, and_right, any_there, any_at}
+use Rattle.mi_wishes.proofs.LineLemmas.{same_tests, and_both, and_left, and_right, any_there, any_at}
 
 -- ---- some item of a list
 

@@ -7,7 +7,7 @@ use Rattle.mi_text.specs.Maps.{Name, same_name}
 use Rattle.mi_text.proofs.MapLemmas.{from_same}
 use Rattle.mi_schema.specs.declared.typed_rows.FeatureRow.{FeatureRow}
 use Rattle.mi_schema.specs.declared.typed_rows.FeatureComponentsRow.{FeatureComponentsRow}
-use Rattle.mi_features.specs.declared.choice.FeatureChoice.{FeatureChoice}
+use Rattle.mi_wishes.specs.declared.choice.FeatureChoice.{FeatureChoice}
 use Rattle.mi_components.specs.declared.holders.Holders.{Holders}
 use Rattle.mi_components.specs.Holders.{nobody, both, said_in, all_say}
 

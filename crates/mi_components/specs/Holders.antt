@@ -11,9 +11,9 @@ use Rattle.mi_schema.specs.declared.typed_rows.FeatureRow.{FeatureRow}
 use Rattle.mi_schema.specs.declared.typed_rows.FeatureComponentsRow.{FeatureComponentsRow}
 use Rattle.mi_schema.specs.Checks.{row_with}
 use Rattle.mi_schema.specs.TableRows.{Rows}
-use Rattle.mi_features.specs.declared.choice.FeatureChoice.{FeatureChoice}
-use Rattle.mi_features.specs.declared.choice.Request.{Request}
-use Rattle.mi_features.specs.declared.choice.Request.TheVariants.{Local, Absent, Reinstall}
+use Rattle.mi_wishes.specs.declared.choice.FeatureChoice.{FeatureChoice}
+use Rattle.mi_wishes.specs.declared.choice.Request.{Request}
+use Rattle.mi_wishes.specs.declared.choice.Request.TheVariants.{Local, Absent, Reinstall}
 use Rattle.mi_components.specs.declared.holders.Holders.{Holders}
 
 abbrev pub is_local : Option Request → Bool

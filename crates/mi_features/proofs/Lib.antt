@@ -1,6 +1,1 @@
-pub mod MarkLemmas
-pub mod ChainLemmas
-pub mod RowLemmas
-pub mod LevelLemmas
-pub mod LineLemmas
 pub mod RequestLemmas

@@ -12,16 +12,16 @@ use Rattle.mi_schema.specs.TableRows.{Rows}
 use Rattle.mi_model.specs.World as world
 use Rattle.mi_model.specs.Texts.{Text}
 use Rattle.mi_model.specs.Features as features
-use Rattle.mi_features.specs.declared.choice.FeatureChoice.{FeatureChoice}
-use Rattle.mi_features.specs.declared.choice.Request.{Request}
-use Rattle.mi_features.specs.declared.own.Line.{Line}
-use Rattle.mi_features.specs.declared.wishes.Wishes.{Wishes}
-use Rattle.mi_features.specs.Choices.{told}
-use Rattle.mi_features.specs.Lines.{line_to}
+use Rattle.mi_wishes.specs.declared.choice.FeatureChoice.{FeatureChoice}
+use Rattle.mi_wishes.specs.declared.choice.Request.{Request}
+use Rattle.mi_wishes.specs.declared.own.Line.{Line}
+use Rattle.mi_wishes.specs.declared.wishes.Wishes.{Wishes}
+use Rattle.mi_wishes.specs.Choices.{told}
+use Rattle.mi_wishes.specs.Lines.{line_to}
 use Rattle.mi_features.specs.Requests.{is_kept_local, choice_kept, choice_to, requested}
-use Rattle.mi_features.specs.Wishes.{AreWishes}
-use Rattle.mi_features.proofs.ChainLemmas.{get-there}
-use Rattle.mi_features.proofs.LineLemmas.{get_or_from}
+use Rattle.mi_wishes.specs.Wishes.{AreWishes}
+use Rattle.mi_wishes.proofs.ChainLemmas.{get-there}
+use Rattle.mi_wishes.proofs.LineLemmas.{get_or_from}
 
 pub with_local : (r : Option Request) (a b : Bool) → a ≡ b → ◌≡◌ {A = FeatureChoice} (record { request = r; local_after = a }) (record { request = r; local_after = b })
 with_local r a b e = λ i. record { request = r; local_after = e i }

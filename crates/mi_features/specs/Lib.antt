@@ -1,12 +1,2 @@
-pub mod Answers
-pub mod Brought
-pub mod Chains
-pub mod Choices
-pub mod Kept
-pub mod Levels
-pub mod Lines
-pub mod Lists
-pub mod Marks
 pub mod Records
 pub mod Requests
-pub mod Wishes

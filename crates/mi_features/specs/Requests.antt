@@ -13,13 +13,13 @@ use Rattle.mi_model.specs.FeatureLists.{lists_fault}
 use Rattle.mi_model.specs.Features.{request_of, is_local_after}
 use Rattle.mi_model.specs.Refusals.{◌>>=◌, unless}
 use Rattle.mi_model.specs.Selecting.{setting, install_level_of, reinstall_mode_of}
-use Rattle.mi_features.specs.declared.choice.FeatureChoice.{FeatureChoice}
-use Rattle.mi_features.specs.declared.choice.Request.{Request}
-use Rattle.mi_features.specs.declared.choice.Request.TheVariants.{Local, Absent, Reinstall}
-use Rattle.mi_features.specs.declared.own.Line.{Line}
+use Rattle.mi_wishes.specs.declared.choice.FeatureChoice.{FeatureChoice}
+use Rattle.mi_wishes.specs.declared.choice.Request.{Request}
+use Rattle.mi_wishes.specs.declared.choice.Request.TheVariants.{Local, Absent, Reinstall}
+use Rattle.mi_wishes.specs.declared.own.Line.{Line}
 use Rattle.mi_features.specs.declared.asking.Asked.{Asked}
-use Rattle.mi_features.specs.declared.wishes.Wishes.{Wishes}
-use Rattle.mi_features.specs.Choices.{told}
+use Rattle.mi_wishes.specs.declared.wishes.Wishes.{Wishes}
+use Rattle.mi_wishes.specs.Choices.{told}
 
 abbrev pub is_kept_local : Option Request → Bool → Bool
 is_kept_local (Some Local) recorded = true

@@ -10,28 +10,24 @@ ghost use Rattle.mi_schema.specs.Lawful.{IsLawful};
 ghost use Rattle.mi_schema.specs.RowsOf.{rows_in};
 ghost use Rattle.mi_model.specs.Texts.{Text as Bytes};
 ghost use Rattle.mi_model.specs.World.{Given};
-ghost use Rattle.mi_features.specs.Answers.{Gives};
-ghost use Rattle.mi_features.specs.Lines.{line_to};
-ghost use Rattle.mi_features.specs.Lists.{AreLists};
+ghost use Rattle.mi_wishes.specs.Answers.{Gives};
+ghost use Rattle.mi_wishes.specs.Lines.{line_to};
+ghost use Rattle.mi_wishes.specs.Lists.{AreLists};
 ghost use Rattle.mi_features.specs.Records.{recorded_in};
 ghost use Rattle.mi_features.specs.Requests.{is_kept_local, choice_kept, choice_to, shown, requested};
-ghost use Rattle.mi_features.specs.Wishes.{AreWishes};
+ghost use Rattle.mi_wishes.specs.Wishes.{AreWishes};
 
-use crate::brought::brought;
 use crate::chain::{feature_parents, order_of_features};
-use crate::choice::{FeatureChoice, Request};
-use crate::error::SelectError;
-use crate::levels::levels_of;
-use crate::lines::{Brought, lines_of, row_at};
-use crate::list::Lists;
-use crate::own::Line;
 use crate::record::record_of;
 use crate::settings::{install_level, reinstall_mode};
-use crate::wishes::Wishes;
 use mi_base::{Env, NoMemory};
 use mi_fver::Mode;
 use mi_image::Image;
 use mi_schema::Package;
+use mi_wishes::{
+    Brought, FeatureChoice, Line, Lists, Request, SelectError, Wishes, brought, levels_of,
+    lines_of, row_at,
+};
 use std::alloc::Global;
 
 /// What is asked of the features, and the letters of REINSTALLMODE.

@@ -6,7 +6,7 @@ ghost use Rattle.mi_dirs.specs.Order.{parent_in, AreRows, IsOrder};
 ghost use Rattle.mi_schema.specs.Checks.{row_with};
 ghost use Rattle.mi_schema.specs.Lawful.{IsLawful};
 ghost use Rattle.mi_schema.specs.RowsOf.{behind};
-ghost use Rattle.mi_features.specs.Chains.{feature_parents};
+ghost use Rattle.mi_wishes.specs.Chains.{feature_parents};
 
 use mi_base::NoMemory;
 use mi_dirs::{DirError, order_of};

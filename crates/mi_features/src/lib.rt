@@ -4,22 +4,10 @@
 #![tactic(auto)]
 
 mod asking;
-mod brought;
 mod chain;
-mod choice;
-mod error;
-mod levels;
-mod lines;
-mod list;
-mod marks;
-mod own;
 mod record;
 mod settings;
-mod wishes;
 
 pub use asking::{Asked, requests};
-pub use choice::{FeatureChoice, Request};
-pub use error::SelectError;
-pub use levels::holds;
-pub use own::has_attribute;
+pub use mi_wishes::{FeatureChoice, Request, SelectError, has_attribute, holds};
 pub use record::{Record, product_code, record_of};

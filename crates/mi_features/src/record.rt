@@ -11,10 +11,10 @@ ghost use Rattle.mi_schema.specs.RowsOf.{rows_in};
 ghost use Rattle.mi_schema.specs.TableRows.{table_value, product_code};
 ghost use Rattle.mi_features.specs.Records.{IsRecord, recorded_in};
 
-use crate::list::set_of;
 use mi_base::{Guid, NoMemory, Product, Text};
 use mi_image::Image;
 use mi_schema::{Package, keys_stand};
+use mi_wishes::set_of;
 use std::alloc::Global;
 use std::collections::BTreeSet;
 

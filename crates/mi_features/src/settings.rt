@@ -4,11 +4,11 @@ ghost use Rattle.std.specs.Prelude.{◌≡◌, codes, Ok};
 ghost use Rattle.mi_base.specs.declared.answers.Fault.TheVariants.{BadProperty as bad_property};
 ghost use Rattle.mi_idt.specs.Fields.{number_within};
 ghost use Rattle.mi_model.specs.Selecting.{above_zero, install_level_of, reinstall_mode_of, setting};
-ghost use Rattle.mi_features.specs.Answers.{Refuses, Gives};
+ghost use Rattle.mi_wishes.specs.Answers.{Refuses, Gives};
 
-use crate::error::SelectError;
 use mi_base::{Env, Fault, Text};
 use mi_fver::Mode;
+use mi_wishes::SelectError;
 use std::alloc::Global;
 
 /// The greatest INSTALLLEVEL.

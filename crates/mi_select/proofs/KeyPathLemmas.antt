@@ -19,7 +19,7 @@ use Rattle.mi_image.specs.Lookups.{IsNoName, whole_of}
 use Rattle.mi_image.proofs.LookupLemmas.{letter, first_letter, none_there, over_whole}
 use Rattle.mi_model.specs.KeyPaths.{Value, key_path_text}
 use Rattle.mi_model.specs.RegistryRows.{RegistryPlace}
-use Rattle.mi_features.proofs.LineLemmas.{get_or_from}
+use Rattle.mi_wishes.proofs.LineLemmas.{get_or_from}
 
 -- what holds of each item holds of the one at a place
 pub at_place : {A : Type 0} (P : A → Type 0) (xs : List A) (k : ℕ) (x : A) → slice_get xs k ≡ Some x → All P xs → P x

@@ -17,10 +17,10 @@ use Rattle.mi_model.specs.States.{named}
 use Rattle.mi_model.specs.Components.{is_made_local, is_made_absent}
 use Rattle.mi_components.specs.declared.component.Action.{Action}
 use Rattle.mi_components.specs.declared.component.Action.TheVariants as action
-use Rattle.mi_features.specs.declared.choice.FeatureChoice.{FeatureChoice}
+use Rattle.mi_wishes.specs.declared.choice.FeatureChoice.{FeatureChoice}
 use Rattle.mi_select.specs.declared.selection.Chosen.{Chosen}
 use Rattle.mi_components.specs.Actions.{action_to, as_action, is_local, is_absent}
-use Rattle.mi_features.specs.Choices.{request_to}
+use Rattle.mi_wishes.specs.Choices.{request_to}
 use Rattle.mi_select.specs.Selections.{as_named, names_that, selection_of}
 
 -- a name with what is kept of it

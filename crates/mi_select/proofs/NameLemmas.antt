@@ -15,13 +15,13 @@ use Rattle.mi_model.specs.KeyPaths.{KeyPath, key_path_of}
 use Rattle.mi_base.specs.declared.answers.Fault.{Fault}
 use Rattle.mi_model.specs.Refusals.{◌>>=◌, each}
 use Rattle.mi_components.specs.declared.component.ComponentChoice.{ComponentChoice}
-use Rattle.mi_features.specs.declared.error.SelectError.{SelectError}
-use Rattle.mi_features.specs.declared.error.SelectError.TheVariants as error
+use Rattle.mi_wishes.specs.declared.error.SelectError.{SelectError}
+use Rattle.mi_wishes.specs.declared.error.SelectError.TheVariants as error
 use Rattle.mi_select.specs.declared.selection.Chosen.{Chosen}
-use Rattle.mi_features.specs.Answers.{Gives}
+use Rattle.mi_wishes.specs.Answers.{Gives}
 use Rattle.mi_select.specs.Chosen.{chosen_by, chosen_entry, IsChosenAt}
 use Rattle.mi_select.specs.Selections.{as_named}
-use Rattle.mi_features.proofs.LineLemmas.{get_or_from}
+use Rattle.mi_wishes.proofs.LineLemmas.{get_or_from}
 
 -- ---- one name more
 

@@ -21,7 +21,7 @@ use Rattle.mi_records.specs.Order.{as_numbered}
 use Rattle.mi_select.specs.Chosen.{IsNumberedWithin, IsChosenAt}
 use Rattle.mi_select.specs.Selections.{as_named}
 use Rattle.mi_select.proofs.LookLemmas.{Named}
-use Rattle.mi_features.proofs.RowLemmas.{same_both_ways}
+use Rattle.mi_wishes.proofs.RowLemmas.{same_both_ways}
 
 -- ---- rows in key order
 

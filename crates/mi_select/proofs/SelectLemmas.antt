@@ -22,14 +22,14 @@ use Rattle.mi_model.specs.FeatureLists.{lists_fault}
 use Rattle.mi_model.specs.KeyPaths.{KeyPath, key_path_text, is_there}
 use Rattle.mi_model.specs.Refusals.{◌>>=◌, each, unless}
 use Rattle.mi_model.specs.Selecting.{setting, install_level_of, reinstall_mode_of, component_order, feature_order, record_of_product, feature_request, is_feature_after, component_action, key_path, holds_there, comes_in, leaves_in, keeps_in, components_that, named_path, selected}
-use Rattle.mi_features.specs.declared.choice.FeatureChoice.{FeatureChoice}
+use Rattle.mi_wishes.specs.declared.choice.FeatureChoice.{FeatureChoice}
 use Rattle.mi_components.specs.declared.component.ComponentChoice.{ComponentChoice}
-use Rattle.mi_features.specs.declared.error.SelectError.{SelectError}
-use Rattle.mi_features.specs.declared.error.SelectError.TheVariants as error
+use Rattle.mi_wishes.specs.declared.error.SelectError.{SelectError}
+use Rattle.mi_wishes.specs.declared.error.SelectError.TheVariants as error
 use Rattle.mi_select.specs.declared.selection.Chosen.{Chosen}
-use Rattle.mi_features.specs.Answers.{Gives}
-use Rattle.mi_features.specs.Choices as choices
-use Rattle.mi_features.specs.Choices.{request_to}
+use Rattle.mi_wishes.specs.Answers.{Gives}
+use Rattle.mi_wishes.specs.Choices as choices
+use Rattle.mi_wishes.specs.Choices.{request_to}
 use Rattle.mi_components.specs.Actions as actions
 use Rattle.mi_components.specs.Actions.{as_action, component_choice}
 use Rattle.mi_select.specs.Chosen.{leaves_by, chosen_by, chosen_entry}

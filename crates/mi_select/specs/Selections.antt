@@ -4,9 +4,9 @@ use Rattle.std.specs.declared.alloc.Global.{Global}
 use Rattle.mi_text.specs.Maps.{Name}
 use Rattle.mi_fver.specs.declared.mode.Mode.{Mode}
 use Rattle.mi_model.specs.World.{Selection}
-use Rattle.mi_features.specs.declared.choice.FeatureChoice.{FeatureChoice}
+use Rattle.mi_wishes.specs.declared.choice.FeatureChoice.{FeatureChoice}
 use Rattle.mi_select.specs.declared.selection.Chosen.{Chosen}
-use Rattle.mi_features.specs.Choices.{request_to}
+use Rattle.mi_wishes.specs.Choices.{request_to}
 use Rattle.mi_components.specs.Actions.{as_action}
 
 -- what is kept of a name

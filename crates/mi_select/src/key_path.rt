@@ -20,7 +20,7 @@ ghost use Rattle.mi_model.specs.KeyPaths.{key_path_text, is_there, value_row, fi
 ghost use Rattle.mi_model.specs.RegistryRows.{registry_place};
 ghost use Rattle.mi_records.specs.Meaning.{numbered};
 ghost use Rattle.mi_records.specs.Order.{as_numbered};
-ghost use Rattle.mi_features.specs.Answers.{Refuses, Gives};
+ghost use Rattle.mi_wishes.specs.Answers.{Refuses, Gives};
 ghost use Rattle.mi_select.specs.KeyPaths.{meant, of_value, registry_row_of};
 
 use mi_base::{Fault, NoMemory, PathError, PathText, Text, long_name};

@@ -6,7 +6,7 @@ ghost use Rattle.mi_text.specs.Maps.{is_among};
 ghost use Rattle.mi_model.specs.Components.{is_made_local, is_made_absent};
 ghost use Rattle.mi_model.specs.States.{named};
 ghost use Rattle.mi_components.specs.Actions.{action_to};
-ghost use Rattle.mi_features.specs.Choices.{request_to};
+ghost use Rattle.mi_wishes.specs.Choices.{request_to};
 ghost use Rattle.mi_select.specs.Selections.{as_named, names_that};
 
 use indexmap::IndexMap;

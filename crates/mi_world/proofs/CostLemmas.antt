@@ -21,9 +21,9 @@ use Rattle.mi_model.specs.Properties.{dir_row, in_table, resolved, placed, cost,
 use Rattle.mi_model.specs.Refusals.{◌>>=◌}
 use Rattle.mi_model.specs.Remembered.{remembered}
 use Rattle.mi_model.specs.Selecting.{selected, select}
-use Rattle.mi_features.specs.declared.error.SelectError.{SelectError}
-use Rattle.mi_features.specs.declared.error.SelectError.TheVariants as refused
-use Rattle.mi_features.specs.Answers.{Gives}
+use Rattle.mi_wishes.specs.declared.error.SelectError.{SelectError}
+use Rattle.mi_wishes.specs.declared.error.SelectError.TheVariants as refused
+use Rattle.mi_wishes.specs.Answers.{Gives}
 use Rattle.mi_steps.specs.declared.plan.Plan.{Plan}
 use Rattle.mi_steps.specs.Makes.{plan_machine}
 use Rattle.mi_world.specs.declared.error.WorldError.{WorldError}

@@ -5,7 +5,7 @@ ghost use Rattle.mi_dirs.specs.Places.{row_of};
 ghost use Rattle.mi_schema.specs.RowsOf.{rows_in};
 ghost use Rattle.mi_model.specs.States.{action_state, request_state, installed_state};
 ghost use Rattle.mi_components.specs.Actions.{action_to};
-ghost use Rattle.mi_features.specs.Choices.{request_to};
+ghost use Rattle.mi_wishes.specs.Choices.{request_to};
 ghost use Rattle.mi_world.specs.Places.{AreKeptPaths};
 ghost use Rattle.mi_world.specs.Seen.{seen_lookups, kept_state, dirs_in, with_target, AreMoved, HaveMoved, IsRow};
 ghost use Rattle.mi_world.specs.declared.placed.Placed as placed;

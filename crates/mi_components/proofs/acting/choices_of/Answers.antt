@@ -5,7 +5,7 @@ use Rattle.std.proofs.lemmas.Map.Iter.{rest_more, rest_all}
 use Rattle.mi_image.specs.Items.{machine_over}
 use Rattle.mi_schema.specs.RowsOf.{behind}
 use Rattle.mi_components.specs.Actions.{choice_kept}
-use Rattle.mi_features.proofs.RowLemmas.{mapped_none, mapped_more}
+use Rattle.mi_wishes.proofs.RowLemmas.{mapped_none, mapped_more}
 use Rattle.mi_components.proofs.acting.choices_of.Goals as goal
 
 pub loop-row-init : goal.loop-row-init

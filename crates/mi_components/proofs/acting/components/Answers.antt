@@ -3,7 +3,7 @@ use Rattle.mi_image.specs.Items.{machine_over}
 use Rattle.mi_schema.specs.declared.typed_rows.FeatureRow.{FeatureRow}
 use Rattle.mi_schema.specs.RowsOf.{rows_in}
 use Rattle.mi_components.proofs.ActionLemmas.{choices-kept}
-use Rattle.mi_features.proofs.ChainLemmas.{own_keys}
+use Rattle.mi_wishes.proofs.ChainLemmas.{own_keys}
 use Rattle.mi_components.proofs.acting.components.Goals as goal
 
 pub returns : goal.returns

@@ -7,7 +7,7 @@ use Rattle.mi_schema.specs.Checks.{row_with}
 use Rattle.mi_schema.specs.RowsOf.{rows_in, behind}
 use Rattle.mi_schema.proofs.CheckLemmas.{place_of_key}
 use Rattle.mi_components.proofs.NumberedLemmas.{numbered-found, numbered-missing}
-use Rattle.mi_features.proofs.RowLemmas.{lookup-row, keys-own}
+use Rattle.mi_wishes.proofs.RowLemmas.{lookup-row, keys-own}
 use Rattle.mi_components.proofs.file_rows.file_row_of.Goals as goal
 
 pub returns-in-Some : goal.returns-in-Some

@@ -1,7 +1,7 @@
 use Rattle.std.proofs.Common.{List, length, refl, sym, ap, ◌∙◌}
 use Rattle.std.specs.Prelude.{slice_get}
 use Rattle.std.proofs.lemmas.Option.{slice_get_read, slice_get_past}
-use Rattle.mi_features.specs.declared.choice.FeatureChoice.{FeatureChoice}
+use Rattle.mi_wishes.specs.declared.choice.FeatureChoice.{FeatureChoice}
 use Rattle.mi_components.proofs.holders.choice_at.Goals as goal
 
 pub returns-in-Some : goal.returns-in-Some

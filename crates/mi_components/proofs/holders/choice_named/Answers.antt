@@ -6,7 +6,7 @@ use Rattle.mi_schema.specs.declared.typed_rows.FeatureRow.{FeatureRow}
 use Rattle.mi_schema.specs.Checks.{row_with}
 use Rattle.mi_schema.specs.RowsOf.{rows_in}
 use Rattle.mi_schema.proofs.CheckLemmas.{place_of_key}
-use Rattle.mi_features.proofs.RowLemmas.{keys-own}
+use Rattle.mi_wishes.proofs.RowLemmas.{keys-own}
 use Rattle.mi_components.proofs.holders.choice_named.Goals as goal
 
 pub returns-in-Some : goal.returns-in-Some

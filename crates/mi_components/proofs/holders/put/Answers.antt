@@ -8,7 +8,7 @@ use Rattle.mi_text.specs.Maps.{Name, same_name}
 use Rattle.mi_components.specs.declared.holders.Holders.{Holders}
 use Rattle.mi_components.specs.Holders.{nobody}
 use Rattle.mi_components.proofs.HolderLemmas.{put_at}
-use Rattle.mi_features.proofs.RowLemmas.{updated_at}
+use Rattle.mi_wishes.proofs.RowLemmas.{updated_at}
 use Rattle.mi_components.proofs.holders.put.Goals as goal
 
 pub returns : goal.returns

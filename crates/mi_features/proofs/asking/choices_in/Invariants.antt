@@ -4,9 +4,9 @@ use Rattle.mi_text.specs.Lookups.{Lookups}
 use Rattle.mi_schema.specs.declared.typed_rows.FeatureRow.{FeatureRow}
 use Rattle.mi_schema.specs.RowsOf.{rows_in}
 use Rattle.mi_model.specs.Texts.{Text}
-use Rattle.mi_features.specs.Lines.{line_to}
+use Rattle.mi_wishes.specs.Lines.{line_to}
 use Rattle.mi_features.specs.Requests.{choice_to}
-use Rattle.mi_features.specs.Wishes.{AreWishes}
+use Rattle.mi_wishes.specs.Wishes.{AreWishes}
 use Rattle.mi_features.proofs.asking.choices_in.Given as goal
 
 abbrev pub invariant-loop-place : goal.invariant-loop-place

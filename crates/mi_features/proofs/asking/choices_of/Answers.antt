@@ -2,8 +2,8 @@ use Rattle.std.proofs.Common.{length, ap, ◌∙◌, List}
 use Rattle.std.specs.Prelude.{codes, slice_get}
 use Rattle.std.proofs.lemmas.List.{length-map}
 use Rattle.mi_schema.specs.RowsOf.{rows_in, behind}
-use Rattle.mi_features.specs.declared.own.Line.{Line}
-use Rattle.mi_features.proofs.ChainLemmas.{keyed}
+use Rattle.mi_wishes.specs.declared.own.Line.{Line}
+use Rattle.mi_wishes.proofs.ChainLemmas.{keyed}
 use Rattle.mi_features.proofs.asking.choices_of.Goals as goal
 
 pub choices_in-requires : goal.choices_in-requires

@@ -3,7 +3,7 @@ use Rattle.mi_text.specs.Maps.{Name}
 use Rattle.mi_schema.specs.declared.typed_rows.FeatureRow.{FeatureRow}
 use Rattle.mi_schema.specs.Checks.{row_with}
 use Rattle.mi_schema.specs.RowsOf.{behind}
-use Rattle.mi_features.proofs.RowLemmas.{keys-own}
+use Rattle.mi_wishes.proofs.RowLemmas.{keys-own}
 use Rattle.mi_features.proofs.chain.feature_parents.Goals as goal
 
 pub returns : goal.returns

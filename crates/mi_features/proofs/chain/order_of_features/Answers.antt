@@ -1,7 +1,7 @@
 use Rattle.mi_schema.specs.declared.typed_rows.FeatureRow.{FeatureRow}
 use Rattle.mi_schema.specs.RowsOf.{behind}
 use Rattle.mi_schema.proofs.CheckLemmas.{are_rows}
-use Rattle.mi_features.proofs.ChainLemmas.{own_keys, no_cycle}
+use Rattle.mi_wishes.proofs.ChainLemmas.{own_keys, no_cycle}
 use Rattle.mi_features.proofs.chain.order_of_features.Goals as goal
 
 pub order_of-requires : goal.order_of-requires

@@ -2,7 +2,7 @@ use Rattle.std.proofs.Common.{Option, [], ap, ◌∙◌}
 use Rattle.std.specs.Prelude.{option_map, unwrap_or}
 use Rattle.mi_schema.specs.declared.typed_rows.PropertyRow.{PropertyRow}
 use Rattle.mi_schema.specs.RowsOf.{rows_in}
-use Rattle.mi_features.proofs.RowLemmas.{lookup-row}
+use Rattle.mi_wishes.proofs.RowLemmas.{lookup-row}
 use Rattle.mi_features.proofs.record.table_value.Goals as goal
 
 pub returns-in-Some : goal.returns-in-Some

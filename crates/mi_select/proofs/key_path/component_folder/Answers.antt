@@ -3,7 +3,7 @@ use Rattle.std.proofs.Common.{option_and_then, ap, ◌∙◌}
 use Rattle.mi_dirs.specs.Places.{target_of}
 use Rattle.mi_schema.specs.declared.typed_rows.ComponentRow.{ComponentRow}
 use Rattle.mi_schema.specs.RowsOf.{rows_in}
-use Rattle.mi_features.proofs.RowLemmas.{lookup-row}
+use Rattle.mi_wishes.proofs.RowLemmas.{lookup-row}
 use Rattle.mi_select.proofs.key_path.component_folder.Goals as goal
 
 pub returns-in-Some-clause-folder : goal.returns-in-Some-clause-folder

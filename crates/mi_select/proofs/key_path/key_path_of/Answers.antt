@@ -4,7 +4,7 @@ use Rattle.mi_schema.specs.declared.typed_rows.RegistryRow.{RegistryRow}
 use Rattle.mi_schema.specs.RowsOf.{rows_in}
 use Rattle.mi_schema.specs.TableRows.{Numbered}
 use Rattle.mi_model.specs.KeyPaths.{file_row, of_rows, key_path_of}
-use Rattle.mi_features.specs.Answers.{Gives}
+use Rattle.mi_wishes.specs.Answers.{Gives}
 use Rattle.mi_select.specs.KeyPaths.{meant}
 use Rattle.mi_select.proofs.key_path.key_path_of.Goals as goal
 

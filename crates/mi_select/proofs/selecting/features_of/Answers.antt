@@ -4,7 +4,7 @@ use Rattle.std.specs.FinMap.{is_sorted}
 use Rattle.mi_text.specs.Maps.{Name, name_cmp}
 use Rattle.mi_schema.specs.declared.typed_rows.FeatureRow.{FeatureRow}
 use Rattle.mi_schema.specs.RowsOf.{rows_in, behind}
-use Rattle.mi_features.specs.declared.choice.FeatureChoice.{FeatureChoice}
+use Rattle.mi_wishes.specs.declared.choice.FeatureChoice.{FeatureChoice}
 use Rattle.mi_select.specs.Selections.{as_named}
 use Rattle.mi_select.proofs.OrderLemmas.{ordered-within, ordered-chosen, ordered-told, ordered-sorted}
 use Rattle.mi_select.proofs.selecting.features_of.Goals as goal

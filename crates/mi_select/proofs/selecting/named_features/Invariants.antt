@@ -1,7 +1,7 @@
 use Rattle.std.proofs.Common.{◌≡◌, map, take}
 use Rattle.std.specs.Prelude.{All}
 use Rattle.mi_schema.specs.declared.typed_rows.FeatureRow.{FeatureRow}
-use Rattle.mi_features.specs.declared.choice.FeatureChoice.{FeatureChoice}
+use Rattle.mi_wishes.specs.declared.choice.FeatureChoice.{FeatureChoice}
 use Rattle.mi_select.specs.Chosen.{IsChosenAt}
 use Rattle.mi_select.specs.Selections.{as_named}
 use Rattle.mi_select.proofs.selecting.named_features.Given as goal

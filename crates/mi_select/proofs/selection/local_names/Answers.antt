@@ -2,7 +2,7 @@ use Rattle.std.proofs.Common.{map, sym, ap, ◌∙◌, ◌++◌}
 use Rattle.std.specs.Map.Iter.{deref_pair}
 use Rattle.std.proofs.lemmas.List.{append-nil}
 use Rattle.std.proofs.lemmas.Map.Iter.{rest_more, rest_all}
-use Rattle.mi_features.specs.declared.choice.FeatureChoice.{FeatureChoice}
+use Rattle.mi_wishes.specs.declared.choice.FeatureChoice.{FeatureChoice}
 use Rattle.mi_select.specs.Selections.{as_named, names_that}
 use Rattle.mi_select.proofs.LookLemmas.{names_more}
 use Rattle.mi_select.proofs.selection.local_names.Goals as goal

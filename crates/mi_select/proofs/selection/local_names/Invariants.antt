@@ -1,5 +1,5 @@
 use Rattle.std.proofs.Common.{◌≡◌, ◌++◌, map}
-use Rattle.mi_features.specs.declared.choice.FeatureChoice.{FeatureChoice}
+use Rattle.mi_wishes.specs.declared.choice.FeatureChoice.{FeatureChoice}
 use Rattle.mi_select.specs.Selections.{as_named, names_that}
 use Rattle.mi_select.proofs.selection.local_names.Given as goal
 

@@ -1,7 +1,0 @@
-use Rattle.std.proofs.Common.{◌≡◌, ◌++◌, map}
-use Rattle.mi_features.specs.Brought.{is_bringing}
-use Rattle.mi_schema.specs.RowsOf.{behind}
-use Rattle.mi_features.proofs.brought.bringing.Given as goal
-
-abbrev pub invariant-loop-row : goal.invariant-loop-row
-invariant-loop-row l = l.marks.items ++ map (is_bringing l.wishes l.list) l.row-iterator ≡ map (is_bringing l.wishes l.list) (behind l.loaded.feature.entries)

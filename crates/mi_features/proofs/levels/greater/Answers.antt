@@ -1,6 +1,0 @@
--- Written out, so that an edit that turns it is refused at once (docs/GATE.md).
-use Rattle.std.proofs.Common.{rules}
-use Rattle.mi_features.proofs.levels.greater.Goals as goal
-
-pub returns : goal.returns
-returns c = search rules
