@@ -3,10 +3,10 @@
 ghost use Rattle.std.specs.Prelude.{◌≡◌, ◌-◌, ◌^◌, ◌<◌, ◌≤◌, IfOk, IfSome, IsTrue, OnErr, IsErrOf, vec_len};
 ghost use Rattle.std.specs.Option.{option_copied};
 ghost use Rattle.mi_volume.specs.Maps.{IsAbove};
-ghost use Rattle.mi_edges.specs.Count.{Counts};
+ghost use Rattle.mi_feeds.specs.Count.{Counts};
 
-use crate::held::{Held, Written};
 use mi_disk::{Disk, Folders, Found, Listed, Lockable, Trouble, sync_open};
+use mi_held::{Held, Written};
 use mi_text::{Bytes, Name};
 use mi_volume::{Failed, PutFault, VolFault, Volume};
 use std::alloc::Global;

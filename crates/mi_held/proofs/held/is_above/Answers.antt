@@ -1,6 +1,6 @@
 -- Written out, so that an edit that turns it is refused at once (docs/GATE.md).
 use Rattle.std.proofs.Common.{rules}
-use Rattle.mi_edges.proofs.held.is_above.Goals as goal
+use Rattle.mi_held.proofs.held.is_above.Goals as goal
 
 pub returns-in-Less : goal.returns-in-Less
 returns-in-Less c = search rules

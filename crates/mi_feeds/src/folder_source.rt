@@ -2,7 +2,7 @@
 
 ghost use Rattle.std.specs.Prelude.{◌≡◌, ◌≤◌, IfOk, vec_len};
 ghost use Rattle.std.specs.FinMap.{empty};
-ghost use Rattle.mi_edges.specs.Count.{Counts};
+ghost use Rattle.mi_feeds.specs.Count.{Counts};
 
 use mi_disk::{Found, Trouble, Visit, look_through, path_in, read_at, visit_all};
 use mi_source::{Failed, Source, SrcFault};

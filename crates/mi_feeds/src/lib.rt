@@ -1,0 +1,10 @@
+//! Files of a folder as a source, and standard output as a sink.
+//! That the files and the output are as the system tells is trusted; the calls are proved to keep the clauses of the traits
+//! on counts and on lengths.
+#![tactic(auto)]
+
+mod folder_source;
+mod std_sink;
+
+pub use folder_source::FolderSource;
+pub use std_sink::StdSink;
