@@ -12,6 +12,5 @@ pub mod NoteLemmas
 pub mod PhaseLemmas
 pub mod PlacedLemmas
 pub mod PlaceLemmas
-pub mod RisingLemmas
 pub mod SourceLemmas
 pub mod TargetLemmas

@@ -1,7 +1,6 @@
 pub mod Copying
 pub mod Deciding
 pub mod Installs
-pub mod Languages
 pub mod Leads
 pub mod Placings
 pub mod Reading

@@ -6,7 +6,7 @@ ghost use Rattle.mi_image.specs.Items.{AreThere, machine_over};
 ghost use Rattle.mi_schema.specs.Lawful.{IsLawful};
 ghost use Rattle.mi_model.specs.World.{World};
 ghost use Rattle.mi_model.specs.FilePaths.{path_of_row};
-ghost use Rattle.mi_model.specs.FileVersions.{new_file, product_language, is_called_for, is_written};
+ghost use Rattle.mi_model.specs.FileVersions.{mode_of_row, new_file, product_language, is_called_for, is_written};
 ghost use Rattle.mi_model.specs.InstallFiles.{all_placed};
 ghost use Rattle.mi_model.specs.InstallFiles as model;
 ghost use Rattle.mi_records.specs.Choices.{IsAsked};
@@ -21,13 +21,21 @@ use crate::error::InstallError;
 use crate::hashes::same_hash;
 use crate::leaders::{companion_of, followed};
 use crate::placed::Placed;
-use crate::versions::{mode_of_row, new_file};
-use mi_fver::{NewFile, replaces};
+use mi_file_rows::{mode_where, new_file};
+use mi_fver::{Mode, NewFile, replaces};
 use mi_image::Image;
 use mi_records::{Sees, product_language};
+use mi_schema::FileRow;
 use mi_source::Source;
 use mi_volume::Volume;
 use std::alloc::Global;
+
+// The letters under which a row's file is brought.
+fn mode_of_row<E: Sees>(seen: &E, row: &FileRow) -> Mode
+    ensures { (w : World) → IsAsked (E.lookups seen.now) (E.choices seen.now) (E.rows seen.now) w → result ≡ mode_of_row w row.now }
+{
+    mode_where(seen.was_present(row.component.as_str()), seen.mode())
+}
 
 // Whether the rules on versions let a row's file be written, which is this new one.
 fn is_replaced<E: Sees, S: Source, V: Volume>(

@@ -10,8 +10,8 @@ ghost use Rattle.mi_installs.specs.Placings.{as_placed, HasFilePath, HasLanguage
 
 use crate::placed::Placed;
 use crate::sources::stated_size;
-use crate::versions::{attributes_of_row, languages_of_row, version_of_row};
 use mi_base::{FileHead, NoMemory};
+use mi_file_rows::{attributes_of_row, languages_of_row, version_of_row};
 use std::alloc::Global;
 
 /// The head of a row's file: its path, what the row says, this moment as that of its creation and its last change, and the size

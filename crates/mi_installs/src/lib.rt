@@ -11,7 +11,6 @@ mod leaders;
 mod placed;
 mod sources;
 mod targets;
-mod versions;
 mod writing;
 
 pub use error::InstallError;

@@ -1,7 +1,7 @@
 use Rattle.std.proofs.Common.{sym, ◌∙◌}
 use Rattle.mi_idt.specs.Fields.{number_within}
-use Rattle.mi_installs.proofs.RisingLemmas.{numbers_step, rising_none}
-use Rattle.mi_installs.proofs.versions.numbers_in.Goals as goal
+use Rattle.mi_file_rows.proofs.RisingLemmas.{numbers_step, rising_none}
+use Rattle.mi_file_rows.proofs.versions.numbers_in.Goals as goal
 
 pub loop-part-init : goal.loop-part-init
 loop-part-init c = c.new-numbers.ensures.empty ∙ sym rising_none

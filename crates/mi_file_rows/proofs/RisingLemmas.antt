@@ -10,7 +10,7 @@ use Rattle.std.specs.FinMap.Entries.{find, put, by_order}
 use Rattle.std.specs.Cmp.{nat_cmp_total}
 use Rattle.mi_rows.proofs.ListLemmas.{map_done_item}
 use Rattle.mi_model.specs.FileVersions.{rising}
-use Rattle.mi_installs.specs.Languages.{with_number}
+use Rattle.mi_file_rows.specs.Languages.{with_number}
 use Rattle.std.specs.BTreeSet.{insert_key}
 
 abbrev marks : List ℕ → List (ℕ × Unit {0})

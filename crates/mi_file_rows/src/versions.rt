@@ -4,21 +4,20 @@
 ghost use Rattle.std.specs.Prelude.{◌≡◌, ◌==◌, IfOk, OnOk, map};
 ghost use Rattle.std.specs.List.{slice_split, filter_map};
 ghost use Rattle.mi_idt.specs.Fields.{number_within};
-ghost use Rattle.mi_model.specs.World.{World};
-ghost use Rattle.mi_model.specs.FileVersions.{version_of_row, rising, languages_of_row, new_file, writes_some, mode_of_row};
+ghost use Rattle.mi_model.specs.FileVersions.{version_of_row, rising, languages_of_row, new_file, writes_some};
 ghost use Rattle.mi_model.specs.InstallFiles.{attributes_of_row};
-ghost use Rattle.mi_records.specs.Choices.{IsAsked};
-ghost use Rattle.mi_installs.specs.Languages.{with_number};
+ghost use Rattle.mi_file_rows.specs.Languages.{with_number};
+ghost use Rattle.mi_file_rows.specs.Modes.{mode_where};
 
 use mi_base::{Languages, NoMemory, Version};
 use mi_fver::{Mode, NewFile};
-use mi_records::{Sees, language_of};
+use mi_records::language_of;
 use mi_schema::FileRow;
 use std::alloc::{AllocError, Global};
 use std::collections::BTreeSet;
 
 /// The version of a row's file, and None where it has none; a companion has none of its own (File table, Version).
-pub(crate) fn version_of_row(row: &FileRow) -> Option<Version>
+pub fn version_of_row(row: &FileRow) -> Option<Version>
     ensures { result ≡ version_of_row row.now }
 {
     match &row.version {
@@ -70,8 +69,9 @@ fn languages_in(alloc: Global, text: &str) -> Result<Languages, NoMemory>
     Ok(Languages::from_vec(languages))
 }
 
-/// The languages of a row's file, rising, each once (File table, Language).
-pub(crate) fn languages_of_row(alloc: Global, row: &FileRow) -> Result<Languages, NoMemory>
+/// The languages of a row's file, as numbers up to 65,535, rising, each once; what spells no such number is none, and a null is none.
+/// It takes memory (File table, Language).
+pub fn languages_of_row(alloc: Global, row: &FileRow) -> Result<Languages, NoMemory>
     ensures { IfOk result (λ languages. languages ≡ languages_of_row row.now) }
 {
     match &row.language {
@@ -80,8 +80,9 @@ pub(crate) fn languages_of_row(alloc: Global, row: &FileRow) -> Result<Languages
     }
 }
 
-/// The attributes of a row's file: 1 read-only, 2 hidden, 4 system (File table, Attributes).
-pub(crate) fn attributes_of_row(row: &FileRow) -> u32
+/// The attributes of a row's file: 1 read-only, 2 hidden, 4 system; a null has none, and other bits are left out (File table,
+/// Attributes).
+pub fn attributes_of_row(row: &FileRow) -> u32
     ensures { result ≡ attributes_of_row row.now }
 {
     match row.attributes {
@@ -90,8 +91,8 @@ pub(crate) fn attributes_of_row(row: &FileRow) -> u32
     }
 }
 
-/// What the rules on versions read of a row (File Versioning Rules).
-pub(crate) fn new_file(alloc: Global, row: &FileRow) -> Result<NewFile, NoMemory>
+/// What the rules on versions read of a row: its version and its languages. It takes memory (File Versioning Rules).
+pub fn new_file(alloc: Global, row: &FileRow) -> Result<NewFile, NoMemory>
     ensures { IfOk result (λ new. new ≡ new_file row.now) }
 {
     let languages = languages_of_row(alloc, row)?;
@@ -108,13 +109,12 @@ fn writes_some(mode: Mode) -> bool
     mode.p || mode.o || mode.e || mode.d || mode.a
 }
 
-/// The letters under which a row's file is brought: those of the run, and `o` where its component wasn't present and none of them
-/// asks for files (REINSTALLMODE property).
-pub(crate) fn mode_of_row<E: Sees>(seen: &E, row: &FileRow) -> Mode
-    ensures { (w : World) → IsAsked (E.lookups seen.now) (E.choices seen.now) (E.rows seen.now) w → result ≡ mode_of_row w row.now }
+/// The letters under which a row's file is brought, by those of the run and whether the row's component was present before it: those
+/// of the run, and `o` where it wasn't and none of them asks for files (REINSTALLMODE property).
+pub fn mode_where(was_present: bool, mode: Mode) -> Mode
+    ensures { result ≡ mode_where was_present mode }
 {
-    let mode = seen.mode();
-    if seen.was_present(row.component.as_str()) || writes_some(mode) {
+    if was_present || writes_some(mode) {
         mode
     } else {
         Mode { o: true, ..mode }
