@@ -23,9 +23,10 @@ use Rattle.mi_model.specs.Refusals.{◌>>=◌, expanded, expanded_or_empty}
 use Rattle.mi_format.specs.Expansion as format
 use Rattle.mi_format.specs.declared.error.FormatFault.{FormatFault}
 use Rattle.mi_format.specs.declared.error.FormatFault.TheVariants.{TooDeep}
-use Rattle.mi_seq.specs.declared.custom.Custom.{Custom}
-use Rattle.mi_seq.specs.declared.custom.Custom.TheVariants.{Error, SetDir, SetProperty}
-use Rattle.mi_seq.specs.Customs.{kind_of, numbered, may_stand, custom_means}
+use Rattle.mi_seq_rows.specs.declared.custom.Custom.{Custom}
+use Rattle.mi_seq_rows.specs.declared.custom.Custom.TheVariants.{Error, SetDir, SetProperty}
+use Rattle.mi_seq_rows.specs.Customs.{kind_of, may_stand}
+use Rattle.mi_seq.specs.Customs.{numbered, custom_means}
 
 -- ---- what they do
 

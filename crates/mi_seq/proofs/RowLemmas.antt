@@ -6,8 +6,8 @@ use Rattle.mi_text.specs.Lookups.{Lookups}
 use Rattle.mi_schema.specs.declared.typed_rows.InstallExecuteSequenceRow.{InstallExecuteSequenceRow}
 use Rattle.mi_model.specs.Conditions.{holds}
 use Rattle.mi_model.specs.Sequence.{next_row}
+use Rattle.mi_seq_rows.specs.Conditions.{holding}
 use Rattle.mi_seq.specs.Orders.{rows_at}
-use Rattle.mi_seq.specs.Turns.{holding}
 
 abbrev NextOf : Type 0
 NextOf = Option (InstallExecuteSequenceRow × List InstallExecuteSequenceRow)

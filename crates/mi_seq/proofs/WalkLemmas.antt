@@ -1,17 +1,15 @@
 -- Steps of a walk, from those of its actions.
-use Rattle.std.proofs.Common.{◌≡◌, ℕ, Bool, true, false, List, [], ◌∷◌, ◌++◌, Option, Some, None, refl, sym, ap, ◌∙◌, subst, ◌||◌}
+use Rattle.std.proofs.Common.{◌≡◌, ℕ, false, List, [], ◌∷◌, ◌++◌, Option, Some, None, sym, ap, ◌∙◌, subst}
 use Rattle.std.specs.Prelude.{option_map, unwrap_or, Result, Ok, Err, IfOk}
-use Rattle.std.specs.Str.{bytes_eq}
-use Rattle.std.proofs.lemmas.Map.Text.{is_eq-slice_cmp}
-use Rattle.mi_text.specs.Maps.{Name, same_name, is_among}
+use Rattle.mi_text.specs.Maps.{Name}
 use Rattle.mi_text.specs.Lookups.{Lookups}
-use Rattle.mi_text.proofs.MapLemmas.{is_among-append}
 use Rattle.mi_base.specs.declared.answers.Fault.{Fault}
 use Rattle.mi_schema.specs.declared.package.Package.{Package}
 use Rattle.mi_schema.specs.declared.typed_rows.InstallExecuteSequenceRow.{InstallExecuteSequenceRow}
 use Rattle.mi_schema.specs.RowsOf.{rows_in}
 use Rattle.mi_model.specs.Sequence.{next_row}
 use Rattle.mi_model.specs.Steps.{step_of}
+use Rattle.mi_seq_rows.specs.Stages.{Reaches}
 use Rattle.mi_seq.specs.declared.step.Step.{Step}
 use Rattle.mi_seq.specs.declared.step.Step.TheVariants as step
 use Rattle.mi_seq.specs.declared.walk.Walk.{Walk}
@@ -24,7 +22,6 @@ use Rattle.mi_seq.specs.declared.refusal.Stop.TheVariants as stop
 use Rattle.mi_seq.specs.declared.error.SeqError.{SeqError}
 use Rattle.mi_seq.specs.declared.error.SeqError.TheVariants.{NoMemory, Refused}
 use Rattle.mi_seq.specs.Orders.{rows_at}
-use Rattle.mi_seq.specs.Stages.{Reaches}
 use Rattle.mi_seq.specs.Stops.{Answers, is_end, fault_of}
 use Rattle.mi_seq.specs.Turns.{IsNext}
 use Rattle.mi_seq.specs.Walks.{rest, Stands, Begins, Steps, IsRefused, action_at, told, refusal_of, Tells, IfRefused, IfNoMemory, IsAgain, Turned, KeepsRefusal, Halts}
@@ -42,17 +39,6 @@ steps p L begun old new (step.Error action text) e b = b
 steps p L begun old new (step.Execute action) e b = b
 steps p L begun old new step.Finalize e b = b
 steps p L begun old new step.End e b = cc
-
--- one name more among these
-pub begun_more : (before : Bool) (q n : Name) (names : List Name) → before ≡ is_among q names → (before || bytes_eq q n) ≡ is_among q (names ++ n ∷ [])
-begun_more before q n names e =
-    ap (λ b. b || bytes_eq q n) e
-    ∙ ap (λ b. is_among q names || b) (sym (is_eq-slice_cmp q n) ∙ sym (alone (same_name q n)))
-    ∙ sym (is_among-append q names (n ∷ []))
-  where
-    alone : (b : Bool) → (b || false) ≡ b
-    alone true = refl
-    alone false = refl
 
 -- ---- one turn
 

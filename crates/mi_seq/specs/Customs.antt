@@ -1,36 +1,22 @@
 -- Custom actions, as the program takes them. (CustomAction table; Summary List of All Custom Action Types.)
-use Rattle.std.specs.Prelude.{◌≡◌, ℕ, ℤ, ◌==◌, ◌&&◌, not, bit_and, Bool, true, List, codes, Option, Some, None, Result, Ok, Err, if◌then◌else◌}
+use Rattle.std.specs.Prelude.{◌≡◌, ℕ, List, codes, Option, Result, Ok, Err}
 use Rattle.mi_text.specs.Maps.{Name}
 use Rattle.mi_text.specs.Lookups.{Lookups}
 use Rattle.mi_base.specs.declared.answers.Fault.TheVariants as faults
 use Rattle.mi_schema.specs.declared.typed_rows.CustomActionRow.{CustomActionRow}
 use Rattle.mi_schema.specs.TableRows.{Numbered}
-use Rattle.mi_rows.specs.Values.{bits_of, lacks}
-use Rattle.mi_model.specs.Sequence.{is_costed, is_finalized}
 use Rattle.mi_model.specs.Steps as model
 use Rattle.mi_model.specs.Refusals.{expanded_or_empty}
-use Rattle.mi_seq.specs.declared.custom.Custom.{Custom}
-use Rattle.mi_seq.specs.declared.custom.Custom.TheVariants.{Error, SetDir, SetProperty}
+use Rattle.mi_seq_rows.specs.declared.custom.Custom.{Custom}
+use Rattle.mi_seq_rows.specs.declared.custom.Custom.TheVariants.{Error, SetDir, SetProperty}
 use Rattle.mi_seq.specs.declared.refusal.Why.TheVariants.{TooDeep}
 use Rattle.mi_seq.specs.declared.refusal.Stop.{Stop}
 use Rattle.mi_seq.specs.declared.refusal.Stop.TheVariants.{NoMemory, Refused}
 use Rattle.mi_seq.specs.declared.step.Step.{Step}
 use Rattle.mi_seq.specs.declared.step.Step.TheVariants as step
 
-abbrev pub by_base : ℕ → Option Custom
-by_base base = if base == 19 then Some Error else if base == 35 then Some SetDir else if base == 51 then Some SetProperty else None
-
--- what runs here
-abbrev pub kind_of : ℤ → Option Custom
-kind_of kind = if lacks 1024 kind then by_base (bit_and (bits_of kind) 63) else None
-
 abbrev pub numbered : ℕ → CustomActionRow → Numbered CustomActionRow
 numbered number row = record { number = number; row = row }
-
-abbrev pub may_stand : Custom → List Name → Bool
-may_stand SetDir begun = is_costed begun && not (is_finalized begun)
-may_stand Error begun = true
-may_stand SetProperty begun = true
 
 -- what it does with its Source and its expanded Target
 abbrev pub custom_means : Custom → Name → List ℕ → model.Step

@@ -1,7 +1,6 @@
 pub mod Orders
 pub mod Meaning
 pub mod Walks
-pub mod Stages
 pub mod Stops
 pub mod Standards
 pub mod Customs

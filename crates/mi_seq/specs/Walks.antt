@@ -9,6 +9,7 @@ use Rattle.mi_schema.specs.declared.typed_rows.InstallExecuteSequenceRow.{Instal
 use Rattle.mi_schema.specs.RowsOf.{rows_in}
 use Rattle.mi_model.specs.Sequence.{is_inside, next_row}
 use Rattle.mi_model.specs.Steps.{step_of}
+use Rattle.mi_seq_rows.specs.Stages.{Reaches}
 use Rattle.mi_seq.specs.declared.step.Step.{Step}
 use Rattle.mi_seq.specs.declared.step.Step.TheVariants.{End}
 use Rattle.mi_seq.specs.declared.walk.Walk.{Walk}
@@ -19,7 +20,6 @@ use Rattle.mi_seq.specs.declared.refusal.Stop.TheVariants as stop
 use Rattle.mi_seq.specs.declared.error.SeqError.{SeqError}
 use Rattle.mi_seq.specs.declared.error.SeqError.TheVariants.{NoMemory, Refused}
 use Rattle.mi_seq.specs.Meaning.{meant, action_of}
-use Rattle.mi_seq.specs.Stages.{Reaches}
 use Rattle.mi_seq.specs.Stops.{fault_of}
 use Rattle.mi_seq.specs.Orders.{rows_at}
 

@@ -4,16 +4,16 @@ ghost use Rattle.std.specs.Prelude.{◌≡◌, List, ℕ};
 ghost use Rattle.mi_schema.specs.Lawful.{IsLawful};
 ghost use Rattle.mi_schema.specs.RowsOf.{rows_in};
 ghost use Rattle.mi_model.specs.Steps.{step_of};
-ghost use Rattle.mi_seq.specs.Stages.{Reaches};
+ghost use Rattle.mi_seq_rows.specs.Stages.{Reaches};
 ghost use Rattle.mi_seq.specs.Stops.{Answers};
 
 use crate::custom::custom_step;
 use crate::refusal::Stop;
-use crate::stage::Stage;
 use crate::standard::standard_of;
 use crate::step::Step;
 use mi_base::{Env, Text};
 use mi_schema::Package;
+use mi_seq_rows::Stage;
 use std::alloc::Global;
 
 /// What an action does where it stands (Standard Actions Reference; Custom Action Types).

@@ -6,45 +6,17 @@ ghost use Rattle.mi_schema.specs.RowsOf.{rows_in};
 ghost use Rattle.mi_schema.specs.TableRows.{Numbered};
 ghost use Rattle.mi_model.specs.Steps.{custom_action, custom_step};
 ghost use Rattle.mi_model.specs.Refusals.{expanded_or_empty};
-ghost use Rattle.mi_seq.specs.Customs.{kind_of, numbered, may_stand, step_with, IsExpanded};
-ghost use Rattle.mi_seq.specs.Stages.{Reaches};
+ghost use Rattle.mi_seq_rows.specs.Stages.{Reaches};
+ghost use Rattle.mi_seq.specs.Customs.{numbered, step_with, IsExpanded};
 ghost use Rattle.mi_seq.specs.Stops.{Answers};
 
 use crate::refusal::{Stop, Why};
-use crate::stage::Stage;
 use crate::step::Step;
 use mi_base::{Env, NoMemory, Text};
 use mi_format::{FormatError, expand};
 use mi_schema::{CustomActionRow, Package, keys_stand, tables_small};
+use mi_seq_rows::{Custom, Stage, kind_of, may_stand};
 use std::alloc::Global;
-
-/// What a custom action does that runs here.
-#[derive(Clone, Copy)]
-pub enum Custom {
-    /// Type 19.
-    Error,
-    /// Type 35.
-    SetDir,
-    /// Type 51.
-    SetProperty,
-}
-
-/// What a custom action of this Type does, unless it would run code. Bit 1024 defers an action, which then runs as code does
-/// (Custom Action In-Script Execution Options).
-fn kind_of(kind: i32) -> Option<Custom>
-    ensures { result ≡ kind_of kind }
-{
-    let bits = kind.cast_unsigned();
-    if bits & 1024 != 0 {
-        return None;
-    }
-    match bits & 63 {
-        19 => Some(Custom::Error),
-        35 => Some(Custom::SetDir),
-        51 => Some(Custom::SetProperty),
-        _ => None,
-    }
-}
 
 /// The row of a custom action, and its number in file order, from 1.
 fn row_of<'a>(loaded: &'a Package, action: &Text) -> Option<(u32, &'a CustomActionRow)>
@@ -56,16 +28,6 @@ fn row_of<'a>(loaded: &'a Package, action: &Text) -> Option<(u32, &'a CustomActi
     match loaded.custom_action.get_full(action) {
         Some((place, _, row)) => Some((place as u32 + 1, row)),
         None => None,
-    }
-}
-
-/// Whether it may stand here: a directory is set behind CostFinalize, and not behind InstallFinalize.
-fn may_stand(custom: Custom, stage: Stage) -> bool
-    ensures { (begun : List (List ℕ)) → Reaches stage begun → result ≡ may_stand custom begun }
-{
-    match custom {
-        Custom::SetDir => stage.costed && !stage.finalized,
-        Custom::Error | Custom::SetProperty => true,
     }
 }
 
@@ -91,15 +53,14 @@ fn expanded<E: Env>(alloc: Global, env: &E, row: u32, text: &Option<Text>) -> Re
     }
 }
 
-impl Custom {
-    fn step(self, action: Text, source: Text, text: Text) -> Step
-        ensures { result ≡ step_with self action source text }
-    {
-        match self {
-            Custom::Error => Step::Error(action, text),
-            Custom::SetDir => Step::SetDir(action, source, text),
-            Custom::SetProperty => Step::SetProperty(action, source, text),
-        }
+// What it does, by its action, its Source and its expanded Target.
+fn step_with(custom: Custom, action: Text, source: Text, text: Text) -> Step
+    ensures { result ≡ step_with custom action source text }
+{
+    match custom {
+        Custom::Error => Step::Error(action, text),
+        Custom::SetDir => Step::SetDir(action, source, text),
+        Custom::SetProperty => Step::SetProperty(action, source, text),
     }
 }
 
@@ -123,7 +84,7 @@ fn row_step<E: Env>(
     let text = expanded(alloc, env, number, &row.target)?;
     let source = copy_or_empty(alloc, &row.source)?;
     let action = Text::copy_of(alloc, action)?;
-    Ok(custom.step(action, source, text))
+    Ok(step_with(custom, action, source, text))
 }
 
 /// What a custom action does where it stands.

@@ -11,7 +11,6 @@ mod places;
 mod refusal;
 mod row;
 mod seats;
-mod stage;
 mod standard;
 mod step;
 mod walk;

@@ -1,14 +1,15 @@
 //! The next row of a walk.
 
-ghost use Rattle.std.specs.Prelude.{◌≡◌, Some, None, MatchOption, option_copied, slice_get};
+ghost use Rattle.std.specs.Prelude.{◌≡◌, None, MatchOption, option_copied, slice_get};
 ghost use Rattle.mi_schema.specs.RowsOf.{rows_in};
-ghost use Rattle.mi_model.specs.Conditions.{holds};
 ghost use Rattle.mi_model.specs.Sequence.{next_row};
+ghost use Rattle.mi_seq_rows.specs.Conditions.{holding};
 ghost use Rattle.mi_seq.specs.Orders.{rows_at};
-ghost use Rattle.mi_seq.specs.Turns.{holding, IsNext};
+ghost use Rattle.mi_seq.specs.Turns.{IsNext};
 
 use mi_base::Env;
 use mi_schema::{InstallExecuteSequenceRow, Package};
+use mi_seq_rows::if_holds;
 
 /// A row that holds, its place in file order, from 0, and the places behind it in the sequence.
 #[derive(Clone, Copy)]
@@ -26,26 +27,6 @@ pub fn row_at(loaded: &Package, place: usize) -> Option<&InstallExecuteSequenceR
         Some((_, row)) => Some(row),
         None => None,
     }
-}
-
-/// Whether the condition of a row is null or true. Takes no memory.
-fn holds<E: Env>(row: &InstallExecuteSequenceRow, env: &E) -> bool
-    ensures { result ≡ holds (E.lookups env.now) row.now.condition }
-{
-    match &row.condition {
-        Some(condition) => condition.value(env),
-        None => true,
-    }
-}
-
-/// The row, if it holds. Takes no memory.
-fn if_holds<'p, E: Env>(
-    row: &'p InstallExecuteSequenceRow,
-    env: &E,
-) -> Option<&'p InstallExecuteSequenceRow>
-    ensures { option_copied result ≡ holding (E.lookups env.now) (Some row.now) }
-{
-    if holds(row, env) { Some(row) } else { None }
 }
 
 /// The row at this place, if it holds. Takes no memory.

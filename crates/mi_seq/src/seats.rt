@@ -1,10 +1,10 @@
 //! Rows of a sequence by their seats.
 
-ghost use Rattle.std.specs.Prelude.{◌≡◌, List, IfOk, OnOk, Some, ◌+◌, MatchOption, true, false, map, slice_get};
+ghost use Rattle.std.specs.Prelude.{◌≡◌, List, IfOk, OnOk, Some, ◌+◌, map, slice_get};
 ghost use Rattle.std.specs.BTreeMap.{insert_entry};
 ghost use Rattle.mi_schema.specs.declared.typed_rows.InstallExecuteSequenceRow.{InstallExecuteSequenceRow as Row};
 ghost use Rattle.mi_schema.specs.RowsOf.{rows_in};
-ghost use Rattle.mi_model.specs.Sequence.{sequence, has_seat, seat_of};
+ghost use Rattle.mi_model.specs.Sequence.{sequence};
 ghost use Rattle.mi_seq.specs.Orders.{ordered};
 ghost use Rattle.mi_seq.specs.Seats.{placed_cmp, AreSeated};
 
@@ -12,21 +12,12 @@ use crate::places::Order;
 use crate::row::row_at;
 use mi_base::NoMemory;
 use mi_schema::{InstallExecuteSequenceRow, Package};
+use mi_seq_rows::seat_of;
 use std::alloc::Global;
 use std::collections::BTreeMap;
 
 /// Places of rows by their Sequence and their Action.
 type Seats<'a> = BTreeMap<(i32, &'a str), usize>;
-
-/// The Sequence and the Action of a row, if it is walked.
-fn seat_of(row: &InstallExecuteSequenceRow) -> Option<(i32, &str)>
-    ensures { MatchOption result (has_seat row.now ≡ false) (λ s. (has_seat row.now ≡ true) × ((s.0, s.1.now) ≡ seat_of row.now)) }
-{
-    match row.sequence {
-        Some(sequence) if sequence > 0 => Some((sequence, row.action.as_str())),
-        Some(_) | None => None,
-    }
-}
 
 fn put<'a>(seats: &mut Seats<'a>, seat: (i32, &'a str), place: usize) -> Result<(), NoMemory>
     ensures { OnOk result (seats.new.entries ≡ insert_entry placed_cmp seats.old.entries seat.entry place) }

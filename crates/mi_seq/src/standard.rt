@@ -4,14 +4,14 @@ ghost use Rattle.std.specs.Prelude.{◌≡◌, ℕ, List, map, true, IfSome};
 ghost use Rattle.mi_model.specs.States.{named};
 ghost use Rattle.mi_model.specs.Sequence.{is_inside};
 ghost use Rattle.mi_seq.specs.Standards.{entry_as, standard_actions, does, IsNamed};
-ghost use Rattle.mi_seq.specs.Stages.{Reaches};
+ghost use Rattle.mi_seq_rows.specs.Stages.{Reaches};
 ghost use Rattle.mi_seq.specs.Stops.{Answers};
 
 use crate::phase::Phase;
 use crate::refusal::{Stop, Why};
-use crate::stage::Stage;
 use crate::step::Step;
 use mi_base::Text;
+use mi_seq_rows::Stage;
 use std::alloc::Global;
 
 /// What a standard action does.

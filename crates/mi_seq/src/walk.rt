@@ -17,10 +17,10 @@ use crate::error::SeqError;
 use crate::places::Order;
 use crate::refusal::{Stop, Why};
 use crate::row::{Next, next_row, row_at};
-use crate::stage::Stage;
 use crate::step::Step;
 use mi_base::{Env, Fault, NoMemory, Text};
 use mi_schema::Package;
+use mi_seq_rows::Stage;
 use std::alloc::Global;
 
 /// Why a walk ended early.

@@ -1,6 +1,6 @@
 -- The row at the place, if there is one and it holds.
 use Rattle.std.proofs.Common.{ap, ◌∙◌}
-use Rattle.mi_seq.specs.Turns.{holding}
+use Rattle.mi_seq_rows.specs.Conditions.{holding}
 use Rattle.mi_seq.proofs.row.row_that_holds.Goals as goal
 
 pub returns-in-Some : goal.returns-in-Some

@@ -1,6 +1,6 @@
 -- Written out, so that an edit that turns it is refused at once (docs/GATE.md).
 use Rattle.std.proofs.Common.{rules}
-use Rattle.mi_seq.proofs.custom.may_stand.Goals as goal
+use Rattle.mi_seq_rows.proofs.custom.may_stand.Goals as goal
 
 pub returns-then-stage : goal.returns-then-stage
 returns-then-stage c = search rules

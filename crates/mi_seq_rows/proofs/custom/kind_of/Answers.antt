@@ -1,6 +1,6 @@
 -- Written out, so that an edit that turns it is refused at once (docs/GATE.md).
 use Rattle.std.proofs.Common.{rules}
-use Rattle.mi_seq.proofs.custom.kind_of.Goals as goal
+use Rattle.mi_seq_rows.proofs.custom.kind_of.Goals as goal
 
 pub returns-then-bits-ne0 : goal.returns-then-bits-ne0
 returns-then-bits-ne0 c = search rules

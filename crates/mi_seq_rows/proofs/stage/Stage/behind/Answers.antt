@@ -1,8 +1,8 @@
 -- Each of the three is begun where it was, or is this action.
 use Rattle.std.proofs.Common.{◌∙◌}
 use Rattle.std.specs.Prelude.{codes}
-use Rattle.mi_seq.proofs.WalkLemmas.{begun_more}
-use Rattle.mi_seq.proofs.stage.Stage.behind.Goals as goal
+use Rattle.mi_seq_rows.proofs.StageLemmas.{begun_more}
+use Rattle.mi_seq_rows.proofs.stage.Stage.behind.Goals as goal
 
 pub returns : goal.returns
 returns c = λ begun r. record {

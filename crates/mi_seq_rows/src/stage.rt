@@ -3,7 +3,7 @@
 ghost use Rattle.std.specs.Prelude.{◌≡◌, ◌||◌, ◌++◌, ◌∷◌, [], List, ℕ};
 ghost use Rattle.std.specs.Str.{bytes_eq};
 ghost use Rattle.mi_model.specs.Sequence.{is_inside};
-ghost use Rattle.mi_seq.specs.Stages.{Reaches};
+ghost use Rattle.mi_seq_rows.specs.Stages.{Reaches};
 
 /// Which of the three actions that order a sequence are begun (Suggested InstallExecuteSequence).
 #[derive(Clone, Copy)]
@@ -17,7 +17,7 @@ pub struct Stage {
 }
 
 impl Stage {
-    /// Before the first action.
+    /// Before the first action: none of the three is begun.
     pub fn start() -> Stage
         ensures { Reaches result [] }
     {
@@ -28,14 +28,14 @@ impl Stage {
         }
     }
 
-    /// Whether it is between InstallInitialize and InstallFinalize.
+    /// Whether it is between InstallInitialize and InstallFinalize (Suggested InstallExecuteSequence).
     pub fn is_inside(self) -> bool
         ensures { (begun : List (List ℕ)) → Reaches self begun → result ≡ is_inside begun }
     {
         self.initialized && !self.finalized
     }
 
-    /// Behind one more action.
+    /// Behind one more action, by its name; but for the three it stays where it is. Takes no memory.
     pub fn behind(self, action: &str) -> Stage
         ensures { (begun : List (List ℕ)) → Reaches self begun → Reaches result (begun ++ action.now ∷ []) }
     {

@@ -1,6 +1,6 @@
 -- Written out, so that an edit that turns it is refused at once (docs/GATE.md).
 use Rattle.std.proofs.Common.{rules}
-use Rattle.mi_seq.proofs.seats.seat_of.Goals as goal
+use Rattle.mi_seq_rows.proofs.row.seat_of.Goals as goal
 
 pub returns-in-Some : goal.returns-in-Some
 returns-in-Some c = search rules

@@ -1,6 +1,6 @@
 -- Written out, so that an edit that turns it is refused at once (docs/GATE.md).
 use Rattle.std.proofs.Common.{rules}
-use Rattle.mi_seq.proofs.row.if_holds.Goals as goal
+use Rattle.mi_seq_rows.proofs.row.if_holds.Goals as goal
 
 pub returns-else-holds : goal.returns-else-holds
 returns-else-holds c = search rules

@@ -2,7 +2,7 @@
 use Rattle.std.specs.Prelude.{◌≡◌, List, codes}
 use Rattle.mi_text.specs.Maps.{Name, is_among}
 use Rattle.mi_model.specs.Sequence.{is_costed, is_finalized}
-use Rattle.mi_seq.specs.declared.stage.Stage.{Stage}
+use Rattle.mi_seq_rows.specs.declared.stage.Stage.{Stage}
 
 -- these actions are begun
 pub record Reaches (s : Stage) (begun : List Name) : Type 0 where
