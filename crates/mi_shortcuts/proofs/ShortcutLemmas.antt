@@ -1,6 +1,6 @@
 -- What rows of Shortcut name and make.
 use Rattle.std.proofs.Common.{◌≡◌, ℕ, suc, ◌+◌, ◌^◌, ◌≤◌, Bool, true, false, cond, ◌&&◌, List, [], ◌∷◌, ◌++◌, map, length, Bor, Option, Some, None, refl, sym, ap, subst, ◌∙◌, arith, length-append}
-use Rattle.std.specs.Prelude.{ℤ, nat_lt, nat_le, option_map, option_and_then, ok_or, unwrap_or, is_some, filter, All, IfSome, pos, negsuc, Result, Ok, Err}
+use Rattle.std.specs.Prelude.{nat_lt, nat_le, option_map, option_and_then, ok_or, is_some, filter, All, IfSome, pos, negsuc, Result, Ok, Err}
 use Rattle.std.specs.List.{AllByRecursion, filter_map, cons_option}
 use Rattle.std.specs.Option.{option_map_or}
 use Rattle.std.specs.Result.{result_ok}
@@ -41,7 +41,7 @@ use Rattle.mi_model.specs.Asked.{comes, leaves, lookups}
 use Rattle.mi_model.specs.ComponentRows.{rows_that}
 use Rattle.mi_model.specs.Refusals.{◌>>=◌, expanded, expanded_or_empty, unless}
 use Rattle.mi_model.specs.ClientRows.{recorded_path}
-use Rattle.mi_model.specs.Shortcuts.{shortcut_table, shortcut_path, path_or_refused, target_text, natural, folder_text, shortcut_entry, shortcut_touches, created_touches, create_shortcuts, removed_shortcut, without_shortcut, leaving_shortcuts, touched_folders, remove_shortcuts, is_guarded_shortcut}
+use Rattle.mi_model.specs.Shortcuts.{shortcut_table, shortcut_path, path_or_refused, target_text, shortcut_entry, shortcut_touches, created_touches, create_shortcuts, removed_shortcut, without_shortcut, leaving_shortcuts, touched_folders, remove_shortcuts, is_guarded_shortcut}
 use Rattle.mi_model.specs.Prune.{prune_folders}
 use Rattle.mi_steps.specs.declared.plan.Plan.{Plan}
 use Rattle.mi_steps.specs.Makes.{Makes}
@@ -57,7 +57,9 @@ use Rattle.mi_records.proofs.PhaseLemmas.{map-over}
 use Rattle.mi_records.proofs.RemovingLemmas.{taken_seen}
 use Rattle.mi_row_steps.specs.Sizes.{IsSmall, IsSized}
 use Rattle.mi_row_steps.proofs.SizeLemmas.{or_first}
-use Rattle.mi_shortcuts.specs.Entries.{HasNumbers, IsShortcutAt, created_effect, created_at, create_effect, remove_effect, touched_by}
+use Rattle.mi_shortcut_rows.specs.Entries.{HasNumbers, IsShortcutAt}
+use Rattle.mi_shortcut_rows.specs.Targets.{component_to_start}
+use Rattle.mi_shortcuts.specs.Entries.{created_effect, created_at, create_effect, remove_effect, touched_by}
 
 -- ---- paths
 
@@ -111,15 +113,6 @@ find_own (x ∷ rows) key r is = by_test (same_name key x.component) refl (find_
     by_test false at rest e = rest e
 
 -- ---- entries
-
-pub entry_at : (w : World) (r : ShortcutRow) (path target arguments : Text) → IsShortcutAt path (shortcut_entry w r path target arguments)
-entry_at w r path target arguments = record { shortcut = _; is = refl; shown = refl }
-
--- the entry of a row, by its fields
-pub entry_is : (w : World) (r : ShortcutRow) (shown target arguments description icon folder : Text) (hotkey show : ℕ) (icon_index : ℤ)
-    → description ≡ unwrap_or r.description [] → hotkey ≡ natural (unwrap_or r.hotkey (pos 0)) → icon ≡ unwrap_or r.icon [] → icon_index ≡ unwrap_or r.icon_index (pos 0) → show ≡ natural (unwrap_or r.show_cmd (pos 1)) → folder ≡ folder_text w r.wk_dir
-    → entry.Shortcut (record { shown = shown; target = target; arguments = arguments; description = description; hotkey = hotkey; icon = icon; icon_index = icon_index; show = show; folder = folder }) ≡ shortcut_entry w r shown target arguments
-entry_is w r shown target arguments description icon folder hotkey show icon_index a b c d e f = cc
 
 pub entry_named : (path : Text) (e : Entry) → IsShortcutAt path e → name_of e ≡ shortcut_name path
 entry_named path e at = ap name_of at.is ∙ ap shortcut_name at.shown
@@ -254,15 +247,24 @@ pub own_of : (rows : TableRows) (key : Name) (r : ComponentRow) → Some r ≡ c
 own_of rows key r is = ap (component_row_of rows) (sym (find_own rows.component key r (sym is))) ∙ sym is
 
 module _ (L : Lookups) (c : Choices) (p : Package) (w : World) (asked : IsAsked L c p w) (r : Numbered ShortcutRow) where
-  abbrev aimed : Bool → TableRows → Lookups → Result Text Fault
-  aimed b rows K = cond b (option_map_or (recorded_path w) (component_row_of rows r.row.component) (Ok [])) (expanded K shortcut_table r.number r.row.target)
+  -- the key path of this component, or the text
+  abbrev aimed : TableRows → Lookups → Option Name → Result Text Fault
+  aimed rows K None = expanded K shortcut_table r.number r.row.target
+  aimed rows K (Some key) = option_map_or (recorded_path w) (component_row_of rows key) (Ok [])
 
-  pub target_is : (b : Bool) → is_some (feature_row_of (rows_in p) r.row.target) ≡ b → target_text w r ≡ aimed b (rows_in p) L
+  aimed_at : (rows : TableRows) (K : Lookups) (b : Bool)
+      → cond b (option_map_or (recorded_path w) (component_row_of rows r.row.component) (Ok [])) (expanded K shortcut_table r.number r.row.target) ≡ aimed rows K (component_to_start b r.row)
+  aimed_at rows K true = refl
+  aimed_at rows K false = refl
+
+  pub target_is : (b : Bool) (o : Option Name) → is_some (feature_row_of (rows_in p) r.row.target) ≡ b → o ≡ component_to_start b r.row → target_text w r ≡ aimed (rows_in p) L o
   unfolding target_text
-  target_is b is =
-      ap (λ (rows : TableRows). aimed (is_some (feature_row_of rows r.row.target)) rows (lookups w)) asked.rows
-      ∙ ap (λ t. aimed t (rows_in p) (lookups w)) is
-      ∙ ap (aimed b (rows_in p)) asked.lookups
+  target_is b o is at =
+      aimed_at w.given.rows (lookups w) (is_some (feature_row_of w.given.rows r.row.target))
+      ∙ ap (λ (rows : TableRows). aimed rows (lookups w) (component_to_start (is_some (feature_row_of rows r.row.target)) r.row)) asked.rows
+      ∙ ap (λ (t : Bool). aimed (rows_in p) (lookups w) (component_to_start t r.row)) is
+      ∙ ap (aimed (rows_in p) (lookups w)) (sym at)
+      ∙ ap (λ (K : Lookups). aimed (rows_in p) K o) asked.lookups
 
 -- ---- plans
 

@@ -1,13 +1,10 @@
 -- What rows of Shortcut make, step by step. (Shortcut Table.)
-use Rattle.std.specs.Prelude.{◌≡◌, ℕ, pos, negsuc, if◌then◌else◌, List, Option, None, option_map, IfSome, Result, Ok}
+use Rattle.std.specs.Prelude.{ℕ, if◌then◌else◌, List, Option, None, option_map, Result, Ok}
 use Rattle.mi_text.specs.Maps.{Name}
 use Rattle.mi_text.specs.Fold.{folded}
 use Rattle.mi_text.specs.Path.{up_to_last}
 use Rattle.mi_base.specs.declared.answers.Fault.{Fault}
 use Rattle.mi_base.specs.declared.entry.Entry.{Entry}
-use Rattle.mi_base.specs.declared.entry.Entry.TheVariants as entry
-use Rattle.mi_base.specs.declared.entry.Shortcut.{Shortcut}
-use Rattle.mi_schema.specs.Laws.{IsWithin}
 use Rattle.mi_schema.specs.TableRows.{Numbered}
 use Rattle.mi_schema.specs.declared.typed_rows.ShortcutRow.{ShortcutRow}
 use Rattle.mi_model.specs.Texts.{Text}
@@ -15,18 +12,6 @@ use Rattle.mi_model.specs.World.{World, RowEffect}
 use Rattle.mi_model.specs.Asked.{keeps, lookups}
 use Rattle.mi_model.specs.Refusals.{◌>>=◌, expanded_or_empty, size_fault, unless}
 use Rattle.mi_model.specs.Shortcuts.{shortcut_table, shortcut_path, shortcut_entry, shortcut_touches, shortcut_named, target_text, created_touches, removed_shortcut}
-
--- its numbers are of their columns' ranges
-pub record HasNumbers (r : ShortcutRow) : Type 0 where
-  pub hotkey : IfSome r.hotkey (IsWithin (pos 0) (pos 65535))
-  pub icon_index : IfSome r.icon_index (IsWithin (negsuc 32766) (pos 32767))
-  pub show_cmd : IfSome r.show_cmd (IsWithin (pos 0) (pos 65535))
-
--- the entry is a shortcut of this path
-pub record IsShortcutAt (path : Text) (e : Entry) : Type 0 where
-  pub shortcut : Shortcut
-  pub is : e ≡ entry.Shortcut shortcut
-  pub shown : shortcut.shown ≡ path
 
 -- ---- a row that creates
 

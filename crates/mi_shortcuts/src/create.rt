@@ -19,9 +19,10 @@ ghost use Rattle.mi_records.specs.Order.{as_numbered};
 ghost use Rattle.mi_records.specs.Rows as made;
 ghost use Rattle.mi_records.specs.Rows.{Phase};
 ghost use Rattle.mi_records.specs.Stops.{Tells};
-ghost use Rattle.mi_shortcuts.specs.Entries.{HasNumbers, IsShortcutAt, with_arguments, entry_of_row, created_effect, created_at, create_effect};
+ghost use Rattle.mi_shortcut_rows.specs.Entries.{HasNumbers, IsShortcutAt};
+ghost use Rattle.mi_shortcuts.specs.Entries.{with_arguments, entry_of_row, created_effect, created_at, create_effect};
 
-use crate::shortcut::{path_or_refused, shortcut_entry};
+use crate::shortcut::path_or_refused;
 use crate::shortcut_rows::coming_shortcuts;
 use crate::target::target_text;
 use mi_base::{Entry, NoMemory, PathText, Text};
@@ -29,6 +30,7 @@ use mi_files::make_folders;
 use mi_records::{PlanError, Row, Sees, put_entry};
 use mi_row_steps::{expanded_or_empty, sized};
 use mi_schema::ShortcutRow;
+use mi_shortcut_rows::shortcut_entry;
 use mi_steps::Plan;
 use std::alloc::Global;
 

@@ -11,7 +11,7 @@ ghost use Rattle.mi_schema.specs.TableRows.{in_key_order};
 ghost use Rattle.mi_schema.specs.declared.typed_rows.ShortcutRow.{ShortcutRow};
 ghost use Rattle.mi_records.specs.Choices.{IsAsked};
 ghost use Rattle.mi_records.specs.Order.{as_numbered};
-ghost use Rattle.mi_shortcuts.specs.Entries.{HasNumbers};
+ghost use Rattle.mi_shortcut_rows.specs.Entries.{HasNumbers};
 
 use mi_base::NoMemory;
 use mi_records::{Row, Sees, in_key_order};

@@ -17,6 +17,7 @@ use mi_files::component_row;
 use mi_records::{PlanError, Sees, recorded_path};
 use mi_row_steps::expanded;
 use mi_schema::{Package, ShortcutRow, keys_stand};
+use mi_shortcut_rows::component_to_start;
 use std::alloc::Global;
 
 // Whether a row of Feature has this key.
@@ -63,9 +64,8 @@ pub fn target_text<S: Sees>(
     requires { IsLawful (S.rows seen.now) }
     ensures { (w : World) → IsAsked (S.lookups seen.now) (S.choices seen.now) (S.rows seen.now) w → Tells (target_text w (numbered number row.now)) result }
 {
-    if is_feature(seen.package(), &row.target) {
-        component_path(alloc, seen, &row.component)
-    } else {
-        expanded(alloc, seen, "Shortcut", number, row.target.as_str())
+    match component_to_start(row, is_feature(seen.package(), &row.target)) {
+        Some(component) => component_path(alloc, seen, component),
+        None => expanded(alloc, seen, "Shortcut", number, row.target.as_str()),
     }
 }

@@ -2,7 +2,7 @@
 use Rattle.std.proofs.Common.{sym, ap, subst, ◌∙◌}
 use Rattle.mi_base.specs.declared.entry.Entry.{Entry}
 use Rattle.mi_base.specs.Limits.{fits}
-use Rattle.mi_shortcuts.specs.Entries.{IsShortcutAt}
+use Rattle.mi_shortcut_rows.specs.Entries.{IsShortcutAt}
 use Rattle.mi_shortcuts.proofs.ShortcutLemmas.{shortcut_large, created, created_not}
 use Rattle.mi_shortcuts.proofs.create.put_shortcut.Goals as goal
 

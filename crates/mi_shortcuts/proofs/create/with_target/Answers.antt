@@ -3,7 +3,8 @@ use Rattle.std.proofs.Common.{List, ℕ, subst}
 use Rattle.std.specs.Prelude.{IfOk}
 use Rattle.mi_records.specs.Meaning.{numbered}
 use Rattle.mi_records.specs.Stops.{Tells}
-use Rattle.mi_shortcuts.specs.Entries.{IsShortcutAt, with_arguments}
+use Rattle.mi_shortcut_rows.specs.Entries.{IsShortcutAt}
+use Rattle.mi_shortcuts.specs.Entries.{with_arguments}
 use Rattle.mi_shortcuts.proofs.create.with_target.Goals as goal
 
 pub returns-in-Ok-clause-entry : goal.returns-in-Ok-clause-entry

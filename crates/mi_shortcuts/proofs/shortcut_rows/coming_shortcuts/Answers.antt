@@ -7,7 +7,7 @@ use Rattle.mi_schema.specs.RowsOf.{rows_in}
 use Rattle.mi_schema.specs.TableRows.{in_key_order}
 use Rattle.mi_records.specs.Order.{as_numbered}
 use Rattle.mi_records.proofs.PhaseLemmas.{all_picked}
-use Rattle.mi_shortcuts.specs.Entries.{HasNumbers}
+use Rattle.mi_shortcut_rows.specs.Entries.{HasNumbers}
 use Rattle.mi_shortcuts.proofs.ShortcutLemmas.{coming_are}
 use Rattle.mi_shortcuts.proofs.shortcut_rows.coming_shortcuts.Goals as goal
 

@@ -2,7 +2,7 @@
 use Rattle.mi_schema.specs.declared.typed_rows.ShortcutRow.{ShortcutRow}
 use Rattle.mi_schema.specs.RowsOf.{rows_in}
 use Rattle.mi_records.proofs.PhaseLemmas.{ok_roots}
-use Rattle.mi_shortcuts.specs.Entries.{HasNumbers}
+use Rattle.mi_shortcut_rows.specs.Entries.{HasNumbers}
 use Rattle.mi_shortcuts.proofs.ShortcutLemmas.{numbers_stand}
 use Rattle.mi_shortcuts.proofs.shortcut_rows.shortcut_rows.Goals as goal
 

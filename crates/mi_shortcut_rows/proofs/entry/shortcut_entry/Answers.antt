@@ -4,8 +4,8 @@ use Rattle.std.specs.Int.{w16}
 use Rattle.std.specs.Option.{option_map_or}
 use Rattle.std.proofs.lemmas.Int.{to_z-of_z}
 use Rattle.mi_text.specs.Lookups.{Lookups}
-use Rattle.mi_shortcuts.proofs.ShortcutLemmas.{entry_is}
-use Rattle.mi_shortcuts.proofs.shortcut.shortcut_entry.Goals as goal
+use Rattle.mi_shortcut_rows.proofs.EntryLemmas.{entry_is}
+use Rattle.mi_shortcut_rows.proofs.entry.shortcut_entry.Goals as goal
 
 pub natural-requires : goal.natural-requires
 natural-requires g c = c.requires.hotkey
