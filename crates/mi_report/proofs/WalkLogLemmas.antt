@@ -1,14 +1,18 @@
 -- The log of a walk with each number of begun actions.
-use Rattle.std.proofs.Common.{◌≡◌, ℕ, zero, suc, ◌+◌, List, [], ◌∷◌, ◌++◌, Option, refl, sym, ap, ◌∙◌, take, drop, length, get_or, arith, add-zero, length-append}
+use Rattle.std.proofs.Common.{◌≡◌, ℕ, zero, suc, ◌+◌, true, List, [], ◌∷◌, ◌++◌, Option, refl, sym, ap, ◌∙◌, take, drop, length, get_or, arith, add-zero, length-append}
 use Rattle.std.specs.List.{flat_map}
 use Rattle.std.proofs.Math.Seq.{take-append_seam, take-append-add}
 use Rattle.std.proofs.lemmas.List.{take-append-drop}
 use Rattle.std.proofs.lemmas.Grind.{flat_map-append}
 use Rattle.mi_text.specs.declared.answers.Settled.{Settled}
 use Rattle.mi_base.specs.declared.answers.Cause.{Cause}
-use Rattle.mi_model.specs.Lines.{recovered_line, action_line}
+use Rattle.mi_base.specs.declared.answers.Kind.{Kind}
+use Rattle.mi_base.specs.declared.answers.Kind.TheVariants.{Done, Listed, Recovered, Refused, Suspended, NoMemory}
+use Rattle.mi_model.specs.Lines.{recovered_line, action_line, result_line}
+use Rattle.mi_model.specs.Report.{walk_lines, last_line, report_of}
+use Rattle.mi_report.specs.declared.walk.Log.{Log}
 use Rattle.mi_report.specs.declared.walk.WalkLog.{WalkLog}
-use Rattle.mi_report.specs.WalkLogs.{ends_from, IsMadeFor, IsRefusalLine}
+use Rattle.mi_report.specs.WalkLogs.{line_text, log_text, ends_from, IsMadeFor, IsRefusalLine, IsWalkKind}
 
 -- ---- where the text ends
 
@@ -50,3 +54,20 @@ is_made settled begun refusal log text ends refused = record {
       ∙ front_is (recovered_line settled) begun n;
   refused = refused;
 }
+
+-- ---- an answer of a walk
+
+last_is : (refusal : Option Cause) (kind : Kind) → IsWalkKind refusal kind → last_line kind ≡ result_line kind
+last_is refusal Done is = refl
+last_is refusal Listed is = absurd is
+last_is refusal (Recovered settled) is = refl
+last_is refusal (Refused cause) is = refl
+last_is refusal (Suspended pause) is = refl
+last_is refusal NoMemory is = refl
+
+pub closed : (settled : Settled) (begun : List (List ℕ)) (refusal : Option Cause) (kind : Kind) (n : ℕ) (log : Log)
+    → log.front ≡ walk_lines true settled (take n begun) → line_text log.line ≡ result_line kind → IsWalkKind refusal kind
+    → log_text log ≡ report_of kind settled true begun n
+closed settled begun refusal kind n log front line is =
+    ap (λ (text : List ℕ). text ++ line_text log.line) front
+    ∙ ap (λ (text : List ℕ). walk_lines true settled (take n begun) ++ text) (line ∙ sym (last_is refusal kind is))
