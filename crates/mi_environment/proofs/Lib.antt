@@ -1,5 +1,3 @@
-pub mod ColumnLemmas
-pub mod ItemLemmas
 pub mod TakeLemmas
 pub mod ValueLemmas
 pub mod VariableLemmas

@@ -32,7 +32,7 @@ use Rattle.mi_records.specs.Choices.{Choices, IsAsked}
 use Rattle.mi_records.specs.Order.{as_numbered}
 use Rattle.mi_records.proofs.PhaseLemmas.{map-over}
 use Rattle.mi_records.proofs.RemovingLemmas.{taken_seen}
-use Rattle.mi_environment.specs.Lefts.{left}
+use Rattle.mi_variables.specs.Lefts.{left}
 use Rattle.mi_environment.specs.Variables.{is_taken, has_other_value, taken_touches, IsHeldAt}
 use Rattle.mi_environment.proofs.VariableLemmas.{held_whole}
 use Rattle.mi_environment.proofs.WriteLemmas.{ordered}

@@ -33,7 +33,8 @@ use Rattle.mi_records.specs.Rows.{Row}
 use Rattle.mi_records.proofs.PhaseLemmas.{map-over}
 use Rattle.mi_records.proofs.RemovingLemmas.{taken_seen}
 use Rattle.mi_row_steps.specs.Sizes.{Put}
-use Rattle.mi_environment.specs.Variables.{written_text, write_effect}
+use Rattle.mi_variables.specs.Written.{written_text}
+use Rattle.mi_environment.specs.Variables.{write_effect}
 use Rattle.mi_environment.proofs.VariableLemmas.{plain_variable, entry_named}
 
 -- ---- a row whose Name is good and whose Value has a form

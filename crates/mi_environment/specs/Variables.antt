@@ -14,15 +14,11 @@ use Rattle.mi_model.specs.World.{World, RowEffect}
 use Rattle.mi_model.specs.Asked.{keeps}
 use Rattle.mi_model.specs.Refusals.{unless}
 use Rattle.mi_model.specs.EnvironmentRows.{Form, named_variable, removes, clears}
-use Rattle.mi_model.specs.WriteEnvironmentStrings.{is_to_write, text_after, variable_fault, variable_after}
+use Rattle.mi_model.specs.WriteEnvironmentStrings.{variable_fault, variable_after}
 use Rattle.mi_model.specs.RemoveEnvironmentStrings.{variable_less}
 use Rattle.mi_records.specs.Choices.{Choices}
 
 -- ---- rows that write
-
--- the text that a row writes over the old one, if any
-abbrev pub written_text : Text → Form → Option Text → Option Text
-written_text name form old = if is_to_write name old then text_after form old else None
 
 -- what a row writes whose Name is good and whose Value has this form
 abbrev pub write_effect : ℕ → Text → Form → RowEffect

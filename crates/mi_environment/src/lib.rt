@@ -1,11 +1,7 @@
 //! Environment variables as plan calls: WriteEnvironmentStrings and RemoveEnvironmentStrings (Environment table).
 #![tactic(auto)]
 
-mod column;
-mod form;
 mod guards;
-mod items;
-mod parts;
 mod remove;
 mod rows;
 mod take;

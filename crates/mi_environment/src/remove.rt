@@ -1,8 +1,7 @@
 //! RemoveEnvironmentStrings as a plan call.
 
-ghost use Rattle.std.specs.Prelude.{◌≡◌, ◌&&◌, List, ℕ, Bool, Ok, OnOk, map, false};
-ghost use Rattle.std.specs.BTreeSet.{contains};
-ghost use Rattle.mi_text.specs.Maps.{Map, name_cmp};
+ghost use Rattle.std.specs.Prelude.{◌≡◌, List, ℕ, Bool, Ok, OnOk, map, false};
+ghost use Rattle.mi_text.specs.Maps.{Map};
 ghost use Rattle.mi_image.specs.Items.{AreThere};
 ghost use Rattle.mi_image.specs.Overlays.{former_items, present_items};
 ghost use Rattle.mi_model.specs.World.{World};
@@ -17,10 +16,9 @@ ghost use Rattle.mi_records.specs.Order.{as_numbered};
 ghost use Rattle.mi_records.specs.Removing.{Guards};
 ghost use Rattle.mi_records.specs.Rows as made;
 ghost use Rattle.mi_records.specs.Rows.{Phase};
-ghost use Rattle.mi_environment.specs.Forms.{meant};
+ghost use Rattle.mi_variables.specs.Forms.{meant};
 ghost use Rattle.mi_environment.specs.Variables.{taken_touches};
 
-use crate::form::{Form, form_told};
 use crate::guards::guards;
 use crate::rows::removing_rows;
 use crate::take::take_form;
@@ -30,15 +28,9 @@ use mi_base::{NoMemory, Text};
 use mi_records::{PlanError, Row, Sees};
 use mi_schema::EnvironmentRow;
 use mi_steps::Plan;
+use mi_variables::{Form, form_told, is_held_back};
 use std::alloc::Global;
 use std::collections::BTreeSet;
-
-// Whether a row leaves and its variable is guarded.
-fn is_held_back(guards: &BTreeSet<Text>, leaving: bool, at: &Text) -> bool
-    ensures { result ≡ (leaving && contains name_cmp guards.now at.now) }
-{
-    leaving && guards.contains(at)
-}
 
 // Takes away what the form of a Value says, unless the row leaves and its variable is guarded.
 fn take_unguarded(

@@ -14,10 +14,10 @@ ghost use Rattle.mi_records.specs.Choices.{IsAsked};
 ghost use Rattle.mi_records.specs.Order.{as_numbered};
 ghost use Rattle.mi_environment.specs.Variables.{is_taken};
 
-use crate::column::{clears, removes};
 use mi_base::NoMemory;
 use mi_records::{Row, Sees, in_key_order};
 use mi_schema::{EnvironmentRow, Package, keys_stand, tables_small};
+use mi_variables::{clears, removes};
 use std::alloc::Global;
 
 // The rows of Environment in key order.

@@ -14,17 +14,16 @@ ghost use Rattle.mi_steps.specs.Follows.{put_touch};
 ghost use Rattle.mi_steps.specs.Makes.{Makes};
 ghost use Rattle.mi_base.specs.Spelling.{name_of};
 ghost use Rattle.mi_records.specs.Keeps.{Keeps};
-ghost use Rattle.mi_environment.specs.Forms.{meant};
+ghost use Rattle.mi_variables.specs.Forms.{meant};
 ghost use Rattle.mi_model.specs.EnvironmentRows.{Whole};
 ghost use Rattle.mi_environment.specs.Variables.{IsHeldAt, has_other_value};
 
-use crate::form::Form;
-use crate::items::without_part;
 use crate::variable::held_variable;
 use mi_base::{Entry, NoMemory, Text, Variable};
 use mi_image::Image;
 use mi_row_steps::drop_at;
 use mi_steps::Plan;
+use mi_variables::{Form, has_another_value, without_part};
 use std::alloc::Global;
 
 // ---- a part
@@ -105,7 +104,7 @@ fn has_other_value(image: &Image, at: &str, text: &str) -> bool
     ensures { (held files : Map (List ℕ)) → result ≡ has_other_value text.now (as_variable (get (machine_over held files image.now) at.now)) }
 {
     match held_variable(image, at) {
-        Some(variable) => variable.value.as_str() != text,
+        Some(variable) => has_another_value(variable, text),
         None => false,
     }
 }

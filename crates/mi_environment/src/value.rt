@@ -4,15 +4,14 @@ ghost use Rattle.std.specs.Prelude.{◌≡◌, Some, IfOk, false};
 ghost use Rattle.mi_model.specs.EnvironmentRows.{is_bad_name, form_of, good_form, form_in, environment_form};
 ghost use Rattle.mi_records.specs.Meaning.{numbered};
 ghost use Rattle.mi_records.specs.Stops.{TellsBy};
-ghost use Rattle.mi_environment.specs.Forms.{form_told};
+ghost use Rattle.mi_variables.specs.Forms.{form_told};
 
-use crate::column::is_bad_name;
-use crate::form::{form_of, is_bad_form};
 use mi_base::{Fault, Text};
 use mi_format::BoundedEnv;
 use mi_records::PlanError;
 use mi_row_steps::expanded;
 use mi_schema::EnvironmentRow;
+use mi_variables::{form_of, is_bad_form, is_bad_name};
 use std::alloc::Global;
 
 // The text, where its form is good.

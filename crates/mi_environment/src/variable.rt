@@ -12,9 +12,9 @@ ghost use Rattle.mi_image.specs.declared.item.Item.TheVariants.{Whole};
 ghost use Rattle.mi_model.specs.EnvironmentRows.{named_variable};
 ghost use Rattle.mi_environment.specs.Variables.{IsHeldAt};
 
-use crate::column::{is_of_system, variable_in};
 use mi_base::{Entry, NoMemory, Text, Variable, fold};
 use mi_image::{Image, Item};
+use mi_variables::{is_of_system, variable_in};
 use std::alloc::Global;
 
 // How names of variables of the system, or else of the user, begin.

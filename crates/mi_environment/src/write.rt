@@ -18,23 +18,22 @@ ghost use Rattle.mi_records.specs.Keeps.{Keeps};
 ghost use Rattle.mi_records.specs.Order.{as_numbered};
 ghost use Rattle.mi_records.specs.Rows as made;
 ghost use Rattle.mi_records.specs.Rows.{Phase};
-ghost use Rattle.mi_environment.specs.Forms.{meant};
+ghost use Rattle.mi_variables.specs.Forms.{meant};
 ghost use Rattle.mi_row_steps.specs.Sizes.{Put};
-ghost use Rattle.mi_environment.specs.Variables.{written_text, write_effect};
+ghost use Rattle.mi_variables.specs.Written.{written_text};
+ghost use Rattle.mi_environment.specs.Variables.{write_effect};
 
-use crate::column::{creates, is_of_system, sets, variable_in};
-use crate::form::{Form, form_told};
-use crate::parts::text_after;
 use crate::rows::coming_rows;
 use crate::value::value_text;
 use crate::variable::{held_variable, name_text};
-use mi_base::{Entry, NoMemory, Text, Variable};
+use mi_base::{NoMemory, Text};
 use mi_format::BoundedEnv;
 use mi_image::Image;
 use mi_records::{PlanError, Row, Sees};
 use mi_row_steps::put_sized;
 use mi_schema::EnvironmentRow;
 use mi_steps::Plan;
+use mi_variables::{Form, form_told, variable_entry, written_text};
 use std::alloc::Global;
 
 // ---- the text that a row writes
@@ -46,22 +45,6 @@ fn old_text<'a>(image: &'a Image, at: &str) -> Option<&'a str>
     match held_variable(image, at) {
         Some(variable) => Some(variable.value.as_str()),
         None => None,
-    }
-}
-
-// The text that a row writes over this one, if any.
-fn written_text(
-    alloc: Global,
-    name: &str,
-    form: Form<'_>,
-    old: Option<&str>,
-) -> Result<Option<Text>, NoMemory>
-    ensures { IfOk result (λ text. text ≡ written_text name.now (meant form.entry) (option_copied old.entry)) }
-{
-    if sets(name) || (creates(name) && old.is_none()) {
-        text_after(alloc, form, old)
-    } else {
-        Ok(None)
     }
 }
 
@@ -79,23 +62,6 @@ fn text_over(
 }
 
 // ---- rows
-
-// The entry of the variable of a Name with a text.
-fn variable_entry(alloc: Global, name: &str, text: Text) -> Result<Entry, NoMemory>
-    ensures { IfOk result (λ entry. entry ≡ variable_entry name.now text) }
-{
-    match Text::copy_of(alloc, variable_in(name)) {
-        Ok(shown) => Ok(Entry::Variable(Variable {
-            system: is_of_system(name),
-            name: shown,
-            value: text,
-        })),
-        Err(_) => {
-            drop(text);
-            Err(NoMemory)
-        }
-    }
-}
 
 // Puts the variable of a Name with a text.
 fn put_text(

@@ -8,7 +8,7 @@ use Rattle.mi_records.specs.Meaning.{numbered}
 use Rattle.mi_records.specs.Rows as made
 use Rattle.mi_records.proofs.ClientLemmas.{row_same}
 use Rattle.mi_row_steps.proofs.RowLemmas.{row_untold}
-use Rattle.mi_environment.specs.Forms.{form_told, meant}
+use Rattle.mi_variables.specs.Forms.{form_told, meant}
 use Rattle.mi_environment.specs.Variables.{taken_touches}
 use Rattle.mi_environment.proofs.TakeLemmas.{row_takes, row_takes_nothing}
 use Rattle.mi_environment.proofs.remove.remove_row.Goals as goal

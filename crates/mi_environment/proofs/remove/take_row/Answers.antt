@@ -1,5 +1,5 @@
 use Rattle.std.proofs.Common.{refl}
-use Rattle.mi_environment.specs.Forms.{meant}
+use Rattle.mi_variables.specs.Forms.{meant}
 use Rattle.mi_environment.specs.Variables.{taken_touches}
 use Rattle.mi_environment.proofs.remove.take_row.Goals as goal
 

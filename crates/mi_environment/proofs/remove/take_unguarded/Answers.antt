@@ -12,7 +12,7 @@ use Rattle.mi_model.specs.EnvironmentRows.{named_variable}
 use Rattle.mi_model.specs.RemoveEnvironmentStrings.{variable_less}
 use Rattle.mi_steps.specs.Makes.{Makes, plan_machine}
 use Rattle.mi_steps.proofs.FollowLemmas.{started}
-use Rattle.mi_environment.specs.Forms.{meant}
+use Rattle.mi_variables.specs.Forms.{meant}
 use Rattle.mi_environment.proofs.VariableLemmas.{right_length, plain_variable}
 use Rattle.mi_environment.proofs.TakeLemmas.{held_back, not_held_back}
 use Rattle.mi_environment.proofs.remove.take_unguarded.Goals as goal

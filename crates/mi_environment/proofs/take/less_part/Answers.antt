@@ -6,7 +6,7 @@ use Rattle.mi_base.specs.declared.entry.Entry.TheVariants as entry
 use Rattle.mi_base.specs.declared.entry.Variable.{Variable}
 use Rattle.mi_model.specs.ListItems.{without_first}
 use Rattle.mi_model.specs.WriteEnvironmentStrings.{items_of}
-use Rattle.mi_environment.specs.Lefts.{left}
+use Rattle.mi_variables.specs.Lefts.{left}
 use Rattle.mi_environment.specs.Variables.{IsHeldAt}
 use Rattle.mi_environment.proofs.TakeLemmas.{part_some, part_none, value_named}
 use Rattle.mi_environment.proofs.take.less_part.Goals as goal

@@ -5,8 +5,8 @@ use Rattle.mi_base.specs.Machine.{as_variable}
 use Rattle.mi_changes.specs.Touches.{Set}
 use Rattle.mi_model.specs.RemoveEnvironmentStrings.{variable_less}
 use Rattle.mi_steps.specs.Makes.{Makes}
-use Rattle.mi_environment.specs.Forms.{meant}
-use Rattle.mi_environment.specs.declared.form.Form.{Form}
+use Rattle.mi_variables.specs.Forms.{meant}
+use Rattle.mi_variables.specs.declared.form.Form.{Form}
 use Rattle.mi_environment.proofs.take.take_form.Goals as goal
 
 pub returns-in-Null-clause-makes : goal.returns-in-Null-clause-makes

@@ -5,7 +5,7 @@ use Rattle.mi_base.specs.declared.answers.Fault.{Fault}
 use Rattle.mi_model.specs.Refusals.{expanded}
 use Rattle.mi_model.specs.EnvironmentRows.{Form, form_in}
 use Rattle.mi_records.specs.Stops.{TellsBy}
-use Rattle.mi_environment.specs.Forms.{form_told}
+use Rattle.mi_variables.specs.Forms.{form_told}
 use Rattle.mi_row_steps.proofs.RowLemmas.{told_on}
 use Rattle.mi_environment.proofs.ValueLemmas.{value_is, value_none}
 use Rattle.mi_environment.proofs.value.some_text.Goals as goal

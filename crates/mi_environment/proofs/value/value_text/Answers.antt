@@ -5,7 +5,7 @@ use Rattle.mi_base.specs.declared.answers.Fault.{Fault}
 use Rattle.mi_model.specs.EnvironmentRows.{Form, is_bad_name}
 use Rattle.mi_records.specs.Meaning.{numbered}
 use Rattle.mi_records.specs.Stops.{TellsBy}
-use Rattle.mi_environment.specs.Forms.{form_told}
+use Rattle.mi_variables.specs.Forms.{form_told}
 use Rattle.mi_environment.proofs.ValueLemmas.{ok_so, named_badly, named_well}
 use Rattle.mi_environment.proofs.value.value_text.Goals as goal
 

@@ -4,8 +4,8 @@ use Rattle.std.specs.FinMap.{get}
 use Rattle.std.proofs.lemmas.Result.{IfOk-weaker}
 use Rattle.mi_image.specs.Items.{machine_over}
 use Rattle.mi_model.specs.WriteEnvironmentStrings.{old_text}
-use Rattle.mi_environment.specs.Forms.{meant}
-use Rattle.mi_environment.specs.Variables.{written_text}
+use Rattle.mi_variables.specs.Forms.{meant}
+use Rattle.mi_variables.specs.Written.{written_text}
 use Rattle.mi_environment.proofs.write.text_over.Goals as goal
 
 pub returns : goal.returns

@@ -5,8 +5,8 @@ use Rattle.mi_image.specs.Items.{Items, machine_over}
 use Rattle.mi_model.specs.EnvironmentRows.{named_variable}
 use Rattle.mi_model.specs.WriteEnvironmentStrings.{old_text}
 use Rattle.mi_steps.specs.Makes.{plan_machine}
-use Rattle.mi_environment.specs.Forms.{meant}
-use Rattle.mi_environment.specs.Variables.{written_text}
+use Rattle.mi_variables.specs.Forms.{meant}
+use Rattle.mi_variables.specs.Written.{written_text}
 use Rattle.mi_environment.proofs.WriteLemmas.{wrote, wrote_nothing}
 use Rattle.mi_environment.proofs.write.write_form.Goals as goal
 

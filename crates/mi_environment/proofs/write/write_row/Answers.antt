@@ -7,7 +7,7 @@ use Rattle.mi_records.specs.Meaning.{numbered}
 use Rattle.mi_records.specs.Rows as made
 use Rattle.mi_records.proofs.ClientLemmas.{row_same}
 use Rattle.mi_row_steps.proofs.RowLemmas.{row_untold}
-use Rattle.mi_environment.specs.Forms.{form_told, meant}
+use Rattle.mi_variables.specs.Forms.{form_told, meant}
 use Rattle.mi_environment.specs.Variables.{write_effect}
 use Rattle.mi_environment.proofs.WriteLemmas.{row_writes, row_writes_nothing}
 use Rattle.mi_environment.proofs.write.write_row.Goals as goal

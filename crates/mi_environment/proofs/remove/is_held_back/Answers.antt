@@ -1,9 +1,0 @@
--- Written out, so that an edit that turns it is refused at once (docs/GATE.md).
-use Rattle.std.proofs.Common.{rules}
-use Rattle.mi_environment.proofs.remove.is_held_back.Goals as goal
-
-pub returns-then-leaving : goal.returns-then-leaving
-returns-then-leaving c = search rules
-
-pub returns-else-leaving : goal.returns-else-leaving
-returns-else-leaving c = search rules

@@ -1,0 +1,6 @@
+-- Written out, so that an edit that turns it is refused at once (docs/GATE.md).
+use Rattle.std.proofs.Common.{rules}
+use Rattle.mi_variables.proofs.stays.has_another_value.Goals as goal
+
+pub returns : goal.returns
+returns c = search rules
