@@ -18,14 +18,14 @@ use Rattle.mi_image.specs.Items.{bytes_of_file}
 use Rattle.mi_print.specs.Texts.{field}
 use Rattle.mi_print.specs.Lines.{details, file_line}
 use Rattle.mi_print.specs.Entries.{other_line}
-use Rattle.mi_show.specs.Prints.{names_of}
-use Rattle.mi_show.specs.Differences.{name_set, names_of_either, entry_line, line_at, change, difference, differences, titled, kinds, kind_text, different}
+use Rattle.mi_print_looks.specs.Sets.{names_of, name_set}
+use Rattle.mi_show.specs.Differences.{names_of_either, entry_line, line_at, change, difference, differences, titled, kinds, kind_text, different}
 use Rattle.mi_print.specs.Laws.{letter, IsFile, IsSmallFile}
 use Rattle.mi_show.specs.Laws.{SameDiffersNowhere, IsShown, ToldByHash, NothingDiffersInOne}
 use Rattle.mi_print.proofs.CodeLemmas.{field_tab, heads}
 use Rattle.mi_print.proofs.LineLemmas.{details_apart, details_spread}
 use Rattle.mi_print.proofs.LawLemmas.{lines_exact, head_is}
-use Rattle.mi_show.proofs.DiffLemmas.{member}
+use Rattle.mi_print_looks.proofs.SetLemmas.{member}
 
 -- ---- nothing
 

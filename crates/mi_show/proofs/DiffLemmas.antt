@@ -1,19 +1,11 @@
 -- Names of two machines, and the lines of what stands there.
-use Rattle.std.proofs.Common.{◌≡◌, ℕ, ◌+◌, ◌<◌, ◌≤◌, true, false, cond, List, [], ◌∷◌, ◌++◌, map, take, drop, length, get_or, Option, Some, None, Bor, refl, sym, ap, ◌∙◌, append_assoc, append-nil, Result, Ok, Err}
+use Rattle.std.proofs.Common.{◌≡◌, ℕ, ◌+◌, ◌<◌, ◌≤◌, true, false, List, ◌++◌, drop, length, get_or, Option, Some, None, refl, sym, ap, ◌∙◌, append_assoc, append-nil, Result, Ok, Err}
 use Rattle.std.specs.Prelude.{option_map, IsOkAnd, filter, nat_eq}
 use Rattle.std.specs.List.{flat_map, starts_with}
-use Rattle.std.specs.FinMap.{get, keys, insert, find, get-insert, get-from_entries}
-use Rattle.std.proofs.lemmas.List.{map-append, take_more, take_all, drop_all}
-use Rattle.std.specs.Prelude.{String, string_bytes}
-use Rattle.std.specs.declared.alloc.Global.{Global}
-use Rattle.std.specs.Ordering.{nat_cmp}
-use Rattle.std.specs.Cmp.Lexicographic.{slice_cmp}
-use Rattle.std.specs.BTreeMap.{BTreeMap}
-use Rattle.std.specs.BTreeMap as tree
+use Rattle.std.specs.FinMap.{get, keys}
+use Rattle.std.proofs.lemmas.List.{drop_all}
 use Rattle.md5.specs.Md5.{md5}
-use Rattle.mi_text.specs.Maps.{Name, Map, name_cmp, same_name}
-use Rattle.mi_text.proofs.MapLemmas.{same, names_total}
-use Rattle.mi_text.proofs.TreeLemmas.{entries-map_as}
+use Rattle.mi_text.specs.Maps.{Name, Map}
 use Rattle.mi_base.specs.declared.entry.FileHead.{FileHead}
 use Rattle.mi_base.specs.declared.entry.Entry.{Entry}
 use Rattle.mi_base.specs.declared.entry.Entry.TheVariants as entry
@@ -28,52 +20,14 @@ use Rattle.mi_image.specs.Items.{Items, AreRight, content_bytes, entry_over, byt
 use Rattle.mi_image.proofs.LookupLemmas.{get_over}
 use Rattle.mi_print.specs.Texts.{field}
 use Rattle.mi_print.specs.Lines.{head_details, file_line}
-use Rattle.mi_show.specs.Machines.{no_files, machine_in, plain_machine, IsScanned}
+use Rattle.mi_print_looks.specs.Machines.{no_files, machine_in, plain_machine}
+use Rattle.mi_show.specs.Machines.{IsScanned}
 use Rattle.mi_print.specs.Entries.{other_line}
-use Rattle.mi_show.specs.Prints.{names_of}
-use Rattle.mi_show.specs.Differences.{name_set, names_of_either, entry_line, line_at, item_line, different}
-use Rattle.mi_show.specs.Sets.{set_of}
+use Rattle.mi_print_looks.specs.Sets.{names_of, name_set}
+use Rattle.mi_show.specs.Differences.{names_of_either, entry_line, line_at, item_line, different}
 use Rattle.mi_show.proofs.ImageLemmas.{plain_keys, drop_more}
 
--- ---- sets of names
-
-abbrev pub member : Name → Name × Unit {0}
-member q = (q, tt)
-
-there : Option (Unit {0})
-there = Some tt
-
-found_more : (names : List Name) (q p : Name) → find name_cmp p (map member (names ++ q ∷ [])) ≡ cond (same_name p q) (Some tt) (find name_cmp p (map member names))
-unfolding there
-found_more [] q p = refl
-found_more (n ∷ names) q p =
-    elim (same_name p n) as (λ b. cond b there (find name_cmp p (map member (names ++ q ∷ []))) ≡ cond (same_name p q) there (cond b there (find name_cmp p (map member names)))) [
-      | true ↦ elim (same_name p q) as (λ c. there ≡ cond c there there) [ true ↦ refl | false ↦ refl ]
-      | false ↦ found_more names q p
-    ]
-
-set_more : (names : List Name) (q : Name) → insert (name_set names) q tt ≡ name_set (names ++ q ∷ [])
-set_more names q = same (insert (name_set names) q tt) (name_set (names ++ q ∷ [])) (λ p.
-    get-insert names_total (name_set names) q tt p
-    ∙ ap (cond (same_name p q) (Some tt)) (get-from_entries names_total (map member names) p)
-    ∙ sym (get-from_entries names_total (map member (names ++ q ∷ [])) p ∙ found_more names q p))
-
-abbrev pub now_of : Bor (List ℕ) → List ℕ
-now_of n = n.now
-
-pub set_none : (had : List Name) (s : Map (Unit {0})) → s ≡ name_set had → s ≡ name_set (had ++ [])
-set_none had s is = is ∙ ap name_set (sym (append-nil had))
-
-pub set_step : (had : List Name) (names : List (Bor (List ℕ))) (i : ℕ) (d : Bor (List ℕ)) (s new : Map (Unit {0})) → i < length names
-    → s ≡ name_set (had ++ map now_of (take i names)) → new ≡ insert s (get_or names i d).now tt → new ≡ name_set (had ++ map now_of (take (i + 1) names))
-set_step had names i d s new lt so adds =
-    adds
-    ∙ ap (λ (m : Map (Unit {0})). insert m (get_or names i d).now tt) so
-    ∙ set_more (had ++ map now_of (take i names)) (get_or names i d).now
-    ∙ ap name_set (append_assoc had (map now_of (take i names)) ((get_or names i d).now ∷ []) ∙ ap (λ (l : List Name). had ++ l) (sym (ap (map now_of) (take_more names i d lt) ∙ map-append now_of (take i names) (get_or names i d ∷ []))))
-
-pub set_done : (had : List Name) (names : List (Bor (List ℕ))) (i : ℕ) (s : Map (Unit {0})) → length names ≤ i → s ≡ name_set (had ++ map now_of (take i names)) → s ≡ name_set (had ++ map now_of names)
-set_done had names i s le so = so ∙ ap (λ (l : List (Bor (List ℕ))). name_set (had ++ map now_of l)) (take_all i names le)
+-- ---- names
 
 names_same : (held : Map (List ℕ)) (items : Items) (front : Name) → names_of front (plain_machine items) ≡ names_of front (machine_in held items)
 names_same held items front = ap (λ (qs : List Name). filter (λ q. starts_with nat_eq q front) qs) (plain_keys held items)
@@ -154,25 +108,3 @@ pub pair_step : {X : Type 0} → (at : Map (List ℕ) → Map (List ℕ) → X �
     → out ++ flat_map (at held_old held_new) (drop i xs) ≡ start → more ++ flat_map (at held_old held_new) (drop (i + 1) xs) ≡ start
 pair_step {X} at held_old now_old held_new now_new xs i d out more start same_old same_new lt text so =
     flat_step (at held_old held_new) xs i d out more start lt (text ∙ (λ j. out ++ at (same_old j) (same_new j) (get_or xs i d))) so
-
--- ---- the tree of a set
-
-firsts : (es : List (String Global × Unit {0})) → map (λ (e : Name × Unit {0}). e.0) (map (λ (e : String Global × Unit {0}). (string_bytes e.0, e.1)) es) ≡ map (λ (e : String Global × Unit {0}). string_bytes e.0) es
-firsts [] = refl
-firsts (e ∷ es) = ap (λ (l : List Name). string_bytes e.0 ∷ l) (firsts es)
-
--- the names of a tree, in order
-pub tree_names : (m : BTreeMap (String Global) (Unit {0})) (s : Map (Unit {0})) → set_of m.entries ≡ s → tree.IsOrdered (λ a b. slice_cmp nat_cmp (string_bytes a) (string_bytes b)) m → map (λ (e : String Global × Unit {0}). string_bytes e.0) m.entries ≡ keys s
-tree_names m s is ordered = sym (ap (map (λ (e : Name × Unit {0}). e.0)) (entries-map_as (λ (k : String Global). string_bytes k) m ordered) ∙ firsts m.entries) ∙ ap (λ (t : Map (Unit {0})). keys t) is
-
-pub list_more : (list more : List (Bor (List ℕ))) (iter rest : List (String Global × Unit {0})) (k : String Global) (x : Unit {0}) (n : Bor (List ℕ)) (all : List Name)
-    → iter ≡ (k, x) ∷ rest → n.now ≡ string_bytes k → more ≡ list ++ n ∷ []
-    → map now_of list ++ map (λ (e : String Global × Unit {0}). string_bytes e.0) iter ≡ all → map now_of more ++ map (λ (e : String Global × Unit {0}). string_bytes e.0) rest ≡ all
-list_more list more iter rest k x n all is named adds so =
-    let seen : String Global × Unit {0} → Name = λ e. string_bytes e.0 in
-    ap (λ (l : List (Bor (List ℕ))). map now_of l ++ map seen rest) adds
-    ∙ ap (λ (l : List Name). l ++ map seen rest) (map-append now_of list (n ∷ []))
-    ∙ append_assoc (map now_of list) (n.now ∷ []) (map seen rest)
-    ∙ ap (λ (v : Name). map now_of list ++ v ∷ map seen rest) named
-    ∙ sym (ap (λ (es : List (String Global × Unit {0})). map now_of list ++ map seen es) is)
-    ∙ so

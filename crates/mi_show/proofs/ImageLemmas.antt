@@ -1,8 +1,7 @@
 -- What an image that was scanned has at a name.
-use Rattle.std.proofs.Common.{◌≡◌, ℕ, zero, suc, ◌<◌, ◌≤◌, Bool, true, false, not, ◌&&◌, cond, eqb, eqb-true, List, [], ◌∷◌, ◌++◌, map, take, drop, length, Option, Some, None, Bor, refl, sym, ap, ◌∙◌, arith, codes, append_assoc, get_or, ◌+◌, Result, Ok, Err}
-use Rattle.std.specs.Prelude.{option_map, IsOkAnd, filter, nat_eq, is_some, is_none}
+use Rattle.std.proofs.Common.{◌≡◌, ℕ, zero, suc, ◌<◌, ◌≤◌, true, false, cond, List, [], ◌∷◌, ◌++◌, map, take, drop, length, Option, Some, None, Bor, refl, sym, ap, ◌∙◌, arith, codes, append_assoc, get_or, ◌+◌, Result, Ok, Err}
+use Rattle.std.specs.Prelude.{option_map, IsOkAnd, filter, nat_eq, is_none}
 use Rattle.std.specs.List.{filter_map, flat_map, starts_with, cons_option}
-use Rattle.std.specs.Str.{bytes_eq}
 use Rattle.std.specs.FinMap.{get, keys, entries-from_sorted, get-from_sorted}
 use Rattle.md5.specs.Md5.{md5}
 use Rattle.std.proofs.lemmas.List.{append-nil}
@@ -25,13 +24,15 @@ use Rattle.mi_image.specs.Fronts.{value_front}
 use Rattle.mi_image.specs.Items.{Items, AreRight, content_bytes, entry_over, bytes_of_file, machine_over, ImageOf}
 use Rattle.mi_image.specs.Lookups.{whole_of, head_in}
 use Rattle.mi_image.proofs.LookupLemmas.{over_whole, get_over}
-use Rattle.mi_undo.specs.Stands.{is_one}
 use Rattle.mi_print.specs.Lines.{details, head_details}
 use Rattle.mi_print.specs.Registry.{key_line, stray}
 use Rattle.mi_print.specs.Trees.{path_lines, tree}
-use Rattle.mi_show.specs.Machines.{no_files, machine_in, plain_machine, IsScanned, head_lines, heads_tree, heads_of, lines_after, path_after}
+use Rattle.mi_print_looks.specs.Machines.{no_files, machine_in, plain_machine}
+use Rattle.mi_show.specs.Machines.{IsScanned, head_lines, heads_tree, heads_of, lines_after, path_after}
 use Rattle.mi_print.specs.Entries.{other_line}
-use Rattle.mi_show.specs.Prints.{other_at, names_of, lines, exported_at, values_of, key_with_values, stray_at, registry, section, others, shown}
+use Rattle.mi_print_looks.specs.Sets.{names_of}
+use Rattle.mi_print_looks.specs.Strays.{stray_at}
+use Rattle.mi_show.specs.Prints.{other_at, lines, exported_at, values_of, key_with_values, registry, section, others, shown}
 
 -- ---- a source without files
 
@@ -271,31 +272,9 @@ module _ (held : Map (List ℕ)) (items : Items) where
 pub three : (o a b c : List ℕ) → o ++ a ++ b ++ c ≡ o ++ (a ++ b ++ c)
 three o a b c = ap (λ (l : List ℕ). l ++ c) (append_assoc o a b) ∙ append_assoc o (a ++ b) c
 
--- nothing is there where something isn't
-pub none_by : {X : Type 0} → (o : Option X) (b : Bool) → is_some o ≡ b → is_none o ≡ not b
-none_by None b e = ap not e
-none_by (Some x) b e = ap not e
-
 pub shown_of : (held : Map (List ℕ)) (items : Items) (text : List ℕ) → IsOkAnd (machine_of held) (ImageOf held no_files items) → (IsScanned held items → text ≡ shown (machine_in held items)) → IsOkAnd (machine_of held) (λ m. text ≡ shown m)
 shown_of held items text is say = by_result (machine_of held) is
   where
     by_result : (r : Result Machine Name) → IsOkAnd r (ImageOf held no_files items) → IsOkAnd r (λ m. text ≡ shown m)
     by_result (Ok m) of = say of.there ∙ ap shown of.stands
     by_result (Err n) of = absurd of
-
--- ---- a marker
-
-more_than_one : (n : ℕ) → eqb (suc (suc n)) 1 ≡ false
-more_than_one n = elim (eqb (suc (suc n)) 1) as (λ b. eqb (suc (suc n)) 1 ≡ b → b ≡ false) [
-  | true ↦ λ e. absurd (let z : ⊥ = omega (arith, eqb-true (suc (suc n)) 1 e) in z)
-  | false ↦ λ e. refl
-] refl
-
--- the first two bytes are the byte 1 alone where all are
-pub one_by : (o : Option (List ℕ)) → bytes_eq (take 2 (bytes_or_none o)) (1 ∷ []) ≡ is_one o
-one_by None = refl
-one_by (Some []) = refl
-one_by (Some (zero ∷ bytes)) = refl
-one_by (Some (suc zero ∷ [])) = refl
-one_by (Some (suc zero ∷ b ∷ bytes)) = refl
-one_by (Some (suc (suc n) ∷ bytes)) = ap (λ (t : Bool). t && bytes_eq (take 1 bytes) []) (more_than_one n)

@@ -13,7 +13,9 @@ use Rattle.mi_base.specs.declared.entry.Entry.TheVariants as entry
 use Rattle.mi_base.specs.Machine.{Machine, key_at}
 use Rattle.mi_image.specs.Fronts.{value_front}
 use Rattle.mi_print.specs.Registry.{key_line, exported, stray}
-use Rattle.mi_show.specs.Prints.{names_of, exported_at, values_of, key_with_values, stray_at, registry}
+use Rattle.mi_print_looks.specs.Sets.{names_of}
+use Rattle.mi_print_looks.specs.Strays.{stray_at}
+use Rattle.mi_show.specs.Prints.{exported_at, values_of, key_with_values, registry}
 use Rattle.mi_print.proofs.CodeLemmas.{AreApart, all_apart}
 use Rattle.mi_print.proofs.LineLemmas.{spread, tails}
 use Rattle.mi_print.proofs.RegistryLemmas.{differ, Fits32, key_line_apart, Named, NamedFits, exported_named, exported_apart, exported_never}

@@ -1,10 +1,10 @@
 -- What differs between two machines (this project's own): kind by kind, by the line of what stands at each name of either.
-use Rattle.std.specs.Prelude.{ℕ, if◌then◌else◌, List, [], ◌∷◌, ◌++◌, map, codes, Option, Some, None, option_map}
+use Rattle.std.specs.Prelude.{ℕ, if◌then◌else◌, List, [], ◌∷◌, ◌++◌, codes, Option, Some, None, option_map}
 use Rattle.std.specs.Str.{bytes_eq}
 use Rattle.std.specs.List.{flat_map}
-use Rattle.std.specs.FinMap.{get, keys, from_entries}
+use Rattle.std.specs.FinMap.{get, keys}
 use Rattle.md5.specs.Md5.{md5}
-use Rattle.mi_text.specs.Maps.{Name, Map}
+use Rattle.mi_text.specs.Maps.{Name}
 use Rattle.mi_base.specs.declared.entry.Entry.{Entry}
 use Rattle.mi_base.specs.declared.entry.Entry.TheVariants as entry
 use Rattle.mi_base.specs.Names.{file_name}
@@ -15,13 +15,10 @@ use Rattle.mi_image.specs.Items.{bytes_of_file}
 use Rattle.mi_print.specs.Texts.{field}
 use Rattle.mi_print.specs.Lines.{head_details, file_line}
 use Rattle.mi_print.specs.Entries.{other_line}
-use Rattle.mi_show.specs.Prints.{names_of, section}
+use Rattle.mi_print_looks.specs.Sets.{names_of, name_set}
+use Rattle.mi_show.specs.Prints.{section}
 
 -- ---- names
-
--- these names as a set
-abbrev pub name_set : List Name → Map (Unit {0})
-name_set names = from_entries (map (λ q. (q, tt)) names)
 
 -- the names of either machine that begin so, each once, in byte order
 abbrev pub names_of_either : Name → Machine → Machine → List Name

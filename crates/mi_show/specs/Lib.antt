@@ -2,5 +2,4 @@ pub mod Prints
 pub mod Machines
 pub mod Differences
 pub mod Laws
-pub mod Sets
 pub mod Faults

@@ -1,32 +1,21 @@
 -- The machine of an image that was scanned (this project's own).
 use Rattle.std.specs.Prelude.{ℕ, List, [], ◌∷◌, ◌++◌, Option, Some, None}
 use Rattle.std.specs.List.{filter_map}
-use Rattle.std.specs.FinMap.{get, from_sorted}
+use Rattle.std.specs.FinMap.{get}
 use Rattle.md5.specs.Md5.{md5}
 use Rattle.mi_text.specs.Maps.{Name, Map}
 use Rattle.mi_base.specs.declared.entry.FileHead.{FileHead}
 use Rattle.mi_base.specs.Names.{file_name}
 use Rattle.mi_base.specs.Machine.{Machine}
-use Rattle.mi_image.specs.Items.{Items, machine_over, AreThere, bytes_of_file}
+use Rattle.mi_image.specs.Items.{Items, AreThere, bytes_of_file}
 use Rattle.mi_image.specs.Lookups.{head_in}
 use Rattle.mi_print.specs.Lines.{head_details}
 use Rattle.mi_print.specs.Trees.{path_lines}
+use Rattle.mi_print_looks.specs.Machines.{no_files}
 
--- no file of a source
-abbrev pub no_files : Map (List ℕ)
-no_files = from_sorted []
-
--- the machine that an image stands for over the map that was scanned
-abbrev pub machine_in : Map (List ℕ) → Items → Machine
-machine_in held items = machine_over held no_files items
-
--- the bytes of its files are there
+-- the bytes of the files of an image are there over the map that was scanned
 abbrev pub IsScanned : Map (List ℕ) → Items → Type 0
 IsScanned held items = AreThere held no_files items
-
--- the same but for the bytes of files
-abbrev pub plain_machine : Items → Machine
-plain_machine items = machine_in no_files items
 
 -- ---- files by their heads
 

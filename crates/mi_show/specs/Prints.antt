@@ -1,21 +1,19 @@
 -- The print of a machine (this project's own): products, files, folders, the registry, shortcuts, environment, clients, properties of the system.
-use Rattle.std.specs.Prelude.{ℕ, if◌then◌else◌, List, [], ◌∷◌, ◌++◌, length, filter, nat_eq, codes, Option, Some, None, is_none}
-use Rattle.std.specs.List.{flat_map, filter_map, starts_with}
-use Rattle.std.specs.FinMap.{get, keys}
+use Rattle.std.specs.Prelude.{ℕ, List, [], ◌∷◌, ◌++◌, length, codes, Option, Some, None}
+use Rattle.std.specs.List.{flat_map, filter_map}
+use Rattle.std.specs.FinMap.{get}
 use Rattle.mi_text.specs.Fold.{folded}
 use Rattle.mi_text.specs.Maps.{Name}
 use Rattle.mi_base.specs.declared.entry.FileEntry.{FileEntry}
 use Rattle.mi_base.specs.declared.entry.Entry.{Entry}
 use Rattle.mi_base.specs.declared.entry.Entry.TheVariants as entry
-use Rattle.mi_base.specs.Machine.{Machine, key_at, as_file}
+use Rattle.mi_base.specs.Machine.{Machine, as_file}
 use Rattle.mi_image.specs.Fronts.{value_front}
-use Rattle.mi_print.specs.Registry.{key_line, exported, stray}
+use Rattle.mi_print.specs.Registry.{key_line, exported}
 use Rattle.mi_print.specs.Trees.{tree}
 use Rattle.mi_print.specs.Entries.{other_line}
-
--- the names that begin so, in byte order
-abbrev pub names_of : Name → Machine → List Name
-names_of front m = filter (λ q. starts_with nat_eq q front) (keys m)
+use Rattle.mi_print_looks.specs.Sets.{names_of}
+use Rattle.mi_print_looks.specs.Strays.{stray_at}
 
 -- the line of what stands at a name, where that isn't a file
 abbrev pub other_at : Option Entry → List ℕ
@@ -44,11 +42,6 @@ values_of root key m = names_of (value_front root (length (folded key)) (folded 
 abbrev pub key_with_values : Machine → Option Entry → List ℕ
 key_with_values m (Some (entry.Key root shown)) = key_line root shown ++ flat_map (λ q. exported_at (get m q)) (values_of root shown m) ++ 10 ∷ []
 key_with_values m other = []
-
--- a value whose key isn't recorded
-abbrev pub stray_at : Machine → Option Entry → List ℕ
-stray_at m (Some (entry.Value k v)) = if is_none (key_at m k.root k.key) then stray k.root k.key k.shown v else []
-stray_at m other = []
 
 unfoldable pub registry : Machine → List ℕ
 registry m =

@@ -6,16 +6,17 @@ ghost use Rattle.mi_volume.specs.State.{Passes, Rose};
 ghost use Rattle.mi_base.specs.Machine.{machine_of};
 ghost use Rattle.mi_image.specs.Looks.{OnlyLooks};
 ghost use Rattle.mi_image.specs.Items.{ImageOf};
-ghost use Rattle.mi_show.specs.Machines.{no_files, machine_in, IsScanned};
+ghost use Rattle.mi_print_looks.specs.Machines.{no_files, machine_in};
+ghost use Rattle.mi_show.specs.Machines.{IsScanned};
 ghost use Rattle.mi_show.specs.Differences.{line_at, change, difference, differences, titled, different};
 
 use crate::fault::{DiffError, SideFault};
 use crate::lines_of::line_at;
-use crate::name_set::NameSet;
 use mi_base::{Bytes, NoMemory};
 use mi_hashes::HashError;
 use mi_image::{Image, ImageError};
 use mi_print::push_word;
+use mi_print_looks::NameSet;
 use mi_volume::Volume;
 use std::alloc::Global;
 

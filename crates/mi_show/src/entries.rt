@@ -6,7 +6,7 @@ ghost use Rattle.std.specs.List.{flat_map};
 ghost use Rattle.std.specs.FinMap.{get};
 ghost use Rattle.mi_image.specs.Items.{AreRight};
 ghost use Rattle.mi_image.specs.Lookups.{whole_of};
-ghost use Rattle.mi_show.specs.Machines.{plain_machine};
+ghost use Rattle.mi_print_looks.specs.Machines.{plain_machine};
 ghost use Rattle.mi_show.specs.Prints.{other_at, lines, section};
 
 use mi_base::{Entry, NoMemory};

@@ -14,7 +14,8 @@ ghost use Rattle.mi_image.specs.Looks.{OnlyLooks};
 ghost use Rattle.mi_print.specs.Lines.{head_details};
 ghost use Rattle.mi_print.specs.Trees.{tree};
 ghost use Rattle.mi_show.specs.Prints.{files_in};
-ghost use Rattle.mi_show.specs.Machines.{no_files, machine_in, IsScanned, head_lines, lines_after, path_after, heads_tree, heads_of};
+ghost use Rattle.mi_print_looks.specs.Machines.{no_files, machine_in};
+ghost use Rattle.mi_show.specs.Machines.{IsScanned, head_lines, lines_after, path_after, heads_tree, heads_of};
 
 use crate::entries::keeps_right;
 use mi_base::{Bytes, FileHead, PathText, Text};

@@ -7,13 +7,16 @@ ghost use Rattle.std.specs.FinMap.{get};
 ghost use Rattle.mi_text.specs.Fold.{folded};
 ghost use Rattle.mi_image.specs.Fronts.{value_front};
 ghost use Rattle.mi_base.specs.Names.{four_digits};
-ghost use Rattle.mi_show.specs.Machines.{plain_machine};
-ghost use Rattle.mi_show.specs.Prints.{names_of, exported_at, values_of, key_with_values, stray_at, registry};
+ghost use Rattle.mi_print_looks.specs.Machines.{plain_machine};
+ghost use Rattle.mi_print_looks.specs.Sets.{names_of};
+ghost use Rattle.mi_print_looks.specs.Strays.{stray_at};
+ghost use Rattle.mi_show.specs.Prints.{exported_at, values_of, key_with_values, registry};
 
 use crate::entries::entry_at;
-use mi_base::{Entry, NoMemory, RegValue, ValueKey, fold};
+use mi_base::{Entry, NoMemory, fold};
 use mi_image::Image;
-use mi_print::{push_exported, push_key_line, push_stray, push_word};
+use mi_print::{push_exported, push_key_line, push_word};
+use mi_print_looks::push_if_stray;
 use std::alloc::Global;
 
 // Adds the last four decimal digits of a number.
@@ -157,29 +160,6 @@ fn push_key_at(alloc: Global, out: &mut Vec<u8>, image: &Image, name: &str) -> R
 {
     push_key_entry(alloc, out, image, entry_at(image, name))?;
     Ok(())
-}
-
-// Adds a value whose key isn't recorded.
-fn push_if_stray(
-    alloc: Global,
-    out: &mut Vec<u8>,
-    image: &Image,
-    key: &ValueKey,
-    value: &RegValue,
-) -> Result<(), NoMemory>
-    ensures { OnOk result (out.new.items ≡ out.old.items ++ stray_at (plain_machine image.now) (Some (Entry.Value key.now value.now))) }
-{
-    if image.key(key.root, key.key.as_str()) {
-        return Ok(());
-    }
-    push_stray(
-        alloc,
-        out,
-        key.root,
-        key.key.as_str(),
-        key.shown.as_str(),
-        value,
-    )
 }
 
 // Adds an entry that is a value, where its key isn't recorded.

@@ -8,11 +8,11 @@ mod files;
 mod kinds;
 mod laws;
 mod lines_of;
-mod name_set;
 mod whole;
 
 pub use differences::diff;
 pub use fault::{DiffError, ShowError};
 pub use laws::{nothing_differs_in_one, prints_are_exact};
 pub use mi_print::lines_are_exact;
-pub use whole::{is_waiting, show};
+pub use mi_print_looks::is_waiting;
+pub use whole::show;

@@ -10,7 +10,8 @@ ghost use Rattle.mi_image.specs.Looks.{OnlyLooks};
 ghost use Rattle.mi_print.specs.Texts.{field};
 ghost use Rattle.mi_print.specs.Lines.{head_details};
 ghost use Rattle.mi_print.specs.Entries.{other_line};
-ghost use Rattle.mi_show.specs.Machines.{machine_in, IsScanned};
+ghost use Rattle.mi_print_looks.specs.Machines.{machine_in};
+ghost use Rattle.mi_show.specs.Machines.{IsScanned};
 ghost use Rattle.mi_show.specs.Differences.{item_line, line_at};
 
 use crate::files::push_details_of;

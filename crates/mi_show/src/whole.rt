@@ -1,50 +1,24 @@
 //! The print of a machine.
 
 ghost use Rattle.std.specs.Prelude.{◌≡◌, ◌++◌, ◌∷◌, [], List, ℕ, IfOk, OnOk, IsErrOf, IsOkAnd, Err, codes};
-ghost use Rattle.std.specs.FinMap.{get};
 ghost use Rattle.mi_volume.specs.State.{Passes, Rose};
 ghost use Rattle.mi_base.specs.Machine.{machine_of};
 ghost use Rattle.mi_image.specs.Looks.{OnlyLooks};
-ghost use Rattle.mi_undo.specs.Names.{marker};
-ghost use Rattle.mi_undo.specs.Stands.{is_one};
 ghost use Rattle.mi_print.specs.Trees.{tree};
-ghost use Rattle.mi_show.specs.Machines.{machine_in, plain_machine, IsScanned};
+ghost use Rattle.mi_print_looks.specs.Machines.{machine_in, plain_machine};
+ghost use Rattle.mi_show.specs.Machines.{IsScanned};
 ghost use Rattle.mi_show.specs.Prints.{lines, section, files_in, registry, shown, others};
 
 use crate::entries::push_section;
 use crate::fault::ShowError;
 use crate::files::push_files;
 use crate::kinds::push_registry;
-use mi_base::{Bytes, Name, NameError, NoMemory};
+use mi_base::{Bytes, NoMemory};
 use mi_hashes::HashError;
 use mi_image::Image;
 use mi_print::push_word;
-use mi_volume::{VolFault, Volume};
+use mi_volume::Volume;
 use std::alloc::Global;
-
-// The name of the marker of a rollback area.
-fn marker_of(alloc: Global) -> Result<Name, NoMemory>
-    ensures { IfOk result (λ name. name ≡ marker) }
-{
-    match Name::of(alloc, "j/m") {
-        Ok(name) => Ok(name),
-        Err(NameError::Length) => unreachable!(),
-        Err(NameError::NoMemory) => Err(NoMemory),
-    }
-}
-
-/// Whether a run was stopped on this volume, so that the next command puts back what it had changed: the marker of its
-/// rollback area is open. Nothing is changed (this project's own).
-pub fn is_waiting<V: Volume>(alloc: Global, vol: &mut V) -> Result<bool, VolFault>
-    ensures value { V.told → IfOk result (λ b. b ≡ is_one (get (V.state vol.old).held marker)) }
-    ensures looks { V.told → OnlyLooks (V.state vol.old) (V.state vol.new) }
-    ensures passes { Passes (V.state vol.old) (V.state vol.new) }
-    ensures fault { IsErrOf result VolFault.Failed → Rose (V.state vol.old) (V.state vol.new) }
-{
-    let name = marker_of(alloc)?;
-    let bytes = vol.read(alloc, &name, 0, 2)?;
-    Ok(bytes.as_slice() == [1].as_slice())
-}
 
 // Adds the files with their title.
 fn push_files_section<V: Volume>(

@@ -1,6 +1,7 @@
 use Rattle.std.proofs.Common.{◌≡◌, ℕ, List, sym, subst, ◌∙◌}
 use Rattle.mi_text.specs.Maps.{Map}
-use Rattle.mi_show.specs.Machines.{no_files, machine_in, IsScanned}
+use Rattle.mi_print_looks.specs.Machines.{no_files, machine_in}
+use Rattle.mi_show.specs.Machines.{IsScanned}
 use Rattle.mi_show.specs.Differences.{different}
 use Rattle.mi_show.proofs.DiffLemmas.{different_of}
 use Rattle.mi_show.proofs.differences.diff.Goals as goal

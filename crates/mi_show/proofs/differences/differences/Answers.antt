@@ -2,10 +2,11 @@ use Rattle.std.proofs.Common.{◌++◌, ℕ, List, Bor, map, ap, ◌∙◌}
 use Rattle.std.specs.List.{flat_map}
 use Rattle.std.specs.FinMap.{keys}
 use Rattle.mi_text.specs.Maps.{Map}
-use Rattle.mi_show.specs.Machines.{machine_in}
+use Rattle.mi_print_looks.specs.Machines.{machine_in}
 use Rattle.mi_show.specs.Differences.{difference, names_of_either}
 use Rattle.mi_show.proofs.ImageLemmas.{names_text}
-use Rattle.mi_show.proofs.DiffLemmas.{now_of, either_same}
+use Rattle.mi_print_looks.proofs.SetLemmas.{now_of}
+use Rattle.mi_show.proofs.DiffLemmas.{either_same}
 use Rattle.mi_show.proofs.differences.differences.Goals as goal
 
 pub returns-clause-text : goal.returns-clause-text

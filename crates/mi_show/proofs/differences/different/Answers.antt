@@ -1,5 +1,5 @@
 use Rattle.std.proofs.Common.{◌++◌, [], ℕ, List, ◌∙◌}
-use Rattle.mi_show.specs.Machines.{machine_in}
+use Rattle.mi_print_looks.specs.Machines.{machine_in}
 use Rattle.mi_show.specs.Differences.{differences, titled, different}
 use Rattle.mi_show.proofs.differences.different.Goals as goal
 

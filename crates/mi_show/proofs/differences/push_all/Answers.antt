@@ -2,7 +2,8 @@ use Rattle.std.proofs.Common.{◌≡◌, ℕ, List, Bor, sym, subst}
 use Rattle.mi_text.specs.Maps.{Map}
 use Rattle.mi_volume.proofs.Moments.{then_passes}
 use Rattle.mi_image.proofs.LookLemmas.{looks_then}
-use Rattle.mi_show.specs.Machines.{machine_in, IsScanned}
+use Rattle.mi_print_looks.specs.Machines.{machine_in}
+use Rattle.mi_show.specs.Machines.{IsScanned}
 use Rattle.mi_show.specs.Differences.{difference}
 use Rattle.mi_show.proofs.DiffLemmas.{pair_step, flat_done}
 use Rattle.mi_show.proofs.differences.push_all.Goals as goal

@@ -3,7 +3,8 @@ use Rattle.mi_text.specs.Maps.{Map}
 use Rattle.mi_volume.proofs.Moments.{then_passes}
 use Rattle.mi_image.proofs.LookLemmas.{looks_then}
 use Rattle.mi_show.specs.declared.differences.Kind.{Kind}
-use Rattle.mi_show.specs.Machines.{machine_in, IsScanned}
+use Rattle.mi_print_looks.specs.Machines.{machine_in}
+use Rattle.mi_show.specs.Machines.{IsScanned}
 use Rattle.mi_show.specs.Differences.{differences, titled}
 use Rattle.mi_show.proofs.DiffLemmas.{pair_step, flat_done}
 use Rattle.mi_show.proofs.differences.push_kinds.Goals as goal

@@ -2,7 +2,8 @@ use Rattle.std.proofs.Common.{◌≡◌, ◌++◌, drop}
 use Rattle.std.specs.List.{flat_map}
 use Rattle.mi_volume.specs.State.{Passes}
 use Rattle.mi_image.specs.Looks.{OnlyLooks}
-use Rattle.mi_show.specs.Machines.{machine_in, IsScanned}
+use Rattle.mi_print_looks.specs.Machines.{machine_in}
+use Rattle.mi_show.specs.Machines.{IsScanned}
 use Rattle.mi_show.specs.Differences.{differences, titled}
 use Rattle.mi_show.proofs.differences.push_kinds.Given as goal
 

@@ -1,5 +1,5 @@
 use Rattle.std.proofs.Common.{◌++◌, ℕ, List, ap, ◌∙◌}
-use Rattle.mi_show.specs.Machines.{no_files}
+use Rattle.mi_print_looks.specs.Machines.{no_files}
 use Rattle.mi_show.specs.Prints.{other_at}
 use Rattle.mi_show.proofs.ImageLemmas.{other_whole}
 use Rattle.mi_show.proofs.entries.push_at.Goals as goal

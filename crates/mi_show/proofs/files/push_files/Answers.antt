@@ -1,6 +1,7 @@
 use Rattle.std.proofs.Common.{◌++◌, [], ℕ, List, Bor, map, sym, ap, ◌∙◌}
 use Rattle.mi_text.specs.Maps.{Name}
-use Rattle.mi_show.specs.Machines.{no_files, machine_in, heads_tree, heads_of}
+use Rattle.mi_print_looks.specs.Machines.{no_files, machine_in}
+use Rattle.mi_show.specs.Machines.{heads_tree, heads_of}
 use Rattle.mi_show.specs.Prints.{files_in}
 use Rattle.mi_show.proofs.ImageLemmas.{files_are_heads}
 use Rattle.mi_show.proofs.files.push_files.Goals as goal

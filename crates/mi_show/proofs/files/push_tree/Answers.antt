@@ -3,7 +3,8 @@ use Rattle.std.specs.Option.{option_copied}
 use Rattle.mi_text.specs.Maps.{Map}
 use Rattle.mi_volume.proofs.Moments.{then_passes}
 use Rattle.mi_image.proofs.LookLemmas.{looks_then}
-use Rattle.mi_show.specs.Machines.{machine_in, IsScanned, lines_after}
+use Rattle.mi_print_looks.specs.Machines.{machine_in}
+use Rattle.mi_show.specs.Machines.{IsScanned, lines_after}
 use Rattle.mi_show.proofs.ImageLemmas.{tree_step, tree_done}
 use Rattle.mi_show.proofs.files.push_tree.Goals as goal
 

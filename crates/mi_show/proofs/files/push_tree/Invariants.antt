@@ -1,7 +1,8 @@
 use Rattle.std.proofs.Common.{◌≡◌, ◌++◌, [], ℕ, List, Bor, map, drop}
 use Rattle.mi_volume.specs.State.{Passes}
 use Rattle.mi_image.specs.Looks.{OnlyLooks}
-use Rattle.mi_show.specs.Machines.{machine_in, IsScanned, heads_tree, heads_of}
+use Rattle.mi_print_looks.specs.Machines.{machine_in}
+use Rattle.mi_show.specs.Machines.{IsScanned, heads_tree, heads_of}
 use Rattle.mi_show.proofs.files.push_tree.Given as goal
 
 abbrev pub invariant-loop-name : goal.invariant-loop-name

@@ -1,7 +1,7 @@
 use Rattle.std.proofs.Common.{◌≡◌, ◌++◌, ℕ, List, Bor, drop}
 use Rattle.std.specs.List.{flat_map}
 use Rattle.std.specs.FinMap.{get}
-use Rattle.mi_show.specs.Machines.{plain_machine}
+use Rattle.mi_print_looks.specs.Machines.{plain_machine}
 use Rattle.mi_show.specs.Prints.{exported_at}
 use Rattle.mi_show.proofs.kinds.push_exported_all.Given as goal
 

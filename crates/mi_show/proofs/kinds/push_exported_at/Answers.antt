@@ -1,5 +1,5 @@
 use Rattle.std.proofs.Common.{◌++◌, ℕ, List, refl, ap, ◌∙◌}
-use Rattle.mi_show.specs.Machines.{no_files}
+use Rattle.mi_print_looks.specs.Machines.{no_files}
 use Rattle.mi_show.specs.Prints.{exported_at}
 use Rattle.mi_show.proofs.ImageLemmas.{whole_at}
 use Rattle.mi_show.proofs.kinds.push_exported_at.Goals as goal

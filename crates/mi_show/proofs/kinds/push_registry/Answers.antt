@@ -2,8 +2,10 @@ use Rattle.std.proofs.Common.{◌++◌, ℕ, List, ap, ◌∙◌}
 use Rattle.std.specs.Prelude.{codes}
 use Rattle.std.specs.List.{flat_map}
 use Rattle.std.specs.FinMap.{get}
-use Rattle.mi_show.specs.Machines.{plain_machine}
-use Rattle.mi_show.specs.Prints.{names_of, key_with_values, stray_at, registry}
+use Rattle.mi_print_looks.specs.Machines.{plain_machine}
+use Rattle.mi_print_looks.specs.Sets.{names_of}
+use Rattle.mi_print_looks.specs.Strays.{stray_at}
+use Rattle.mi_show.specs.Prints.{key_with_values, registry}
 use Rattle.mi_show.proofs.ImageLemmas.{three}
 use Rattle.mi_show.proofs.kinds.push_registry.Goals as goal
 

@@ -1,6 +1,6 @@
 use Rattle.std.proofs.Common.{◌++◌, ℕ, List, refl, ap, ◌∙◌}
-use Rattle.mi_show.specs.Machines.{no_files, plain_machine}
-use Rattle.mi_show.specs.Prints.{stray_at}
+use Rattle.mi_print_looks.specs.Machines.{no_files, plain_machine}
+use Rattle.mi_print_looks.specs.Strays.{stray_at}
 use Rattle.mi_show.proofs.ImageLemmas.{whole_at}
 use Rattle.mi_show.proofs.kinds.push_stray_at.Goals as goal
 

@@ -1,7 +1,7 @@
 use Rattle.std.proofs.Common.{◌++◌, ℕ, List, Bor, map, ap, ◌∙◌}
 use Rattle.std.specs.FinMap.{get}
-use Rattle.mi_show.specs.Machines.{no_files, plain_machine}
-use Rattle.mi_show.specs.Prints.{stray_at}
+use Rattle.mi_print_looks.specs.Machines.{no_files, plain_machine}
+use Rattle.mi_print_looks.specs.Strays.{stray_at}
 use Rattle.mi_show.proofs.ImageLemmas.{names_text}
 use Rattle.mi_show.proofs.kinds.push_strays.Goals as goal
 

@@ -1,8 +1,8 @@
 use Rattle.std.proofs.Common.{◌≡◌, ◌++◌, ℕ, List, Bor, drop}
 use Rattle.std.specs.List.{flat_map}
 use Rattle.std.specs.FinMap.{get}
-use Rattle.mi_show.specs.Machines.{plain_machine}
-use Rattle.mi_show.specs.Prints.{stray_at}
+use Rattle.mi_print_looks.specs.Machines.{plain_machine}
+use Rattle.mi_print_looks.specs.Strays.{stray_at}
 use Rattle.mi_show.proofs.kinds.push_strays_all.Given as goal
 
 abbrev pub invariant-loop-name : goal.invariant-loop-name

@@ -2,8 +2,9 @@ use Rattle.std.proofs.Common.{◌++◌, ap, ◌∙◌}
 use Rattle.std.specs.List.{flat_map}
 use Rattle.std.specs.FinMap.{get}
 use Rattle.mi_text.specs.Maps.{Name}
-use Rattle.mi_show.specs.Machines.{plain_machine}
-use Rattle.mi_show.specs.Prints.{exported_at, names_of}
+use Rattle.mi_print_looks.specs.Machines.{plain_machine}
+use Rattle.mi_print_looks.specs.Sets.{names_of}
+use Rattle.mi_show.specs.Prints.{exported_at}
 use Rattle.mi_show.proofs.kinds.push_values.Goals as goal
 
 pub returns : goal.returns

@@ -1,6 +1,6 @@
 use Rattle.std.proofs.Common.{◌++◌, [], ℕ, List, ap, ◌∙◌}
 use Rattle.std.specs.Prelude.{codes}
-use Rattle.mi_show.specs.Machines.{machine_in, plain_machine}
+use Rattle.mi_print_looks.specs.Machines.{machine_in, plain_machine}
 use Rattle.mi_print.specs.Trees.{tree}
 use Rattle.mi_show.specs.Prints.{lines, files_in, section, others, shown}
 use Rattle.mi_show.proofs.ImageLemmas.{three, lines_same, others_same}

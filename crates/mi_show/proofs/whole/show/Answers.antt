@@ -1,6 +1,7 @@
 use Rattle.std.proofs.Common.{◌≡◌, ◌++◌, ℕ, List, sym, ap, subst, ◌∙◌}
 use Rattle.mi_text.specs.Maps.{Map}
-use Rattle.mi_show.specs.Machines.{no_files, machine_in, IsScanned}
+use Rattle.mi_print_looks.specs.Machines.{no_files, machine_in}
+use Rattle.mi_show.specs.Machines.{IsScanned}
 use Rattle.mi_show.specs.Prints.{shown}
 use Rattle.mi_show.proofs.ImageLemmas.{shown_of}
 use Rattle.mi_show.proofs.whole.show.Goals as goal

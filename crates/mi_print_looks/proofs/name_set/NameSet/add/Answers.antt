@@ -4,7 +4,7 @@ use Rattle.std.specs.declared.alloc.Global.{Global}
 use Rattle.std.specs.FinMap as map
 use Rattle.mi_text.proofs.TreeLemmas.{stored_as}
 use Rattle.mi_text.specs.Maps.{Name}
-use Rattle.mi_show.proofs.name_set.NameSet.add.Goals as goal
+use Rattle.mi_print_looks.proofs.name_set.NameSet.add.Goals as goal
 
 pub returns : goal.returns
 returns c =

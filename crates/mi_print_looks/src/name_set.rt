@@ -3,9 +3,8 @@
 ghost use Rattle.std.specs.Prelude.{◌≡◌, ◌++◌, List, IfOk, OnOk, map};
 ghost use Rattle.std.specs.FinMap as tree;
 ghost use Rattle.mi_text.specs.Maps.{Name};
-ghost use Rattle.mi_show.specs.Differences.{name_set};
-ghost use Rattle.mi_show.specs.Machines.{plain_machine};
-ghost use Rattle.mi_show.specs.Prints.{names_of};
+ghost use Rattle.mi_print_looks.specs.Machines.{plain_machine};
+ghost use Rattle.mi_print_looks.specs.Sets.{names_of, name_set};
 
 use mi_base::NoMemory;
 use mi_image::Image;
@@ -24,7 +23,7 @@ impl Model for NameSet {
     ghost use Rattle.std.specs.Coded.{coded_list, coded_ℕ};
     ghost use base.Stored.{coded_unit};
     ghost use Rattle.mi_text.specs.Maps.{Map};
-    ghost use Rattle.mi_show.specs.Sets.{set_of};
+    ghost use Rattle.mi_print_looks.specs.Sets.{set_of};
 
     ghost Value = { Map (Unit {0}) };
 
@@ -63,7 +62,7 @@ impl NameSet {
         Ok(())
     }
 
-    /// The names, in byte order.
+    /// The names, in byte order, lent. It takes memory for the list.
     pub fn list(&self, alloc: Global) -> Result<Vec<&str>, NoMemory>
         ensures { IfOk result (λ names. map (λ n. n.now) names.items ≡ tree.keys self.now) }
     {
@@ -74,7 +73,16 @@ impl NameSet {
         Ok(list)
     }
 
-    /// The names of either image that begin so.
+    // Adds the names of an image that begin so.
+    fn add_names(&mut self, alloc: Global, image: &Image, front: &str) -> Result<(), NoMemory>
+        ensures { (had : List Name) → self.old ≡ name_set had → OnOk result (self.new ≡ name_set (had ++ names_of front.now (plain_machine image.now))) }
+    {
+        let names = image.names(alloc, front)?;
+        self.add_all(alloc, names.as_slice())?;
+        Ok(())
+    }
+
+    /// The names of either image that begin so, each once. It takes memory for a copy of each.
     pub fn of_either(
         alloc: Global,
         before: &Image,
@@ -84,10 +92,8 @@ impl NameSet {
         ensures { IfOk result (λ set. set ≡ name_set (names_of front.now (plain_machine before.now) ++ names_of front.now (plain_machine after.now))) }
     {
         let mut set = NameSet::new(alloc);
-        let former = before.names(alloc, front)?;
-        set.add_all(alloc, former.as_slice())?;
-        let present = after.names(alloc, front)?;
-        set.add_all(alloc, present.as_slice())?;
+        set.add_names(alloc, before, front)?;
+        set.add_names(alloc, after, front)?;
         Ok(set)
     }
 }

@@ -1,8 +1,8 @@
 use Rattle.std.proofs.Common.{◌++◌, ℕ, List, map, ◌∙◌}
 use Rattle.std.specs.Prelude.{String, string_bytes}
 use Rattle.std.specs.declared.alloc.Global.{Global}
-use Rattle.mi_show.proofs.DiffLemmas.{now_of, tree_names, list_more}
-use Rattle.mi_show.proofs.name_set.NameSet.list.Goals as goal
+use Rattle.mi_print_looks.proofs.SetLemmas.{now_of, tree_names, list_more}
+use Rattle.mi_print_looks.proofs.name_set.NameSet.list.Goals as goal
 
 pub loop-name-init : goal.loop-name-init
 loop-name-init c =

@@ -3,9 +3,9 @@ use Rattle.std.proofs.Common.{◌≡◌, ◌++◌, [], ℕ, List, Bool, true, fa
 use Rattle.std.specs.Prelude.{OnOk, is_some}
 use Rattle.mi_base.specs.Machine.{key_at}
 use Rattle.mi_print.specs.Registry.{stray}
-use Rattle.mi_show.specs.Machines.{no_files, plain_machine}
-use Rattle.mi_show.proofs.ImageLemmas.{none_by}
-use Rattle.mi_show.proofs.kinds.push_if_stray.Goals as goal
+use Rattle.mi_print_looks.specs.Machines.{no_files, plain_machine}
+use Rattle.mi_print_looks.proofs.LookLemmas.{none_by}
+use Rattle.mi_print_looks.proofs.strays.push_if_stray.Goals as goal
 
 pub returns-then-key : goal.returns-then-key
 returns-then-key c =

@@ -1,0 +1,2 @@
+mod LookLemmas
+pub mod SetLemmas

@@ -1,0 +1,3 @@
+pub mod Machines
+pub mod Sets
+pub mod Strays
