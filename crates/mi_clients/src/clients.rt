@@ -1,21 +1,20 @@
 //! ProcessComponents: the clients of components, and the counts of shared files.
 
-ghost use Rattle.std.specs.Prelude.{◌≡◌, ◌∷◌, [], if◌then◌else◌, List, ℕ, All, IfOk, OnOk, Ok, Some, map};
+ghost use Rattle.std.specs.Prelude.{◌≡◌, List, ℕ, All, IfOk, Ok, Some, map};
 ghost use Rattle.mi_text.specs.Maps.{Map};
-ghost use Rattle.mi_base.specs.Names.{client_name};
 ghost use Rattle.mi_image.specs.Items.{AreThere};
 ghost use Rattle.mi_image.specs.Overlays.{former_items, present_items};
 ghost use Rattle.mi_model.specs.World.{World, MakeLocal};
 ghost use Rattle.mi_model.specs.ComponentRows.{action_in};
 ghost use Rattle.mi_model.specs.Conditions.{has};
-ghost use Rattle.mi_model.specs.ClientRows.{client_touch, client_touches, component_touches, the_system};
+ghost use Rattle.mi_model.specs.ClientRows.{client_touches, component_touches};
 ghost use Rattle.mi_model.specs.ProcessComponents.{processed, process_components, takes_counts};
 ghost use Rattle.mi_schema.specs.Lawful.{IsLawful};
 ghost use Rattle.mi_schema.specs.RowsOf.{rows_in};
 ghost use Rattle.mi_schema.specs.TableRows.{in_key_order, product_code};
 ghost use Rattle.mi_schema.specs.declared.typed_rows.ComponentRow.{ComponentRow};
-ghost use Rattle.mi_steps.specs.Follows.{Grows, drop_touch};
-ghost use Rattle.mi_steps.specs.Makes.{Makes, plan_machine};
+ghost use Rattle.mi_steps.specs.Follows.{Grows};
+ghost use Rattle.mi_steps.specs.Makes.{plan_machine};
 ghost use Rattle.mi_records.specs.Choices.{IsAsked};
 ghost use Rattle.mi_records.specs.Clients.{IsOwn, component_effect};
 ghost use Rattle.mi_clients.specs.Counts.{GuardsCounts};
@@ -25,18 +24,15 @@ ghost use Rattle.mi_records.specs.Rows as made;
 ghost use Rattle.mi_records.specs.Rows.{Phase};
 
 use crate::counts::{process_count, prune_counts, takes_counts};
-use mi_base::{Client, Entry, Guid, Name, NoMemory, Text};
+use mi_base::{Guid, Name, NoMemory};
+use mi_client_steps::{put_clients, take_client};
 use mi_records::{
-    PlanError, Row, Sees, drop_entry, guarded_values, in_key_order, lacks, product_code,
-    recorded_path,
+    PlanError, Row, Sees, guarded_values, in_key_order, lacks, product_code, recorded_path,
 };
 use mi_schema::{ComponentRow, Package, keys_apart, keys_stand, tables_small};
 use mi_steps::Plan;
 use std::alloc::Global;
 use std::collections::BTreeSet;
-
-// The system as the client of a permanent component.
-const THE_SYSTEM: Guid = Guid { number: 0 };
 
 // ---- clients
 
@@ -47,86 +43,7 @@ fn is_permanent(row: &ComponentRow) -> bool
     !lacks(16, row.attributes)
 }
 
-// Puts the entry of a client. A key path of 4,294,967,296 bytes or more, which has no record, is want of memory.
-fn put_client(
-    alloc: Global,
-    plan: &mut Plan,
-    component: Guid,
-    product: Guid,
-    path: &str,
-) -> Result<(), NoMemory>
-    ensures makes { (held files : Map (List ℕ)) → OnOk result (Makes held files plan.old plan.new (client_touch component path.now product.number ∷ [])) }
-    ensures keeps { Keeps plan.old plan.new }
-{
-    let key_path = Text::copy_of(alloc, path)?;
-    let client = Entry::Client(Client {
-        component,
-        product,
-        key_path,
-    });
-    match plan.put(alloc, client) {
-        Ok(()) => Ok(()),
-        Err(_) => Err(NoMemory),
-    }
-}
-
-// Puts the entry of the product as a client, and that of the system where the component is permanent.
-fn put_clients(
-    alloc: Global,
-    plan: &mut Plan,
-    component: Guid,
-    product: Guid,
-    path: &str,
-    permanent: bool,
-) -> Result<(), NoMemory>
-    ensures makes { (held files : Map (List ℕ)) → OnOk result (Makes held files plan.old plan.new (map (client_touch component path.now) (product.number ∷ (if permanent then the_system ∷ [] else [])))) }
-    ensures keeps { Keeps plan.old plan.new }
-{
-    put_client(alloc, plan, component, product, path)?;
-    if permanent {
-        put_client(alloc, plan, component, THE_SYSTEM, path)
-    } else {
-        Ok(())
-    }
-}
-
-// Takes away the entry of the product as a client.
-fn drop_client(
-    alloc: Global,
-    plan: &mut Plan,
-    component: Guid,
-    product: Guid,
-) -> Result<(), NoMemory>
-    ensures makes { (held files : Map (List ℕ)) → OnOk result (Makes held files plan.old plan.new (drop_touch (client_name component.number product.number) ∷ [])) }
-    ensures keeps { Keeps plan.old plan.new }
-{
-    let client = Entry::Client(Client {
-        component,
-        product,
-        key_path: Text::new(alloc),
-    });
-    let done = drop_entry(alloc, plan, &client);
-    drop(client);
-    done
-}
-
 // ---- rows
-
-// Takes this product's client of a component away.
-fn take_client(
-    alloc: Global,
-    plan: &mut Plan,
-    component: Guid,
-    product: Guid,
-) -> Result<(), PlanError>
-    ensures row { (held files : Map (List ℕ)) → made.Row held files plan.old plan.new (λ m. Ok (drop_touch (client_name component.number product.number) ∷ [])) result }
-    ensures keeps { Keeps plan.old plan.new }
-{
-    match drop_client(alloc, plan, component, product) {
-        Ok(()) => Ok(()),
-        Err(_) => Err(PlanError::NoMemory),
-    }
-}
 
 // Records the clients of a component with its key path.
 fn record_clients<S: Sees>(
