@@ -1,15 +1,1 @@
-mod FirstLemmas
-mod WordLemmas
-mod LookLemmas
-mod MachineLemmas
-mod EndLemmas
-mod BeforeLemmas
-mod QuietLemmas
-mod ReplyLemmas
-mod PackageLemmas
-mod ReachLemmas
-mod RoomLemmas
-mod WalkLemmas
-mod ServeLemmas
-mod RunLemmas
 mod TopLemmas

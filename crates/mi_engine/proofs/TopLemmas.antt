@@ -11,8 +11,8 @@ use Rattle.mi_model.specs.Causes.{SameCount, Caused, CausedRefusal, Completes}
 use Rattle.mi_model.specs.Logs.{WritesFront, Logs}
 use Rattle.mi_model.specs.PackageOutcome.{Outcome, kind_of}
 use Rattle.mi_model.specs.Words.{Command}
-use Rattle.mi_engine.specs.Answers.{IsTold, IsStill, SourceFails, IsOwn, Begins}
-use Rattle.mi_engine.specs.Replies.{Says}
+use Rattle.mi_commands.specs.Answers.{IsTold, IsStill, SourceFails, IsOwn, Begins}
+use Rattle.mi_commands.specs.Replies.{Says}
 
 -- ---- what is written
 

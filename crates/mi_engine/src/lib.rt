@@ -3,16 +3,7 @@
 
 mod answer;
 mod code;
-mod command;
-mod ending;
-mod obey;
-mod package;
-mod reply;
-mod room;
-mod serve;
-mod stop;
 mod top;
-mod walk;
 
 pub use answer::Answer;
 pub use code::answer_code;

@@ -18,18 +18,13 @@ ghost use Rattle.mi_model.specs.PackageOutcome.{Outcome};
 ghost use Rattle.mi_model.specs.Outcome.{ComesTo};
 ghost use Rattle.mi_model.specs.TopCall.{handed, IsTold, IsStill};
 ghost use Rattle.mi_model.specs.Words.{Installs, command_of, walks};
-ghost use Rattle.mi_engine.specs.Answers.{SourceFails};
 ghost use Rattle.mi_report.specs.WalkLogs.{log_text};
-ghost use Rattle.mi_engine.specs.Replies.{Leaves, Runs, log_in};
 
 use crate::answer::Answer;
-use crate::reply::{Reply, logged};
-use crate::serve::serve;
-use mi_base::{Cause, Kind, Settled};
+use mi_commands::{Reply, reply_to};
 use mi_report::Log;
 use mi_source::{Sink, Source};
 use mi_volume::Volume;
-use mi_words::read_words;
 use std::alloc::Global;
 
 /// Carries out the words of a command line on a volume, and writes the log to a sink: settles the volume, reads its
@@ -82,7 +77,7 @@ pub fn run<S: Source, V: Volume, K: Sink>(
         → Logs (IsLog V.told (IsTold V.told S.told (texts_of words.now)) (λ found. V.told → found ≡ settled (V.state vol.old).held) (walks (command_of (texts_of words.now))) o result.kind result.reached) result.kind result.log_lost (K.written out.old) (K.written out.new) }
     ensures log_lost { OnTrue result.log_lost (Rose (K.faults out.old) (K.faults out.new)) }
 {
-    let reply = work(alloc, words, now, src, vol);
+    let reply = reply_to(alloc, words, now, src, vol);
     let log_lost = tell(out, &reply.log);
     let Reply {
         kind,
@@ -93,33 +88,6 @@ pub fn run<S: Source, V: Volume, K: Sink>(
         kind,
         reached,
         log_lost,
-    }
-}
-
-/// Does what the words ask for, at a moment in seconds.
-fn work<S: Source, V: Volume>(
-    alloc: Global,
-    words: &[String],
-    now: u64,
-    src: &mut S,
-    vol: &mut V,
-) -> Reply
-    ensures runs { (o : Outcome) → ComesTo (handed (texts_of words.now) (S.files src.old) (V.state vol.old) now) o
-        → Runs V.told (IsTold V.told S.told (texts_of words.now)) (V.state vol.old) (V.state vol.new) o (command_of (texts_of words.now)) (SourceFails (command_of (texts_of words.now)) (S.faults src.old) (S.faults src.new)) result.kind result.reached (log_in result) }
-    ensures leaves { Leaves V.told (V.state vol.old) (V.state vol.new) (command_of (texts_of words.now)) result.kind }
-    ensures untouched { (place : ℕ) → command_of (texts_of words.now) ≡ Err place → vol.new ≡ vol.old }
-    ensures no_package { (Installs (command_of (texts_of words.now)) → ⊥) → src.new ≡ src.old }
-    ensures passes { Passes (V.state vol.old) (V.state vol.new) }
-    ensures counts { S.faults src.old ≤ S.faults src.new }
-{
-    match read_words(words) {
-        Ok(command) => serve(alloc, &command, now, src, vol),
-        Err(place) => logged(
-            alloc,
-            Kind::Refused(Cause::BadWords(place)),
-            Settled::Clean,
-            false,
-        ),
     }
 }
 

@@ -1,0 +1,14 @@
+mod FirstLemmas
+mod WordLemmas
+mod LookLemmas
+mod MachineLemmas
+mod EndLemmas
+pub mod BeforeLemmas
+mod QuietLemmas
+mod ReplyLemmas
+mod PackageLemmas
+mod ReachLemmas
+mod RoomLemmas
+mod WalkLemmas
+mod ServeLemmas
+mod RunLemmas

@@ -1,6 +1,0 @@
-use Rattle.mi_image.specs.Items.{machine_over}
-use Rattle.mi_model.specs.Listings.{products_text_of}
-use Rattle.mi_engine.proofs.obey.list_products.Goals as goal
-
-pub returns : goal.returns
-returns c held files = c.listed.ensures (products_text_of (machine_over held files c.args.image.now)) (c.products_text.ensures held files)

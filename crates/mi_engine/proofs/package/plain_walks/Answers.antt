@@ -1,7 +1,0 @@
-use Rattle.std.proofs.Common.{subst}
-use Rattle.mi_schema.specs.TableRows.{Rows}
-use Rattle.mi_plain.specs.PlainLaws.{HasProductCode}
-use Rattle.mi_engine.proofs.package.plain_walks.Goals as goal
-
-pub returns : goal.returns
-returns c g is = c.walks_are_plain.ensures g (subst (λ (rows : Rows). HasProductCode rows) is (c.lawful_packages_have_codes.ensures c.args.loaded.now c.requires))

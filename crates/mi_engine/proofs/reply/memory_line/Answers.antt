@@ -1,5 +1,0 @@
-use Rattle.mi_engine.proofs.ReplyLemmas.{memory_front}
-use Rattle.mi_engine.proofs.reply.memory_line.Goals as goal
-
-pub returns-else-walks : goal.returns-else-walks
-returns-else-walks c = memory_front c.args.walks c.if-walks.false
