@@ -6,7 +6,8 @@ ghost use Rattle.mi_volume.specs.Maps.{IsAbove};
 ghost use Rattle.mi_feeds.specs.Count.{Counts};
 
 use mi_disk::{Disk, Folders, Found, Listed, Lockable, Trouble, sync_open};
-use mi_held::{Held, Written};
+use mi_feeds::FaultCount;
+use mi_held::{Held, Written, fault_of};
 use mi_text::{Bytes, Name};
 use mi_volume::{Failed, PutFault, VolFault, Volume};
 use std::alloc::Global;
@@ -47,7 +48,7 @@ pub struct FolderVolume<R: Files> {
     placed: bool,
     // Whether the system has failed at a sync. It may have dropped what it was given, so no later sync is good.
     lost: bool,
-    faults: u64,
+    faults: FaultCount,
 }
 
 // A file that was written, open at its end.
@@ -161,7 +162,7 @@ where
                 noted: false,
                 placed: false,
                 lost: false,
-                faults: 0,
+                faults: FaultCount::new(),
             }),
             Err(_) => Err(EdgeFault::NoMemory),
         }
@@ -248,7 +249,7 @@ where
     fn count(&mut self)
         ensures { Counts self.old.faults self.new.faults }
     {
-        self.faults = self.faults.saturating_add(1);
+        self.faults.rise();
     }
 
     // The answer of the system, whose failures are counted.
@@ -269,11 +270,11 @@ where
         ensures failed { result ≡ VolFault.Failed → Counts self.old.faults self.new.faults }
         ensures later { self.old.faults ≤ self.new.faults }
     {
-        if trouble == Trouble::NoMemory {
-            return VolFault::NoMemory;
+        let fault = fault_of(trouble);
+        if let VolFault::Failed = fault {
+            self.count();
         }
-        self.count();
-        VolFault::Failed
+        fault
     }
 
     // Lists the names that are held, once.
@@ -765,6 +766,6 @@ where
     }
 
     fn faults(&self) -> u64 {
-        self.faults
+        self.faults.told()
     }
 }

@@ -4,6 +4,7 @@ ghost use Rattle.std.specs.Prelude.{◌≡◌, ◌≤◌, IfOk, vec_len};
 ghost use Rattle.std.specs.FinMap.{empty};
 ghost use Rattle.mi_feeds.specs.Count.{Counts};
 
+use crate::fault_count::FaultCount;
 use mi_disk::{Found, Trouble, Visit, look_through, path_in, read_at, visit_all};
 use mi_source::{Failed, Source, SrcFault};
 use mi_text::{Bytes, Text};
@@ -14,19 +15,22 @@ use std::fs::Files;
 #[derive(Drop)]
 pub struct FolderSource<R: Files> {
     rt: R,
-    faults: u64,
+    faults: FaultCount,
 }
 
 impl<R: Files + Alloc + Clone + Drop> FolderSource<R> {
     /// The files as a source. Takes no memory.
     pub fn new(rt: R) -> FolderSource<R> {
-        FolderSource { rt, faults: 0 }
+        FolderSource {
+            rt,
+            faults: FaultCount::new(),
+        }
     }
 
     fn failed(&mut self) -> Failed
         ensures { Counts self.old.faults self.new.faults }
     {
-        self.faults = self.faults.saturating_add(1);
+        self.faults.rise();
         Failed
     }
 
@@ -37,7 +41,7 @@ impl<R: Files + Alloc + Clone + Drop> FolderSource<R> {
         if trouble == Trouble::NoMemory {
             return SrcFault::NoMemory;
         }
-        self.faults = self.faults.saturating_add(1);
+        self.faults.rise();
         SrcFault::Failed
     }
 }

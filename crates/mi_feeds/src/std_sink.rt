@@ -2,6 +2,7 @@
 
 ghost use Rattle.std.specs.Prelude.{◌≡◌, []};
 
+use crate::fault_count::FaultCount;
 use mi_source::{Failed, Sink};
 use std::io;
 use std::io::Write;
@@ -11,13 +12,16 @@ use std::rt::Runtime;
 #[derive(Drop)]
 pub struct StdSink<R: Runtime> {
     rt: R,
-    faults: u64,
+    faults: FaultCount,
 }
 
 impl<R: Runtime> StdSink<R> {
     /// Standard output as a sink. Takes no memory.
     pub fn new(rt: R) -> StdSink<R> {
-        StdSink { rt, faults: 0 }
+        StdSink {
+            rt,
+            faults: FaultCount::new(),
+        }
     }
 }
 
@@ -30,7 +34,7 @@ impl<R: Runtime> Sink for StdSink<R> {
 
     fn write(&mut self, piece: &[u8]) -> Result<(), Failed> {
         if io::writer(&self.rt).write_all(piece).is_err() {
-            self.faults = self.faults.saturating_add(1);
+            self.faults.rise();
             return Err(Failed);
         }
         Ok(())

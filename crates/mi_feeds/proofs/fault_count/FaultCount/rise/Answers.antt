@@ -1,6 +1,6 @@
 -- Written out, so that an edit that turns it is refused at once (docs/GATE.md).
 use Rattle.std.proofs.Common.{rules}
-use Rattle.mi_edges.proofs.folder_volume.FolderVolumeVolume.faults.Goals as goal
+use Rattle.mi_feeds.proofs.fault_count.FaultCount.rise.Goals as goal
 
 pub returns : goal.returns
-returns g c = search rules
+returns g = search rules
