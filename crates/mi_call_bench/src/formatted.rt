@@ -1,14 +1,13 @@
 //! Formatted texts of any size.
 
 use crate::lookups::lookups;
-use crate::times::say;
+use crate::times::time_input;
 use crate::words::FormattedCall;
 use mi_format::{expand, expand_within};
 use mi_text::PlainEnv;
 use std::alloc::{AllocError, Global};
 use std::io;
 use std::rt::Clock;
-use std::time::Instant;
 
 /// What a text is made of: names, braces, nested names, an escape and text.
 const PIECE: &str = "Part [A] of {[A][B]} in [[N]] and [\\[]rest; ";
@@ -51,22 +50,16 @@ fn time_text<R: Print + Eprint + Clock>(
     alloc: Global,
     call: FormattedCall,
     text: &str,
-    env: &PlainEnv,
-) -> io::Result<()> {
-    let start = Instant::now(rt)?;
-    let value = value_length(alloc, call, text, env);
-    say(rt, start.elapsed(rt)?, text.len(), value, "value")
-}
-
-fn time_pieces<R: Print + Eprint + Clock>(
-    rt: &R,
-    alloc: Global,
-    call: FormattedCall,
-    text: &str,
     value: &str,
 ) -> io::Result<()> {
-    match &lookups(alloc, value) {
-        Ok(env) => time_text(rt, alloc, call, text, env),
+    match lookups(alloc, value) {
+        Ok(env) => {
+            let done = time_input(rt, text.len(), "value", || {
+                Ok(value_length(alloc, call, text, &env))
+            });
+            drop(env);
+            done
+        }
         Err(_) => Err(io::ErrorKind::OutOfMemory.into()),
     }
 }
@@ -101,5 +94,5 @@ pub fn time_formatted<R: Print + Eprint + Clock>(
 ) -> io::Result<()> {
     let value = "x".repeat(alloc, width_of(call))?;
     let text = text_of(alloc, call, pieces)?;
-    time_pieces(rt, alloc, call, text.as_str(), value.as_str())
+    time_text(rt, alloc, call, text.as_str(), value.as_str())
 }

@@ -1,6 +1,6 @@
 //! Directory tables of any length.
 
-use crate::times::say;
+use crate::times::time_input;
 use crate::words::{DirectoryCall, Shape};
 use mi_dirs::{DirRow, Dirs, resolve};
 use mi_props::{PropError, Props};
@@ -8,7 +8,6 @@ use mi_text::{NoMemory, Text};
 use std::alloc::Global;
 use std::io;
 use std::rt::Clock;
-use std::time::Instant;
 
 // The key of a row.
 fn key(alloc: Global, row: usize) -> Result<Text, NoMemory> {
@@ -40,10 +39,10 @@ fn source(alloc: Global, row: usize) -> Result<Text, NoMemory> {
 
 fn row(alloc: Global, shape: Shape, row: usize) -> Result<DirRow, NoMemory> {
     let key = key(alloc, row)?;
-    let parent = parent(alloc, shape, row)?;
     let target = target(alloc, shape, row)?;
     let short_source = source(alloc, row)?;
     let long_source = source(alloc, row)?;
+    let parent = parent(alloc, shape, row)?;
     Ok(DirRow {
         key,
         parent,
@@ -84,35 +83,12 @@ fn resolved_count(alloc: Global, rows: &[DirRow], props: &Props) -> usize {
     }
 }
 
-fn time_resolving<R: Print + Eprint + Clock>(
-    rt: &R,
-    alloc: Global,
-    rows: &[DirRow],
-    props: &Props,
-) -> io::Result<()> {
-    let start = Instant::now(rt)?;
-    let count = resolved_count(alloc, rows, props);
-    say(rt, start.elapsed(rt)?, size_of(rows), count, "resolved")
-}
-
 // The bytes of the source of a row.
 fn source_length(alloc: Global, dirs: &Dirs, dir: &str) -> usize {
     match dirs.source(alloc, dir) {
         Ok(Some(source)) => source.len(),
         Ok(None) | Err(_) => 0,
     }
-}
-
-fn time_source<R: Print + Eprint + Clock>(
-    rt: &R,
-    alloc: Global,
-    dirs: &Dirs,
-    bytes: usize,
-    dir: &str,
-) -> io::Result<()> {
-    let start = Instant::now(rt)?;
-    let length = source_length(alloc, dirs, dir);
-    say(rt, start.elapsed(rt)?, bytes, length, "source")
 }
 
 // 1 where the target of a row is set.
@@ -126,18 +102,6 @@ fn set_count(alloc: Global, dirs: &mut Dirs, dir: &str) -> usize {
     }
 }
 
-fn time_set<R: Print + Eprint + Clock>(
-    rt: &R,
-    alloc: Global,
-    dirs: &mut Dirs,
-    bytes: usize,
-    dir: &str,
-) -> io::Result<()> {
-    let start = Instant::now(rt)?;
-    let count = set_count(alloc, dirs, dir);
-    say(rt, start.elapsed(rt)?, bytes, count, "set")
-}
-
 // Asks of resolved directories the source of the last row, or sets the target of the first.
 fn time_dirs<R: Print + Eprint + Clock>(
     rt: &R,
@@ -148,10 +112,12 @@ fn time_dirs<R: Print + Eprint + Clock>(
 ) -> io::Result<()> {
     let bytes = size_of(rows);
     match rows {
-        [first, ..] if call == DirectoryCall::Set => {
-            time_set(rt, alloc, dirs, bytes, first.key.as_str())
-        }
-        [.., last] => time_source(rt, alloc, dirs, bytes, last.key.as_str()),
+        [first, ..] if call == DirectoryCall::Set => time_input(rt, bytes, "set", || {
+            Ok(set_count(alloc, dirs, first.key.as_str()))
+        }),
+        [.., last] => time_input(rt, bytes, "source", || {
+            Ok(source_length(alloc, dirs, last.key.as_str()))
+        }),
         [] => Ok(()),
     }
 }
@@ -163,18 +129,17 @@ fn time_resolved<R: Print + Eprint + Clock>(
     rows: &[DirRow],
     props: &Props,
 ) -> io::Result<()> {
-    match &mut resolve(alloc, rows, props, &[], "package", false) {
-        Ok(dirs) => time_dirs(rt, alloc, call, rows, dirs),
+    match resolve(alloc, rows, props, &[], "package", false) {
+        Ok(mut dirs) => {
+            let done = time_dirs(rt, alloc, call, rows, &mut dirs);
+            drop(dirs);
+            done
+        }
         Err(_) => Err(io::ErrorKind::OutOfMemory.into()),
     }
 }
 
-fn time_making<R: Print + Eprint + Clock>(rt: &R, rows: &[DirRow]) -> io::Result<()> {
-    let start = Instant::now(rt)?;
-    say(rt, start.elapsed(rt)?, size_of(rows), 0, "resolved")
-}
-
-fn time_call<R: Print + Eprint + Clock>(
+fn time_table<R: Print + Eprint + Clock>(
     rt: &R,
     alloc: Global,
     call: DirectoryCall,
@@ -182,8 +147,10 @@ fn time_call<R: Print + Eprint + Clock>(
     props: &Props,
 ) -> io::Result<()> {
     match call {
-        DirectoryCall::Make => time_making(rt, rows),
-        DirectoryCall::Resolve => time_resolving(rt, alloc, rows, props),
+        DirectoryCall::Make => time_input(rt, size_of(rows), "resolved", || Ok(0)),
+        DirectoryCall::Resolve => time_input(rt, size_of(rows), "resolved", || {
+            Ok(resolved_count(alloc, rows, props))
+        }),
         DirectoryCall::Source | DirectoryCall::Set => time_resolved(rt, alloc, call, rows, props),
     }
 }
@@ -199,7 +166,7 @@ fn time_rows<R: Print + Eprint + Clock>(
     rows: &[DirRow],
 ) -> io::Result<()> {
     match &no_properties(alloc) {
-        Ok(props) => time_call(rt, alloc, call, rows, props),
+        Ok(props) => time_table(rt, alloc, call, rows, props),
         Err(_) => Err(io::ErrorKind::OutOfMemory.into()),
     }
 }

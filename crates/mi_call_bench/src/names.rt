@@ -1,29 +1,8 @@
-//! The files that the machine holds.
+//! The files that a machine in memory holds.
 
-use mi_base::{Bytes, Entry, FileEntry, FileHead, Languages, Name, NoMemory, PathText, Text, fold};
-use std::alloc::{AllocError, AllocFailed, Global};
-
-/// What stops the making of names, which is want of memory alone.
-#[derive(Drop)]
-pub struct NotMade;
-
-impl From<NoMemory> for NotMade {
-    fn from(_e: NoMemory) -> NotMade {
-        NotMade
-    }
-}
-
-impl From<AllocError> for NotMade {
-    fn from(_e: AllocError) -> NotMade {
-        NotMade
-    }
-}
-
-impl<T: Drop> From<AllocFailed<T>> for NotMade {
-    fn from(_e: AllocFailed<T>) -> NotMade {
-        NotMade
-    }
-}
+use crate::not_made::NotMade;
+use mi_base::{Bytes, Entry, FileEntry, FileHead, Languages, Name, PathText, Text, fold};
+use std::alloc::Global;
 
 /// The path of the file of this number, in a folder of a hundred files.
 pub fn file_path(alloc: Global, number: u32) -> Result<PathText, NotMade> {
@@ -48,13 +27,17 @@ pub fn entry(alloc: Global, number: u32) -> Result<Entry, NotMade> {
     }))
 }
 
-fn file_name(alloc: Global, shown: &PathText) -> Result<Name, NotMade> {
-    let mut text = Text::copy_of(alloc, "f/")?;
-    text.push_str(fold(alloc, shown.as_str())?.as_str())?;
+fn name_of(alloc: Global, place: &str) -> Result<Name, NotMade> {
+    let text = format!(in alloc; "f/{place}")?;
     match Name::of(alloc, text.as_str()) {
         Ok(name) => Ok(name),
         Err(_) => Err(NotMade),
     }
+}
+
+fn file_name(alloc: Global, shown: &PathText) -> Result<Name, NotMade> {
+    let place = fold(alloc, shown.as_str())?;
+    name_of(alloc, place.as_str())
 }
 
 /// The name and the head of the file of this number.

@@ -1,7 +1,7 @@
 //! Conditions of any length.
 
 use crate::lookups::lookups;
-use crate::times::say;
+use crate::times::time_input;
 use crate::words::ConditionCall;
 use mi_cond::Cond;
 use mi_format::expand;
@@ -9,7 +9,6 @@ use mi_text::PlainEnv;
 use std::alloc::{AllocError, Global};
 use std::io;
 use std::rt::Clock;
-use std::time::Instant;
 
 /// What a condition is made of: keywords, symbols, integers, a quoted text and a bracket.
 const PIECE: &str =
@@ -40,49 +39,23 @@ fn expanded_length(alloc: Global, text: &str, env: &PlainEnv) -> usize {
     }
 }
 
-fn time_expansion<R: Print + Eprint + Clock>(
-    rt: &R,
-    alloc: Global,
-    text: &str,
-    env: &PlainEnv,
-) -> io::Result<()> {
-    let start = Instant::now(rt)?;
-    let length = expanded_length(alloc, text, env);
-    say(rt, start.elapsed(rt)?, text.len(), length, "value")
-}
-
-fn time_reading<R: Print + Eprint + Clock>(rt: &R, alloc: Global, text: &str) -> io::Result<()> {
-    let start = Instant::now(rt)?;
-    let count = read_count(alloc, text);
-    say(rt, start.elapsed(rt)?, text.len(), count, "read")
-}
-
+// The value of a condition that was read before, and of which alone the time is told.
 fn time_value<R: Print + Eprint + Clock>(
     rt: &R,
-    bytes: usize,
-    condition: &Cond,
-    env: &PlainEnv,
-) -> io::Result<()> {
-    let start = Instant::now(rt)?;
-    let holds = condition.value(env);
-    say(rt, start.elapsed(rt)?, bytes, usize::from(holds), "true")
-}
-
-fn time_read_value<R: Print + Eprint + Clock>(
-    rt: &R,
     alloc: Global,
     text: &str,
     env: &PlainEnv,
 ) -> io::Result<()> {
-    match &Cond::read(alloc, text) {
-        Ok(condition) => time_value(rt, text.len(), condition, env),
+    match Cond::read(alloc, text) {
+        Ok(condition) => {
+            let done = time_input(rt, text.len(), "true", || {
+                Ok(usize::from(condition.value(env)))
+            });
+            drop(condition);
+            done
+        }
         Err(_) => Err(io::ErrorKind::OutOfMemory.into()),
     }
-}
-
-fn time_making<R: Print + Eprint + Clock>(rt: &R, text: &str) -> io::Result<()> {
-    let start = Instant::now(rt)?;
-    say(rt, start.elapsed(rt)?, text.len(), 0, "read")
 }
 
 fn time_text<R: Print + Eprint + Clock>(
@@ -92,11 +65,14 @@ fn time_text<R: Print + Eprint + Clock>(
     text: &str,
     env: &PlainEnv,
 ) -> io::Result<()> {
+    let bytes = text.len();
     match call {
-        ConditionCall::Make => time_making(rt, text),
-        ConditionCall::Expand => time_expansion(rt, alloc, text, env),
-        ConditionCall::Read => time_reading(rt, alloc, text),
-        ConditionCall::Value => time_read_value(rt, alloc, text, env),
+        ConditionCall::Make => time_input(rt, bytes, "read", || Ok(0)),
+        ConditionCall::Expand => time_input(rt, bytes, "value", || {
+            Ok(expanded_length(alloc, text, env))
+        }),
+        ConditionCall::Read => time_input(rt, bytes, "read", || Ok(read_count(alloc, text))),
+        ConditionCall::Value => time_value(rt, alloc, text, env),
     }
 }
 
@@ -108,8 +84,12 @@ pub fn time_condition<R: Print + Eprint + Clock>(
     pieces: usize,
 ) -> io::Result<()> {
     let text = condition_text(alloc, pieces)?;
-    match &lookups(alloc, "some text") {
-        Ok(env) => time_text(rt, alloc, call, text.as_str(), env),
+    match lookups(alloc, "some text") {
+        Ok(env) => {
+            let done = time_text(rt, alloc, call, text.as_str(), &env);
+            drop(env);
+            done
+        }
         Err(_) => Err(io::ErrorKind::OutOfMemory.into()),
     }
 }

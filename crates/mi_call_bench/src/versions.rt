@@ -1,13 +1,12 @@
 //! Files of any number of languages.
 
-use crate::times::say;
+use crate::times::time_input;
 use crate::words::VersionCall;
 use mi_base::{FileHead, Languages, NoMemory, PathError, PathText, Version};
 use mi_fver::{Mode, NewFile, replaces};
 use std::alloc::Global;
 use std::io;
 use std::rt::Clock;
-use std::time::Instant;
 
 const VERSION: Version = Version {
     major: 1,
@@ -58,22 +57,27 @@ fn replaced_count(call: VersionCall, old: &FileHead, new: &NewFile) -> usize {
     }
 }
 
-fn time_files<R: Print + Eprint + Clock>(
+fn time_old<R: Print + Eprint + Clock>(
     rt: &R,
+    alloc: Global,
     call: VersionCall,
     count: u16,
     old: &FileHead,
-    new: &NewFile,
 ) -> io::Result<()> {
-    let start = Instant::now(rt)?;
-    let replaced = replaced_count(call, old, new);
-    say(
-        rt,
-        start.elapsed(rt)?,
-        count as usize * 4,
-        replaced,
-        "replaced",
-    )
+    match new_file(alloc, count) {
+        Ok(new) => {
+            let bytes = count as usize * 4;
+            let done = time_input(
+                rt,
+                bytes,
+                "replaced",
+                || Ok(replaced_count(call, old, &new)),
+            );
+            drop(new);
+            done
+        }
+        Err(_) => Err(io::ErrorKind::OutOfMemory.into()),
+    }
 }
 
 /// Makes an old and a new file of so many languages, and does with them what is asked.
@@ -83,8 +87,12 @@ pub fn time_versions<R: Print + Eprint + Clock>(
     call: VersionCall,
     count: u16,
 ) -> io::Result<()> {
-    match (&old_file(alloc, count), &new_file(alloc, count)) {
-        (Ok(old), Ok(new)) => time_files(rt, call, count, old, new),
-        _ => Err(io::ErrorKind::OutOfMemory.into()),
+    match old_file(alloc, count) {
+        Ok(old) => {
+            let done = time_old(rt, alloc, call, count, &old);
+            drop(old);
+            done
+        }
+        Err(_) => Err(io::ErrorKind::OutOfMemory.into()),
     }
 }

@@ -1,54 +1,19 @@
-//! A machine of any size, made by single steps.
+//! Machines of any number of names, made by single steps.
 
 ghost use Rattle.std.specs.Prelude.{IfOk, IsTrue};
 ghost use Rattle.mi_text.specs.Path.{is_folder_path};
 
-use mi_base::{Bytes, EncError, Entry, NoMemory, PathError, PathText, Shortcut, Text, fold};
-use mi_image::{Image, ImageError, Overlay};
+use crate::not_made::NotMade;
+use crate::times::time_call;
+use crate::words::StepsCall;
+use mi_base::{Bytes, Entry, PathText, Shortcut, Text, fold};
+use mi_image::{Image, Overlay};
 use mi_script::Script;
 use mi_steps::{Plan, Tree};
 use mi_volume::{Fails, MemVolume};
-use std::alloc::{AllocError, AllocFailed, Global};
-
-/// There is no machine: memory is refused.
-#[derive(Clone, Copy)]
-pub struct NotMade;
-
-impl From<NoMemory> for NotMade {
-    fn from(_e: NoMemory) -> NotMade {
-        NotMade
-    }
-}
-
-impl From<AllocError> for NotMade {
-    fn from(_e: AllocError) -> NotMade {
-        NotMade
-    }
-}
-
-impl<T: Drop> From<AllocFailed<T>> for NotMade {
-    fn from(_e: AllocFailed<T>) -> NotMade {
-        NotMade
-    }
-}
-
-impl From<ImageError> for NotMade {
-    fn from(_e: ImageError) -> NotMade {
-        NotMade
-    }
-}
-
-impl From<EncError> for NotMade {
-    fn from(_e: EncError) -> NotMade {
-        NotMade
-    }
-}
-
-impl From<PathError> for NotMade {
-    fn from(_e: PathError) -> NotMade {
-        NotMade
-    }
-}
+use std::alloc::Global;
+use std::io;
+use std::rt::Clock;
 
 // The folder of this number, below one of a hundred others.
 fn folder(alloc: Global, number: u32) -> Result<PathText, NotMade>
@@ -108,16 +73,16 @@ fn fill(alloc: Global, plan: &mut Plan, names: u32) -> Result<(), NotMade> {
     Ok(())
 }
 
-/// A machine of so many names: two thirds are folders, and in every second folder is a shortcut.
-pub fn made(alloc: Global, names: u32) -> Result<Plan, NotMade> {
+// A machine of so many names: two thirds are folders, and in every second folder is a shortcut.
+fn made(alloc: Global, names: u32) -> Result<Plan, NotMade> {
     let mut plan = empty(alloc)?;
     fill(alloc, &mut plan, names)?;
     Ok(plan)
 }
 
-/// Looks each folder up, ten times, and counts those that are there.
-pub fn look_up(alloc: Global, plan: &Plan, names: u32) -> Result<u64, NotMade> {
-    let mut found = 0u64;
+// Looks each folder up, ten times, and counts those that are there.
+fn look_up(alloc: Global, plan: &Plan, names: u32) -> Result<usize, NotMade> {
+    let mut found: usize = 0;
     for number in 0..names / 3 * 2 {
         let path = folder(alloc, number)?;
         for _ in 0..10 {
@@ -129,20 +94,55 @@ pub fn look_up(alloc: Global, plan: &Plan, names: u32) -> Result<u64, NotMade> {
     Ok(found)
 }
 
+// The place of the folder of this number, as a step touches it.
+fn place(alloc: Global, number: u32) -> Result<Bytes, NotMade> {
+    let path = folder(alloc, number)?;
+    let place = fold(alloc, path.as_str())?;
+    Ok(Bytes::copy_of(alloc, place.as_bytes())?)
+}
+
 fn touched(alloc: Global, names: u32) -> Result<Vec<Bytes>, NotMade> {
     let mut places = Vec::new(alloc);
     for number in 0..names / 3 * 2 {
-        let path = folder(alloc, number)?;
-        let place = fold(alloc, path.as_str())?;
-        places.push(Bytes::copy_of(alloc, place.as_bytes())?)?;
+        places.push(place(alloc, number)?)?;
     }
     Ok(places)
 }
 
-/// Prunes, where all folders were touched, and counts the records that this adds to the script.
-pub fn prune_all(alloc: Global, plan: &mut Plan, names: u32) -> Result<usize, NotMade> {
+// Prunes, where all folders were touched, and counts the records that this adds to the script.
+fn prune_all(alloc: Global, plan: &mut Plan, names: u32) -> Result<usize, NotMade> {
     let before = plan.script.recs().len();
     let places = touched(alloc, names)?;
     plan.prune(alloc, Tree::Folders, places, Vec::new(alloc))?;
     Ok(plan.script.recs().len().saturating_sub(before))
+}
+
+fn carried_out(
+    alloc: Global,
+    plan: &mut Plan,
+    call: StepsCall,
+    names: u32,
+) -> Result<usize, NotMade> {
+    match call {
+        StepsCall::Make => Ok(plan.script.recs().len()),
+        StepsCall::LookUp => look_up(alloc, plan, names),
+        StepsCall::Prune => prune_all(alloc, plan, names),
+    }
+}
+
+/// Makes a machine of so many names, and does with it what is asked.
+pub fn time_steps<R: Print + Eprint + Clock>(
+    rt: &R,
+    alloc: Global,
+    call: StepsCall,
+    names: u32,
+) -> io::Result<()> {
+    match made(alloc, names) {
+        Ok(mut plan) => {
+            let done = time_call(rt, || carried_out(alloc, &mut plan, call, names));
+            drop(plan);
+            done
+        }
+        Err(_) => Err(io::ErrorKind::OutOfMemory.into()),
+    }
 }

@@ -1,13 +1,12 @@
 //! Texts of the Registry table that are lists, of any size.
 
-use crate::times::say;
+use crate::times::time_input;
 use crate::words::RegistryCall;
 use mi_base::{NoMemory, RegValue, Text, Texts};
 use mi_regval::{Change, read_value};
 use std::alloc::{AllocError, Global};
 use std::io;
 use std::rt::Clock;
-use std::time::Instant;
 
 // A text that puts new items of these numbers behind an old list.
 fn list_text(alloc: Global, items: usize) -> Result<String, AllocError> {
@@ -54,9 +53,9 @@ fn time_text<R: Print + Eprint + Clock>(
     text: &str,
     old: &RegValue,
 ) -> io::Result<()> {
-    let start = Instant::now(rt)?;
-    let items = items_read(alloc, call, text, old);
-    say(rt, start.elapsed(rt)?, text.len(), items, "items")
+    time_input(rt, text.len(), "items", || {
+        Ok(items_read(alloc, call, text, old))
+    })
 }
 
 fn time_list<R: Print + Eprint + Clock>(
@@ -67,7 +66,11 @@ fn time_list<R: Print + Eprint + Clock>(
     text: &str,
 ) -> io::Result<()> {
     match old_list(alloc, items) {
-        Ok(old) => time_text(rt, alloc, call, text, &old),
+        Ok(old) => {
+            let done = time_text(rt, alloc, call, text, &old);
+            drop(old);
+            done
+        }
         Err(_) => Err(io::ErrorKind::OutOfMemory.into()),
     }
 }
