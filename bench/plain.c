@@ -1,11 +1,11 @@
 /* The plain loops that bench/machine_folder and bench/selftest compare the program with.
    plain read FOLDER         lists the folder and reads each file in it, in the order of their names, and the same below it
    plain write FOLDER FROM   gives the files named on standard input, a path a line, below FOLDER the bytes that they have
-                             below FROM, in place; syncs each, and FOLDER; prints the seconds behind reading the first
+                             below FROM, in place; syncs each, and FOLDER; prints the seconds after reading the first
                              65,536 bytes of each in FROM: what is longer is copied piece by piece
    plain write-data FOLDER FROM   the same, where files are synced by fdatasync, as the program does, and not by fsync
    plain remove FOLDER       takes away the files named on standard input, a path a line, below FOLDER, and syncs FOLDER;
-                             prints the seconds behind reading the paths */
+                             prints the seconds after reading the paths */
 #define _GNU_SOURCE
 #include <dirent.h>
 #include <fcntl.h>
@@ -81,7 +81,7 @@ static void load(const char *folder, const char *from) {
     }
 }
 
-/* Writes what stands behind the first piece, and answers how many bytes that are. */
+/* Writes what follows the first piece, and returns how many bytes that are. */
 static off_t write_rest(int file, const struct change *change) {
     off_t written = 0;
     ssize_t count;

@@ -9,3 +9,4 @@ pub mod WalkLemmas
 pub mod NameSums
 pub mod SumLemmas
 pub mod RoomLemmas
+pub mod ReachLemmas

@@ -87,9 +87,3 @@ abbrev pub HaltCaused : {T : Type 0} → (List ℕ → ℕ → ℕ → Type 0) �
 HaltCaused differs room source_fails refusal begun n m (Ok x) = refusal ≡ None
 HaltCaused differs room source_fails refusal begun n m (Err (Back stopped)) = MayStop differs room source_fails refusal begun stopped.reached (BelowCount n m) stopped.why
 HaltCaused differs room source_fails refusal begun n m (Err (Unknown first second reached)) = (refusal ≡ None) × Wavers n m first second
-
--- how many actions are begun at the part at hand
-abbrev pub reached_by : {T : Type 0} → ℕ → Result T Halt → ℕ
-reached_by begun (Ok x) = begun
-reached_by begun (Err (Back stopped)) = stopped.reached
-reached_by begun (Err (Unknown first second reached)) = reached

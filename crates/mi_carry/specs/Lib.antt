@@ -5,3 +5,4 @@ pub mod Ends
 pub mod Falls
 pub mod Halts
 pub mod Rooms
+pub mod Reached

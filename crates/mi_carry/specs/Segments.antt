@@ -1,6 +1,6 @@
 -- Planned segments, one behind another. (This project's own.)
-use Rattle.std.specs.Prelude.{◌≡◌, ◌⊎◌, ℕ, List, [], map, Result, Ok, Err}
-use Rattle.std.specs.List.{fold, All, Contains}
+use Rattle.std.specs.Prelude.{◌≡◌, ℕ, List, [], Result, Ok, Err}
+use Rattle.std.specs.List.{fold, All}
 use Rattle.mi_volume.specs.Maps.{Map}
 use Rattle.mi_source.specs.Paths.{Files}
 use Rattle.mi_base.specs.declared.rec_error.RecFault.{RecFault}
@@ -24,7 +24,3 @@ after_segments files d segments = fold (λ e (s : Planned). after_script files e
 -- no segment has a record
 abbrev pub HaveNoRecord : List Planned → Type 0
 HaveNoRecord segments = All (λ s. s.records ≡ []) segments
-
--- all actions of the walk are begun, or those up to the end of one of its segments
-abbrev pub Reaches : ℕ → List Planned → ℕ → Type 0
-Reaches begun segments reached = (reached ≡ begun) ⊎ Contains (map (λ s. s.reached) segments) reached

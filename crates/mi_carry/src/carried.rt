@@ -1,11 +1,11 @@
 //! Carrying out a planned walk.
 
-ghost use Rattle.std.specs.Prelude.{◌≡◌, ◌≤◌, IsTrue, ◌↔◌, length};
+ghost use Rattle.std.specs.Prelude.{◌≡◌, ◌⊎◌, ◌≤◌, IsTrue, ◌↔◌, length};
 ghost use Rattle.std.specs.List.{All};
 ghost use Rattle.mi_volume.specs.State.{Passes, GoesOn};
 ghost use Rattle.mi_script.specs.Scripts.{touched_names};
 ghost use Rattle.mi_undo.specs.Names.{most_entries};
-ghost use Rattle.mi_undo.specs.Stands.{outside};
+ghost use Rattle.mi_undo.specs.Stands.{StandsFor, outside};
 ghost use Rattle.mi_undo.specs.Keeps.{IsFree, Each};
 ghost use Rattle.mi_undo.specs.Area.{AreOutside};
 ghost use Rattle.mi_undo.specs.Room.{NeverShort};
@@ -13,10 +13,11 @@ ghost use Rattle.mi_runner.specs.Records.{MayCarry, HasLength};
 ghost use Rattle.mi_model.specs.Causes.{BelowCount, SameCount};
 ghost use Rattle.mi_model.specs.Leaves.{Cleans};
 ghost use Rattle.mi_model.specs.Planning.{kind_by};
-ghost use Rattle.mi_carry.specs.Segments.{after_segments, HaveNoRecord, Reaches};
+ghost use Rattle.mi_carry.specs.Segments.{after_segments, HaveNoRecord};
 ghost use Rattle.mi_carry.specs.Causes.{IsWalkKind, Differs, Caused, Completes};
 ghost use Rattle.mi_carry.specs.Ends.{MayStand, AtExit, Reads, Ends};
 ghost use Rattle.mi_carry.specs.Halts.{unknown};
+ghost use Rattle.mi_carry.specs.Reached.{IsReached, HasBegunCommit};
 ghost use Rattle.mi_carry.specs.Rooms.{HasRoom};
 
 use crate::fall::{fall_back, give_up};
@@ -89,7 +90,8 @@ fn work<S: Source, V: Volume>(
     ensures ends { V.told → Ends S.told (V.state vol.old) (V.state vol.new) (V.state vol.old).held (after_segments (S.files src.old) (V.state vol.old).held parts.now) refusal result.kind }
     ensures caused { Caused (Differs S.told parts.now) (V.told → HasRoom (V.state vol.old) parts.now) (BelowCount (S.faults src.old) (S.faults src.new)) refusal begun result.reached (V.state vol.old).faults (V.state vol.new).faults result.kind }
     ensures recovers { V.told → HasRoom (V.state vol.old) parts.now → GoesOn (V.state vol.old) (V.state vol.new) (NeverShort (V.state vol.old).capacity) }
-    ensures reached { Reaches begun parts.now result.reached }
+    ensures reached { IsReached refusal begun parts.now result.reached result.kind }
+    ensures commit_begins { V.told → GoesOn (V.state vol.old) (V.state vol.new) (λ d. StandsFor (V.state vol.old).held d ⊎ HasBegunCommit begun parts.now result.reached result.kind) }
     ensures passes { Passes (V.state vol.old) (V.state vol.new) }
     ensures source_stays { S.files src.new ≡ S.files src.old }
     ensures source_counts { S.faults src.old ≤ S.faults src.new }
@@ -163,7 +165,8 @@ pub fn carry_out<S: Source, V: Volume>(
     ensures idle_source { HaveNoRecord segments.now → src.new ≡ src.old }
     ensures idle_answer { HaveNoRecord segments.now → result.kind ≡ kind_by refusal }
     ensures idle_reached { HaveNoRecord segments.now → result.reached ≡ begun }
-    ensures reached { Reaches begun segments.now result.reached }
+    ensures reached { IsReached refusal begun segments.now result.reached result.kind }
+    ensures commit_begins { V.told → GoesOn (V.state vol.old) (V.state vol.new) (λ d. StandsFor (V.state vol.old).held d ⊎ HasBegunCommit begun segments.now result.reached result.kind) }
     ensures passes { Passes (V.state vol.old) (V.state vol.new) }
     ensures source_stays { S.files src.new ≡ S.files src.old }
     ensures source_counts { S.faults src.old ≤ S.faults src.new }

@@ -1,7 +1,7 @@
 //! Carrying out the segments of a walk over an open rollback area.
 
-ghost use Rattle.std.specs.Prelude.{◌≡◌, ◌+◌, ◌≤◌, ◌<◌, ◌∷◌, ◌++◌, [], false, OnOk, IfErr, length, map, List, ℕ};
-ghost use Rattle.std.specs.List.{All, Contains};
+ghost use Rattle.std.specs.Prelude.{◌≡◌, ◌+◌, ◌≤◌, ◌<◌, ◌∷◌, ◌++◌, [], false, OnOk, IfErr, length, List, ℕ};
+ghost use Rattle.std.specs.List.{All};
 ghost use Rattle.std.specs.FinMap.{get};
 ghost use Rattle.mi_text.specs.Maps.{is_among};
 ghost use Rattle.mi_volume.specs.Maps.{Map, Fits};
@@ -18,6 +18,7 @@ ghost use Rattle.mi_model.specs.Causes.{BelowCount};
 ghost use Rattle.mi_carry.specs.Segments.{after_segments};
 ghost use Rattle.mi_carry.specs.Causes.{Differs, IsMetStop};
 ghost use Rattle.mi_carry.specs.Halts.{GoesAlong};
+ghost use Rattle.mi_carry.specs.Reached.{AtMetStop};
 ghost use Rattle.mi_carry.specs.Rooms.{IsRoomy, StaysRoomy};
 
 use crate::segment::Segment;
@@ -87,7 +88,7 @@ pub fn carry_parts<S: Source, V: Volume>(
     ensures roomy { V.told → (F : Map) → Works (V.state (volume area.old)) area.old.kept F → IsRoomy (V.state (volume area.old)) F parts.now → StaysRoomy (V.state (volume area.old)) (V.state (volume area.new)) F }
     ensures passes { Passes (V.state (volume area.old)) (V.state (volume area.new)) }
     ensures stopped { IfErr result (λ s. IsMetStop (Differs S.told parts.now) ((V.told → (F : Map) × Works (V.state (volume area.old)) area.old.kept F × IsRoomy (V.state (volume area.old)) F parts.now) → BelowCount (V.state (volume area.old)).faults (V.state (volume area.new)).faults) (BelowCount (S.faults src.old) (S.faults src.new)) s.why) }
-    ensures reached { IfErr result (λ s. Contains (map (λ p. p.reached) parts.now) s.reached) }
+    ensures reached { IfErr result (λ s. AtMetStop parts.now s.reached s.why) }
     ensures source_stays { S.files src.new ≡ S.files src.old }
     ensures source_counts { S.faults src.old ≤ S.faults src.new }
 {

@@ -1,18 +1,19 @@
 //! A whole walk over an open rollback area.
 
-ghost use Rattle.std.specs.Prelude.{◌≡◌, ◌≤◌, length};
+ghost use Rattle.std.specs.Prelude.{◌≡◌, ◌⊎◌, ◌≤◌, length};
 ghost use Rattle.std.specs.List.{All};
 ghost use Rattle.mi_volume.specs.Maps.{Map};
-ghost use Rattle.mi_volume.specs.State.{Passes};
+ghost use Rattle.mi_volume.specs.State.{Passes, GoesOn};
 ghost use Rattle.mi_script.specs.Scripts.{touched_names};
 ghost use Rattle.mi_undo.specs.Names.{most_entries};
-ghost use Rattle.mi_undo.specs.Stands.{outside};
+ghost use Rattle.mi_undo.specs.Stands.{StandsFor, outside};
 ghost use Rattle.mi_undo.specs.Area.{AreOutside, volume, IsFresh, IsLive, Works};
 ghost use Rattle.mi_runner.specs.Records.{MayCarry, HasLength};
 ghost use Rattle.mi_model.specs.Causes.{BelowCount};
-ghost use Rattle.mi_carry.specs.Segments.{after_segments, Reaches};
+ghost use Rattle.mi_carry.specs.Segments.{after_segments, HaveNoRecord};
 ghost use Rattle.mi_carry.specs.Causes.{Differs};
-ghost use Rattle.mi_carry.specs.Halts.{Goes, IfBack, HaltCaused, reached_by};
+ghost use Rattle.mi_carry.specs.Halts.{Goes, IfBack, HaltCaused};
+ghost use Rattle.mi_carry.specs.Reached.{first_reached, last_reached, HaltReached, HaltHasBegunCommit};
 ghost use Rattle.mi_carry.specs.Rooms.{IsRoomy, EndsRoomy};
 
 use crate::parts::carry_parts;
@@ -26,7 +27,7 @@ use std::alloc::Global;
 
 /// How many actions are begun at the end of the first segment.
 pub fn first_reached(parts: &[Segment], begun: u64) -> u64
-    ensures { Reaches begun parts.now result }
+    ensures { result ≡ first_reached begun parts.now }
 {
     match parts.first() {
         Some(part) => part.reached(),
@@ -36,7 +37,7 @@ pub fn first_reached(parts: &[Segment], begun: u64) -> u64
 
 /// How many actions are begun at the end of the last segment.
 fn last_reached(parts: &[Segment], begun: u64) -> u64
-    ensures { Reaches begun parts.now result }
+    ensures { result ≡ last_reached begun parts.now }
 {
     match parts.last() {
         Some(part) => part.reached(),
@@ -66,7 +67,8 @@ pub fn carry_walk<S: Source, V: Volume>(
     ensures roomy { V.told → (F : Map) → Works (V.state (volume area.old)) area.old.kept F → IsRoomy (V.state (volume area.old)) F parts.now → EndsRoomy (V.state (volume area.old)) (V.state (volume area.new)) F result }
     ensures passes { Passes (V.state (volume area.old)) (V.state (volume area.new)) }
     ensures caused { HaltCaused (Differs S.told parts.now) (V.told → (F : Map) × Works (V.state (volume area.old)) area.old.kept F × IsRoomy (V.state (volume area.old)) F parts.now) (BelowCount (S.faults src.old) (S.faults src.new)) refusal begun (V.state (volume area.old)).faults (V.state (volume area.new)).faults result }
-    ensures reached { Reaches begun parts.now (reached_by begun result) }
+    ensures reached { ¬ HaveNoRecord parts.now → HaltReached refusal begun parts.now result }
+    ensures commit_begins { V.told → (F : Map) → Works (V.state (volume area.old)) area.old.kept F → GoesOn (V.state (volume area.old)) (V.state (volume area.new)) (λ d. StandsFor F d ⊎ HaltHasBegunCommit begun parts.now result) }
     ensures source_stays { S.files src.new ≡ S.files src.old }
     ensures source_counts { S.faults src.old ≤ S.faults src.new }
 {

@@ -42,16 +42,29 @@ impl Found {
 /// What was found by answer; an answer ends with a colon, so that lines are in byte order.
 pub type Findings = BTreeMap<Vec<u8>, Found>;
 
+/// What is wrong with a run of a trial.
+#[derive(Clone, Copy)]
+pub struct Wrong {
+    /// Its log isn't a front of the log without faults.
+    pub log: bool,
+    /// The volume's count of faults isn't that of the calls that failed, or what a suspended run says of it is out of order.
+    pub counts: bool,
+}
+
+fn push_if(answer: &mut Vec<u8>, said: bool, words: &[u8]) -> Result<(), Ill> {
+    if said {
+        answer.extend_from_slice(words)?;
+    }
+    Ok(())
+}
+
 /// The answer of a run as trials print it.
-pub fn answer_of(alloc: Global, told: &Told, wrong: bool) -> Result<Vec<u8>, Ill> {
+pub fn answer_of(alloc: Global, told: &Told, wrong: Wrong) -> Result<Vec<u8>, Ill> {
     let mut answer = Vec::new(alloc);
     push_escaped(&mut answer, told.text.as_slice())?;
-    if told.marks.log_lost {
-        answer.extend_from_slice(b", log lost")?;
-    }
-    if wrong {
-        answer.extend_from_slice(b", log wrong")?;
-    }
+    push_if(&mut answer, told.marks.log_lost, b", log lost")?;
+    push_if(&mut answer, wrong.log, b", log wrong")?;
+    push_if(&mut answer, wrong.counts, b", counts wrong")?;
     answer.push(b':')?;
     Ok(answer)
 }

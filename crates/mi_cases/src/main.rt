@@ -9,6 +9,7 @@ mod entry_read;
 mod found;
 mod held;
 mod ill;
+mod lies;
 mod machine;
 mod orders;
 mod printed;

@@ -8,7 +8,7 @@ use crate::source::Files;
 use crate::told::{Told, told_by};
 use mi_engine::{Answer, run};
 use mi_source::{MemSink, MemSource};
-use mi_volume::MemVolume;
+use mi_volume::{Liar, MemVolume, Volume};
 use std::alloc::Global;
 
 /// The room of the sink.
@@ -73,12 +73,12 @@ pub fn opened(alloc: Global, setting: Setting<'_>, faulty: Faulty<'_>) -> Result
     Ok(recorder(alloc, inner))
 }
 
-/// The call of the engine. It stands alone, since what it promises makes each further step dear.
-fn answer_of(
+/// The call of the engine. It is a function of its own, since what it promises makes each further step dear.
+fn answer_of<V: Volume>(
     alloc: Global,
     order: &Order,
     source: &mut CountedSource,
-    volume: &mut Recorder,
+    volume: &mut V,
     sink: &mut CountedSink,
 ) -> Answer {
     run(
@@ -91,11 +91,11 @@ fn answer_of(
     )
 }
 
-fn told_over(
+fn told_over<V: Volume>(
     alloc: Global,
     order: &Order,
     source: &mut CountedSource,
-    volume: &mut Recorder,
+    volume: &mut V,
     sink: &mut CountedSink,
 ) -> Result<Told, Ill> {
     let answer = answer_of(alloc, order, source, volume, sink);
@@ -119,4 +119,11 @@ pub fn carried(
         sink: sink.number,
     };
     Ok((told, calls))
+}
+
+/// Makes a run on a volume that lies, and says what it tells.
+pub fn lied(alloc: Global, order: &Order, files: &Files, volume: &mut Liar) -> Result<Told, Ill> {
+    let mut source = source_of(alloc, files, &[])?;
+    let mut sink = sink_of(alloc, &[])?;
+    told_over(alloc, order, &mut source, volume, &mut sink)
 }

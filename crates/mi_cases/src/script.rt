@@ -4,6 +4,7 @@ use crate::entry_read::{entry_of, field, number_at, text_at};
 use crate::found::{Findings, push_findings};
 use crate::held::{Held, IMAGES};
 use crate::ill::Ill;
+use crate::lies::Lies;
 use crate::machine::Machine;
 use crate::orders::{Order, order_of, recovery};
 use crate::printed::{names_of, push_called, push_count, push_held, push_machine, push_told};
@@ -21,6 +22,7 @@ use mi_text::{Bytes, Name};
 use mi_volume::Choice;
 use std::alloc::Global;
 use std::collections::BTreeMap;
+use std::mem;
 
 /// A script between two of its lines.
 #[derive(Drop)]
@@ -29,6 +31,7 @@ pub struct Script {
     files: Files,
     machine: Machine,
     waiting: Waiting,
+    lies: Lies,
 }
 
 /// The fields from a place on.
@@ -175,6 +178,7 @@ fn begun(rt: HostRuntime) -> Result<Script, Ill> {
         machine: Machine::new(rt.alloc())?,
         files: Files::new(rt.alloc()),
         waiting: Waiting::new(rt.alloc()),
+        lies: Lies::new(rt.alloc()),
         rt,
     })
 }
@@ -332,6 +336,21 @@ impl Script {
         push_trials(alloc, out, &order, self.setting(held.as_slice()), which)
     }
 
+    /// A run over a volume that lies. Nothing is known of what it answers, but that it does.
+    fn print_lied(
+        &mut self,
+        alloc: Global,
+        fields: &[Vec<u8>],
+        out: &mut Vec<u8>,
+    ) -> Result<(), Ill> {
+        let order = order_of(alloc, from(fields, 1))?;
+        let lies = mem::replace(&mut self.lies, Lies::new(alloc));
+        let told = lies.run(alloc, &order, &self.files)?;
+        drop(told);
+        out.extend_from_slice(b"returned\n")?;
+        Ok(())
+    }
+
     fn print_images(&mut self, alloc: Global, out: &mut Vec<u8>) -> Result<(), Ill> {
         let order = recovery(alloc)?;
         for (name, choice) in IMAGES {
@@ -370,6 +389,7 @@ impl Script {
         match verb {
             "run" => self.print_run(alloc, fields, false, out),
             "log" => self.print_run(alloc, fields, true, out),
+            "lies" => self.print_lied(alloc, fields, out),
             "images" => self.print_images(alloc, out),
             "stops" => self.print_trials(alloc, verb, from(fields, 1), out),
             "faults" => self.print_trials(alloc, text_at(fields, 1)?, from(fields, 2), out),
@@ -388,6 +408,7 @@ impl Script {
                 self.change(alloc, verb, fields)
             }
             "fail" | "pass" | "fail-source" | "fail-sink" => self.wait(alloc, verb, fields),
+            "lie-size" | "lie-read" | "lie-name" => self.lies.add(alloc, verb, fields),
             _ => Err(Ill::Bad),
         }
     }
@@ -412,6 +433,7 @@ impl Script {
             | "appended"
             | "run"
             | "log"
+            | "lies"
             | "images"
             | "stops"
             | "faults" => {

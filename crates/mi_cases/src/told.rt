@@ -14,6 +14,13 @@ pub struct Full {
     pub free: u64,
 }
 
+/// What a suspended run says of the volume's count of faults: when it began to write, and when it went back.
+#[derive(Clone, Copy)]
+pub struct PauseCounts {
+    pub begun: u64,
+    pub again: u64,
+}
+
 /// What an answer is, beside its text.
 #[derive(Clone, Copy)]
 pub struct Marks {
@@ -22,7 +29,8 @@ pub struct Marks {
     pub log_lost: bool,
     /// Whether a device's fault made the answer.
     pub by_device: bool,
-    pub is_suspended: bool,
+    /// The counts of a suspended run.
+    pub paused: Option<PauseCounts>,
     pub is_recovered: bool,
     /// The room that it asked for in vain.
     pub full: Option<Full>,
@@ -43,6 +51,16 @@ fn is_by_device(kind: &Kind) -> bool {
     )
 }
 
+fn paused_by(kind: &Kind) -> Option<PauseCounts> {
+    match kind {
+        Kind::Suspended(pause) => Some(PauseCounts {
+            begun: pause.begun,
+            again: pause.again,
+        }),
+        _ => None,
+    }
+}
+
 fn full_of(kind: &Kind) -> Option<Full> {
     match kind {
         Kind::Refused(Cause::Full(need, free)) => Some(Full {
@@ -59,7 +77,7 @@ fn marks_of(answer: &Answer) -> Marks {
         reached: answer.reached,
         log_lost: answer.log_lost,
         by_device: is_by_device(&answer.kind),
-        is_suspended: matches!(answer.kind, Kind::Suspended(_)),
+        paused: paused_by(&answer.kind),
         is_recovered: matches!(answer.kind, Kind::Recovered(_)),
         full: full_of(&answer.kind),
     }

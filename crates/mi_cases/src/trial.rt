@@ -1,14 +1,14 @@
 //! Runs that are made over and over, with calls of the devices failing, and what is found behind them.
 
 use crate::device::Recorder;
-use crate::found::{Findings, Found, answer_of, note};
+use crate::found::{Findings, Found, Wrong, answer_of, note};
 use crate::held::{Faulty, Held, IMAGES, SOUND, held_of, is_area, key_of};
 use crate::ill::Ill;
 use crate::machine::held_in;
 use crate::orders::{Order, recovery};
 use crate::runs::{Calls, Faults, Setting, carried, opened};
 use crate::told::Told;
-use mi_volume::{Choice, MemVolume};
+use mi_volume::{Choice, MemVolume, Volume};
 use std::alloc::Global;
 use std::collections::BTreeMap;
 
@@ -232,7 +232,7 @@ fn recover_images_stopped(
 
 /// What the volume reads as at the end of a run, where that is asked for.
 fn read_found(alloc: Global, bench: &Bench, told: &Told, volume: &MemVolume) -> Result<Found, Ill> {
-    if told.marks.is_suspended || bench.had_area {
+    if told.marks.paused.is_some() || bench.had_area {
         return Ok(Found::NOTHING);
     }
     let held = held_in(alloc, volume, Choice::New)?;
@@ -259,6 +259,30 @@ fn found_behind(
 /// Whether a log isn't a front of the log without faults.
 fn is_wrong(bench: &Bench, told: &Told) -> bool {
     !bench.log.as_slice().starts_with(told.log.as_slice())
+}
+
+/// How many of the calls that a run made of its volume were made to fail.
+fn failed_of(faulty: Faulty<'_>, made: u64) -> u64 {
+    let mut failed = match faulty.from {
+        Some(from) => made.saturating_sub(from),
+        None => 0,
+    };
+    for number in faulty.list {
+        if *number < made {
+            failed = failed.saturating_add(1);
+        }
+    }
+    failed
+}
+
+/// Whether a volume that had no fault before a run doesn't count those calls that failed, or a suspended run doesn't say in order
+/// when it began to write, when it went back, and that a call failed after that.
+fn miscounts(told: &Told, failed: u64, count: u64) -> bool {
+    let is_out_of_order = match told.marks.paused {
+        Some(pause) => pause.begun > pause.again || pause.again >= count,
+        None => false,
+    };
+    count != failed || is_out_of_order
 }
 
 /// Which calls a trial is of.
@@ -303,7 +327,11 @@ fn attempt_on(
     if attempt.last < made {
         let deep = attempt.deep;
         let found = found_behind(alloc, bench, tried.setting, &told, deep, &volume.inner)?;
-        let wrong = attempt.device == Device::Sink && is_wrong(bench, &told);
+        let failed = failed_of(attempt.faults.volume, calls.volume);
+        let wrong = Wrong {
+            log: attempt.device == Device::Sink && is_wrong(bench, &told),
+            counts: miscounts(&told, failed, volume.inner.faults()),
+        };
         note(findings, answer_of(alloc, &told, wrong)?, found)?;
     }
     Ok(made)

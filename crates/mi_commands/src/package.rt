@@ -27,7 +27,7 @@ ghost use Rattle.mi_world.specs.Seen.{Starts};
 use crate::stop::Stop;
 use mi_base::Cause;
 use mi_image::Image;
-use mi_plain::{lawful_packages_have_codes, walks_are_plain};
+use mi_laws::{lawful_packages_have_codes, walks_are_plain};
 use mi_plan::{WalkError, WalkPlan, plan_walk};
 use mi_props::PropError;
 use mi_schema::{Package, values_stand};

@@ -1,4 +1,15 @@
-//! Directories as they stand.
+//! Directories: the target and the source of each row of the Directory table.
+//!
+//! - Targets are kept: each is at most 259 bytes long, so what `resolve` and `Dirs` hold is linear
+//!   in the bytes of the rows and of what they are given with.
+//! - Sources aren't kept but made when they are asked for, from the names of the rows up to the
+//!   root row. In a chain in which each row is below the one before, the sources of all rows
+//!   together would take the square of the table.
+//! - Each row keeps the next one above it that has a name of its own in the source. So one call of
+//!   `Dirs::source` takes time in proportion to the source that it makes, however many rows with
+//!   the name `.` are between. Who reads files asks once for each directory, and not for each file.
+//! - `Dirs::set` makes all targets anew, in time proportional to the table: a custom action of type
+//!   35 sets the properties of all directories anew as well.
 
 ghost use Rattle.std.specs.Prelude.{◌≡◌, ◌↔◌, None, Some, All, IfOk, OnOk, OnErr, IsSome, IfSome, map};
 ghost use Rattle.std.specs.Option.{option_copied};

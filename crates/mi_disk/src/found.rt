@@ -3,6 +3,7 @@
 use crate::trouble::Trouble;
 use std::fs::{File, Files, Metadata};
 use std::io::ErrorKind;
+use std::os::unix::fs::MetadataExt;
 use std::{fs, io};
 
 /// What stands at a path. A link is never followed.
@@ -10,17 +11,29 @@ use std::{fs, io};
 pub enum Found {
     /// Nothing.
     Nothing,
-    /// A plain file of so many bytes.
-    File(u64),
+    /// A plain file.
+    File(Plain),
     /// A plain folder.
     Folder,
     /// A link, a pipe, a device.
     Other,
 }
 
+/// A plain file.
+#[derive(Clone, Copy, PartialEq, Eq)]
+pub struct Plain {
+    /// Its bytes.
+    pub length: u64,
+    /// Whether it has other names, too: hard links. Who writes it in place writes what stands there.
+    pub is_linked: bool,
+}
+
 fn found_of(metadata: &Metadata) -> Found {
     if metadata.is_file() {
-        Found::File(metadata.len())
+        Found::File(Plain {
+            length: metadata.len(),
+            is_linked: metadata.nlink() > 1,
+        })
     } else if metadata.is_dir() {
         Found::Folder
     } else {
@@ -52,13 +65,13 @@ pub fn look_through<F: Files>(rt: &F, path: &str) -> Result<Found, Trouble> {
     }
 }
 
-/// The length of the plain file that was found, and None where nothing was; anything else isn't a volume's, and is never
-/// opened, written or taken away.
-pub fn file_length(found: Found) -> Result<Option<u64>, Trouble> {
+/// The plain file that was found, and None where nothing was; anything else isn't a volume's, and is never opened, written
+/// or taken away.
+pub fn plain_file(found: Found) -> Result<Option<Plain>, Trouble> {
     match found {
         Found::Nothing => Ok(None),
-        Found::File(length) => Ok(Some(length)),
-        Found::Folder | Found::Other => Err(Trouble::Failed),
+        Found::File(plain) => Ok(Some(plain)),
+        Found::Folder | Found::Other => Err(Trouble::Strange),
     }
 }
 
@@ -67,7 +80,7 @@ pub fn is_folder<F: Files>(rt: &F, path: &str) -> Result<bool, Trouble> {
     match look(rt, path)? {
         Found::Nothing => Ok(false),
         Found::Folder => Ok(true),
-        Found::File(_) | Found::Other => Err(Trouble::Failed),
+        Found::File(_) | Found::Other => Err(Trouble::Strange),
     }
 }
 

@@ -2,6 +2,7 @@
 //! What the system does is trusted; few of these calls have clauses, on lengths.
 #![tactic(auto)]
 
+mod changes;
 mod disk;
 mod found;
 mod levels;
@@ -9,12 +10,13 @@ mod listing;
 mod names;
 mod order;
 mod reading;
+mod replacing;
 mod trouble;
 mod walk;
 mod writing;
 
 pub use disk::Disk;
-pub use found::{Found, Lockable, look_through};
+pub use found::{Found, Lockable, Plain, look_through};
 pub use listing::{Folders, Listed};
 pub use names::LONGEST_NAME;
 pub use order::sort_names;

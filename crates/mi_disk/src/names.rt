@@ -20,6 +20,12 @@ pub const LONGEST_PATH: usize = 2_068;
 // The digits of a part.
 const PART_DIGITS: usize = 200;
 
+// What stands behind each part but the last.
+const BETWEEN: &str = "+/";
+
+// The bytes of a part and of what stands behind it.
+const WHOLE_PART: usize = 202;
+
 // The digit of a value below 16.
 fn digit_of(value: u8) -> u8
     requires { value < 16 }
@@ -50,7 +56,7 @@ pub fn push_digits(path: &mut String, part: &[u8]) -> Result<(), Trouble>
     put_digits(&mut digits, part);
     match str::from_utf8(&digits[..2 * part.len()]) {
         Ok(text) => Ok(path.push_str(text)?),
-        Err(_) => Err(Trouble::NoText),
+        Err(_) => Err(Trouble::Failed),
     }
 }
 
@@ -88,5 +94,30 @@ pub fn push_bytes(name: &mut Vec<u8>, digits: &[u8]) -> Result<bool, AllocError>
         return Ok(false);
     }
     name.extend_from_slice(&bytes[..digits.len() / 2])?;
+    Ok(true)
+}
+
+/// Adds the path of a name below the folder.
+pub fn push_path(path: &mut String, name: &str) -> Result<(), Trouble> {
+    for (number, part) in name.as_bytes().chunks(PART_BYTES).enumerate() {
+        if number > 0 {
+            path.push_str(BETWEEN)?;
+        }
+        push_digits(path, part)?;
+    }
+    Ok(())
+}
+
+/// Adds the bytes of the name whose path below the folder this is; false where it is none's.
+pub fn push_name(name: &mut Vec<u8>, path: &[u8]) -> Result<bool, AllocError> {
+    if path.len() > LONGEST_PATH {
+        return Ok(false);
+    }
+    for part in path.chunks(WHOLE_PART) {
+        let digits = part.strip_suffix(BETWEEN.as_bytes()).unwrap_or(part);
+        if !push_bytes(name, digits)? {
+            return Ok(false);
+        }
+    }
     Ok(true)
 }

@@ -8,12 +8,12 @@ use std::io::ErrorKind;
 /// Why a call of the system has failed.
 #[derive(Clone, Copy)]
 pub enum Trouble {
-    /// There is no such file or folder.
+    /// There is no such file or folder, or there can't be, since the path or a name in it is too long for the system.
     Absent,
     /// The system or this process has no memory for it.
     NoMemory,
-    /// What is listed has a path that isn't text.
-    NoText,
+    /// What is there isn't a plain file or a plain folder, whichever is wanted.
+    Strange,
     /// Any other failure.
     Failed,
 }
@@ -21,9 +21,11 @@ pub enum Trouble {
 impl From<io::Error> for Trouble {
     fn from(error: io::Error) -> Trouble {
         match error.kind() {
-            ErrorKind::NotFound | ErrorKind::NotADirectory => Trouble::Absent,
+            // The last is ENAMETOOLONG.
+            ErrorKind::NotFound | ErrorKind::NotADirectory | ErrorKind::InvalidFilename => {
+                Trouble::Absent
+            }
             ErrorKind::OutOfMemory => Trouble::NoMemory,
-            ErrorKind::InvalidFilename => Trouble::NoText,
             _ => Trouble::Failed,
         }
     }

@@ -2,7 +2,7 @@
 
 use crate::trouble::Trouble;
 use std::fs::{File, Files, OpenFile, OpenOptions};
-use std::io::{ErrorKind, Read, Seek, SeekFrom, Write};
+use std::io::{ErrorKind, Write};
 use std::{fs, io};
 
 /// Gives a file exactly these bytes, in place: it is never longer than before or than they are. A file that isn't there
@@ -24,15 +24,16 @@ pub fn put_file<F: Files>(
     Ok(file)
 }
 
-/// Adds bytes at the end of a file, which is made where it isn't there yet. Answers the file, open at its end.
+/// Adds bytes at the end of a file. One that is new is made, and nothing else may stand there. Answers the file, open at its
+/// end.
 pub fn append_file<F: Files>(
     rt: &F,
     path: &str,
-    before: Option<u64>,
+    is_new: bool,
     bytes: &[u8],
 ) -> Result<F::File, Trouble> {
     let mut how = OpenOptions::new();
-    how.append(true).create_new(before.is_none());
+    how.append(true).create_new(is_new);
     let mut file = how.open(rt, path)?;
     file.write_all(bytes)?;
     Ok(file)
@@ -44,20 +45,13 @@ pub fn write_on<F: Write>(file: &mut F, bytes: &[u8]) -> Result<(), Trouble> {
     Ok(())
 }
 
-/// Writes the first byte of a file that is there. Answers the file, open behind it.
+/// Writes the first byte of a file that is there, in place. Answers the file, open behind it.
 pub fn mark_file<F: Files>(rt: &F, path: &str, byte: u8) -> Result<F::File, Trouble> {
     let mut how = OpenOptions::new();
     how.write(true);
     let mut file = how.open(rt, path)?;
     file.write_all(&[byte])?;
     Ok(file)
-}
-
-/// Makes an empty file where nothing stands.
-pub fn make_file<F: Files>(rt: &F, path: &str) -> Result<(), Trouble> {
-    let file = append_file(rt, path, None, &[])?;
-    drop(file);
-    Ok(())
 }
 
 /// Makes a folder where nothing stands.
@@ -135,42 +129,4 @@ pub fn sync_above<F: Files>(rt: &F, path: &str) -> Result<(), Trouble> {
         Ok(file) => unless_beyond(file.sync_all()),
         Err(error) => unless_beyond(Err(error)),
     }
-}
-
-/// The bytes of a file that are written anew at once.
-const RENEWED: usize = 4_096;
-
-// Writes a piece of a file anew with the bytes that it reads as, and says how many these are.
-fn renew_piece<F: Read + Write + Seek>(
-    file: &mut F,
-    at: u64,
-    piece: &mut [u8],
-) -> Result<usize, Trouble> {
-    file.seek(SeekFrom::Start(at))?;
-    let count = file.read(piece)?;
-    file.seek(SeekFrom::Start(at))?;
-    file.write_all(&piece[..count])?;
-    Ok(count)
-}
-
-fn renew_open<F: Read + Write + Seek + OpenFile>(file: &mut F, length: u64) -> Result<(), Trouble> {
-    let mut piece = [0u8; RENEWED];
-    let mut at = 0u64;
-    for _ in 0..length {
-        let count = renew_piece(file, at, &mut piece)?;
-        if count == 0 {
-            break;
-        }
-        at = at.saturating_add(count as u64);
-    }
-    sync_open(file)
-}
-
-/// Writes a file of this length anew with the bytes that it reads as, and syncs it. After a sync that failed the system
-/// may have dropped what reads still give, and would answer the next sync as good.
-pub fn renew_file<F: Files>(rt: &F, path: &str, length: u64) -> Result<(), Trouble> {
-    let mut how = OpenOptions::new();
-    how.read(true).write(true);
-    let mut file = how.open(rt, path)?;
-    renew_open(&mut file, length)
 }

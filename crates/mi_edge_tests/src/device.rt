@@ -1,4 +1,5 @@
-//! A disk in memory, which fails and loses its power when it is told to.
+//! A disk in memory, which fails and loses its power when it is told to. A cut of the power may tear a file that was written
+//! since its last sync, also if it was overwritten with the same bytes; of a renaming it leaves all or nothing.
 
 use std::alloc::{AllocError, Global};
 use std::collections::BTreeMap;
@@ -13,9 +14,9 @@ pub enum Choice {
     Old,
     /// What reads gave.
     New,
-    /// The first half of what reads gave.
+    /// The first half of what reads gave, of a file that was written since.
     Torn,
-    /// Zeros in place of the bytes.
+    /// Zeros in place of the bytes, of a file that was written since.
     Zeroed,
     /// Names that were made or taken away since are gone.
     Gone,
@@ -101,6 +102,8 @@ struct Node {
 struct Entry {
     now: Option<usize>,
     disk: Option<usize>,
+    // Whether the one was renamed over the other: then a cut of the power leaves either.
+    is_renamed: bool,
 }
 
 /// A disk in memory. Its calls are numbered from 0.
@@ -114,6 +117,8 @@ pub struct Device {
     above: Option<Above>,
     // Whether a call has failed as it was told, and not as one that is to be tried again.
     failed: bool,
+    // The paths of files that were opened to be written, and those over which a file was renamed, in their order.
+    written: Vec<String>,
 }
 
 /// The number of the folder in which all others stand.
@@ -172,14 +177,19 @@ impl Node {
         }
     }
 
+    // Whether it was written since the last sync, or has lost what was.
+    fn is_unsynced(&self) -> bool {
+        self.now != self.disk || self.fresh.contains(&true)
+    }
+
     // The bytes that the disk has after the power was cut.
     fn left(&self, alloc: Global, choice: Choice) -> Result<Vec<u8>, AllocError> {
         match choice {
             Choice::Old => Vec::from_slice(alloc, self.disk.as_slice()),
-            Choice::Torn if self.now != self.disk => {
+            Choice::Torn if self.is_unsynced() => {
                 Vec::from_slice(alloc, &self.now[..self.now.len() / 2])
             }
-            Choice::Zeroed if self.now != self.disk => zeros(alloc, self.now.len()),
+            Choice::Zeroed if self.is_unsynced() => zeros(alloc, self.now.len()),
             _ => Vec::from_slice(alloc, self.now.as_slice()),
         }
     }
@@ -198,8 +208,19 @@ impl Entry {
     fn left(self, choice: Choice) -> Option<usize> {
         match choice {
             Choice::Old => self.disk,
+            Choice::Gone if self.is_renamed => self.disk,
             Choice::Gone if self.now != self.disk => None,
             _ => self.now,
+        }
+    }
+
+    // The entry after a node was renamed over what it names.
+    fn renamed(self, node: usize) -> Entry {
+        let is_durable = self.is_renamed || self.now == self.disk;
+        Entry {
+            now: Some(node),
+            disk: self.disk,
+            is_renamed: is_durable && self.now.is_some(),
         }
     }
 }
@@ -215,6 +236,7 @@ impl Device {
             trip: None,
             above: None,
             failed: false,
+            written: Vec::new(alloc),
         };
         device.push_folder(".")?;
         Ok(device)
@@ -232,7 +254,22 @@ impl Device {
         device.calls = 0;
         device.trip = trip;
         device.failed = false;
+        device.written.clear();
         Ok(device)
+    }
+
+    /// The disk as it is, but that the file at a path, where there is one, has no bytes.
+    pub fn with_empty(&self, path: &str) -> Result<Device, AllocError> {
+        let mut device = self.again(None)?;
+        if let Some(node) = device.find(path) {
+            device.shorten(node, 0);
+        }
+        Ok(device)
+    }
+
+    /// The paths of files that were opened to be written, and those over which a file was renamed, in their order.
+    pub fn written(&self) -> &[String] {
+        self.written.as_slice()
     }
 
     /// The disk as it is, for another process, to which the folder above all others fails so.
@@ -282,6 +319,7 @@ impl Device {
         let entry = Entry {
             now: Some(number),
             disk: Some(number),
+            is_renamed: false,
         };
         self.entries
             .insert(String::from_str(self.alloc, path)?, entry)?;
@@ -365,6 +403,7 @@ impl Device {
         let entry = Entry {
             now: Some(number),
             disk,
+            is_renamed: false,
         };
         self.entries
             .insert(String::from_str(self.alloc, path)?, entry)?;
@@ -374,6 +413,9 @@ impl Device {
     /// Opens a file or a folder, and answers its number.
     pub fn open(&mut self, how: &OpenOptions, path: &str) -> io::Result<usize> {
         self.begin()?;
+        if how.asks_write() || how.asks_append() {
+            self.written.push(String::from_str(self.alloc, path)?)?;
+        }
         match self.find(path) {
             Some(_) if how.asks_create_new() => Err(io::Error::from(ErrorKind::AlreadyExists)),
             Some(node) => {
@@ -465,10 +507,40 @@ impl Device {
         match self.entries.get_mut(path) {
             Some(entry) => {
                 entry.now = None;
+                entry.is_renamed = false;
                 Ok(())
             }
             None => Err(io::Error::from(ErrorKind::NotFound)),
         }
+    }
+
+    // Makes a path name a node, in place of the one that it names.
+    fn name_node(&mut self, path: &str, node: usize) -> io::Result<()> {
+        let before = match self.entries.get(path) {
+            Some(entry) => *entry,
+            None => Entry {
+                now: None,
+                disk: None,
+                is_renamed: false,
+            },
+        };
+        self.entries
+            .insert(String::from_str(self.alloc, path)?, before.renamed(node))?;
+        self.written.push(String::from_str(self.alloc, path)?)?;
+        Ok(())
+    }
+
+    /// Renames a file over what stands there.
+    pub fn rename(&mut self, from: &str, to: &str) -> io::Result<()> {
+        self.begin()?;
+        let node = self.found(from)?;
+        self.found(parent_of(to))?;
+        self.name_node(to, node)?;
+        if let Some(entry) = self.entries.get_mut(from) {
+            entry.now = None;
+            entry.is_renamed = false;
+        }
+        Ok(())
     }
 
     /// The names that stand directly in a folder, each ended by a NUL.
@@ -493,6 +565,7 @@ fn sync_entries(entries: &mut BTreeMap<String, Entry>, folder: &str) {
     for (path, entry) in entries.iter_mut() {
         if parent_of(path.as_str()) == folder {
             entry.disk = entry.now;
+            entry.is_renamed = false;
         }
     }
 }

@@ -198,8 +198,11 @@ impl Files for Fake {
         Err(io::Error::from(ErrorKind::Unsupported))
     }
 
-    fn rename(&self, _from: &str, _to: &str) -> io::Result<()> {
-        Err(io::Error::from(ErrorKind::Unsupported))
+    fn rename(&self, from: &str, to: &str) -> io::Result<()> {
+        match self.device.try_borrow_mut() {
+            Ok(mut device) => device.rename(from, to),
+            Err(_) => Err(in_use()),
+        }
     }
 
     fn remove_file(&self, path: &str) -> io::Result<()> {

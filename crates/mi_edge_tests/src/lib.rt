@@ -10,6 +10,10 @@ mod folder;
 #[cfg(test)]
 mod known;
 #[cfg(test)]
+mod link_tests;
+#[cfg(test)]
+mod many_files;
+#[cfg(test)]
 mod many_names;
 #[cfg(test)]
 mod power_tests;

@@ -13,6 +13,9 @@ use std::test::Fail;
 /// The folder, in a folder that isn't there either.
 const FOLDER: &str = "a/m";
 
+/// The list of what may not be synced.
+const LIST: &str = "a/m/unsynced";
+
 /// What a process does at the name of a number, or a sync, or a listing.
 #[derive(Clone, Copy)]
 enum Deed {
@@ -285,7 +288,7 @@ fn opened(alloc: Global, device: Device) -> Result<Device, Wrong> {
     Ok(fake.device()?)
 }
 
-/// What was synced outlives a cut of the power at a call of the opening of the volume.
+/// What was synced outlives a stop and a cut of the power at a call of the opening of the volume.
 fn outlives_cut(
     alloc: Global,
     device: &Device,
@@ -293,12 +296,10 @@ fn outlives_cut(
     call: usize,
 ) -> Result<(), Wrong> {
     let left = opened(alloc, device.again(Some((call, Trip::Stop)))?)?;
-    let choice = if call % 2 == 0 {
-        Choice::Old
-    } else {
-        Choice::Mixed(call)
-    };
-    read_all(alloc, Fake::new(alloc, left.cut(choice)?)?, names)?;
+    for choice in [Choice::Old, Choice::Torn, Choice::Mixed(call)] {
+        read_all(alloc, Fake::new(alloc, left.cut(choice)?)?, names)?;
+    }
+    read_all(alloc, Fake::new(alloc, left.again(None)?)?, names)?;
     Ok(())
 }
 
@@ -395,6 +396,8 @@ fn trial(alloc: Global, history: &History, trip: Option<(usize, Trip)>) -> Resul
             outlives(alloc, &device, &names, &CHOICES)?;
             if is_opening_cut(history, trip) {
                 outlives_opening(alloc, &device, &names)?;
+                // Where the list has no names, that of each may have changed.
+                outlives_opening(alloc, &device.with_empty(LIST)?, &names)?;
             }
             goes_on(alloc, &device, history)?;
         }

@@ -6,7 +6,7 @@ use crate::folder::{file_in, folder_of, write_file};
 use crate::known::Wrong;
 use mi_edges::FolderSource;
 use mi_source::Source;
-use std::alloc::Global;
+use std::alloc::{AllocError, Global};
 use std::fs;
 use std::os::unix::fs::symlink;
 use std::test::Fail;
@@ -38,6 +38,22 @@ fn has_nothing<S: Source>(alloc: Global, source: &mut S, path: &str) -> bool {
         Ok(names) => sized && names.is_empty(),
         Err(_) => false,
     }
+}
+
+/// Whether the source has nothing at paths that are too long for the system, in a part and as a whole.
+fn has_nothing_long<S: Source>(
+    alloc: Global,
+    source: &mut S,
+    folder: &str,
+) -> Result<bool, AllocError> {
+    let part = format!(in alloc; "{folder}/{}", "p".repeat(alloc, 256)?)?;
+    let below = format!(in alloc; "{}/one", part.as_str())?;
+    let whole = format!(in alloc; "{folder}{}", "/p".repeat(alloc, 2_100)?)?;
+    Ok(
+        has_nothing(alloc, source, part.as_str())
+            && has_nothing(alloc, source, below.as_str())
+            && has_nothing(alloc, source, whole.as_str()),
+    )
 }
 
 /// Makes a link directly in a folder.
@@ -135,6 +151,7 @@ fn a_source_has_the_files_of_a_folder(rt: HostRuntime) -> Result<(), Fail> {
     assert!(rt; has_digits(rt.alloc(), &mut source, folder.as_str(), linked.as_str()));
     assert!(rt; has_nothing(rt.alloc(), &mut source, "none/none"));
     assert!(rt; has_nothing(rt.alloc(), &mut source, looped.as_str()));
+    assert!(rt; has_nothing_long(rt.alloc(), &mut source, folder.as_str())?);
     assert_eq!(rt; first_wrong(rt.alloc()), Ok(None));
     assert!(rt; fs::remove_dir_all(&rt, folder.as_str()).is_ok());
     Ok(())

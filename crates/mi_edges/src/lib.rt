@@ -3,8 +3,10 @@
 //! clauses of the traits on counts, on names and on lengths.
 #![tactic(auto)]
 
+mod folder_files;
 mod folder_volume;
 
-pub use folder_volume::{EdgeFault, FolderVolume};
+pub use folder_files::EdgeFault;
+pub use folder_volume::FolderVolume;
 pub use mi_disk::Lockable;
 pub use mi_feeds::{FolderSource, StdSink};

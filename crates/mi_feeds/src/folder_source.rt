@@ -11,7 +11,8 @@ use mi_text::{Bytes, Text};
 use std::alloc::Global;
 use std::fs::Files;
 
-/// Files as a source (this project's own); a path is one from the current folder. It tells no content.
+/// Files as a source (this project's own); a path is one from the current folder. Links are followed, and a path that is
+/// too long for the system has no file. It tells no content.
 #[derive(Drop)]
 pub struct FolderSource<R: Files> {
     rt: R,
@@ -89,7 +90,7 @@ fn names_in<F: Files>(rt: &F, alloc: Global, folder: &str) -> Result<Vec<Text>, 
 
 fn size_of<R: Files>(rt: &R, path: &str) -> Result<Option<u64>, Trouble> {
     match look_through(rt, path)? {
-        Found::File(length) => Ok(Some(length)),
+        Found::File(plain) => Ok(Some(plain.length)),
         Found::Nothing | Found::Folder | Found::Other => Ok(None),
     }
 }

@@ -1,4 +1,14 @@
 //! Expanding formatted text in one scan.
+//!
+//! `expand_within` keeps of each text in the making (one for each open mark, and the one after
+//! them) no more bytes than the limit and the formatted text together, or than the longest name of
+//! the look-ups (`BoundedEnv`). Of a longer one it keeps that it is longer, what its brackets name,
+//! its first byte, and whether all its bytes may be in the name of a property: no look-up has a
+//! name of that length, so a bracket around it is empty where it is looked up, and text where it
+//! isn't. It isn't refused yet, since in a brace or as a name it may still vanish. A value that
+//! makes a text longer than is kept is read where it is named, up to the first byte that no
+//! property name has, so the time is at worst the product of the brackets and the values that they
+//! name. `expand` asks for no bound and keeps every text.
 
 ghost use Rattle.std.specs.Prelude.{◌≡◌, ◌≤◌, ℕ, List, Ok, IfOk, OnOk, IsErrOf};
 ghost use Rattle.mi_text.specs.Lookups.{Lookups};

@@ -15,8 +15,8 @@ use mi_source::{Source, SrcFault};
 use mi_volume::{PIECE, VolFault, Volume};
 use std::alloc::Global;
 
-/// Adds what a name of the volume holds from `at` up to `end`, both counted in bytes. It ends where a read gives nothing,
-/// whatever length was told.
+/// Adds what a name of the volume holds from `at` up to `end`, both counted in bytes. It goes on by the bytes that a read gave,
+/// and ends when a read gives none, whatever length was stated.
 pub fn add_held<V: Volume>(
     alloc: Global,
     vol: &mut V,
@@ -39,13 +39,13 @@ pub fn add_held<V: Volume>(
             return Ok(());
         }
         hasher.update(bytes.as_slice());
-        at += want;
+        at += bytes.len() as u64;
     }
     Ok(())
 }
 
-/// Adds the first bytes of the source's file, at most `length`. It ends where a read gives nothing, whatever length was
-/// told.
+/// Adds the first bytes of the source's file, at most `length`. It goes on by the bytes that a read gave, and ends when a read
+/// gives none, whatever length was stated.
 pub fn add_copied<S: Source>(
     alloc: Global,
     src: &mut S,
@@ -66,7 +66,7 @@ pub fn add_copied<S: Source>(
             return Ok(());
         }
         hasher.update(bytes.as_slice());
-        at += want;
+        at += bytes.len() as u64;
     }
     Ok(())
 }

@@ -12,6 +12,6 @@ pub fn fault_of(trouble: Trouble) -> VolFault
 {
     match trouble {
         Trouble::NoMemory => VolFault::NoMemory,
-        Trouble::Absent | Trouble::NoText | Trouble::Failed => VolFault::Failed,
+        Trouble::Absent | Trouble::Strange | Trouble::Failed => VolFault::Failed,
     }
 }

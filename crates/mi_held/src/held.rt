@@ -1,4 +1,24 @@
-//! The names that a folder holds, as its listing and the changes since tell them.
+//! The names that a folder holds, as its listing and the changes since give them.
+//!
+//! What is kept, and why:
+//!
+//! - A place is that of one name, from the listing or its first write to the end of the process.
+//!   All that is known of the name is kept there: whether it is held, its length, its bytes,
+//!   whether its file was synced since it was written last, and the round of its last write. A good
+//!   sync begins a new round. So a write marks its name, and no second collection of names is
+//!   searched.
+//! - Listed names are in byte order, and a later name that is above all of them joins them; one
+//!   that comes out of order goes into a tree, and `next` takes the lesser of the two. A name that
+//!   is taken away keeps its place in the order for a later write. While the tree is empty, places
+//!   rise as names do, so a sync sorts its changes by places, and else by names.
+//! - A search looks first at the name that was sought last and at the next one: the scan, the
+//!   reading of old bytes and the writes of a run go through names in their order.
+//! - `gap` is where the last search passed over names that aren't held, so that many of them cost
+//!   the next search nothing.
+//! - Files of at most 4,096 bytes that were read whole are kept, 4,194,304 bytes in all, until the
+//!   name is written, marked or taken away, or a look finds another length: a run that scans the
+//!   machine and then notes old bytes reads each short file once.
+//! - A removal takes no memory: the listing and each put have taken the room to remember it by.
 
 ghost use Rattle.std.specs.Prelude.{◌≤◌, IfOk, IfSome, IsTrue, length};
 ghost use Rattle.std.specs.Option.{option_copied};
@@ -32,6 +52,8 @@ struct Known {
     written: u64,
     // Whether its file was synced after it was written last.
     is_synced: bool,
+    // The number of the list of what may not be synced that has it; 0 if none has.
+    noted: u64,
 }
 
 /// A name that is written.
@@ -70,6 +92,8 @@ pub struct Held {
     removed: Vec<usize>,
     // How many good syncs there were, and one.
     round: u64,
+    // The number of the present list of what may not be synced.
+    list: u64,
 }
 
 // Whether a name stands above another one, or above none.
@@ -173,6 +197,7 @@ impl Held {
             written: Vec::new(alloc),
             removed: Vec::new(alloc),
             round: 1,
+            list: 1,
         };
         match held.fill(alloc, names) {
             Ok(()) => Ok(held),
@@ -216,6 +241,7 @@ impl Held {
             kept: None,
             written: 0,
             is_synced: false,
+            noted: 0,
         })?;
         Ok(())
     }
@@ -445,6 +471,7 @@ impl Held {
             kept: None,
             written: 0,
             is_synced: false,
+            noted: 0,
         })?;
         Ok(place)
     }
@@ -497,6 +524,28 @@ impl Held {
             Some(known) => known.is_synced,
             None => false,
         }
+    }
+
+    /// Whether the list of what may not be synced has a name.
+    pub fn is_noted(&mut self, name: &Name) -> bool {
+        let list = self.list;
+        match self.known(name) {
+            Some(known) => known.noted == list,
+            None => false,
+        }
+    }
+
+    /// Takes down that the list of what may not be synced has a name.
+    pub fn set_noted(&mut self, name: &Name) {
+        let list = self.list;
+        if let Some(known) = self.known(name) {
+            known.noted = list;
+        }
+    }
+
+    /// Takes down that this list is gone.
+    pub fn forget_noted(&mut self) {
+        self.list = self.list.saturating_add(1);
     }
 
     /// Whether a name was written since the last good sync.

@@ -1,4 +1,17 @@
-//! The image of a machine.
+//! The image of a machine: one ordered map from the names of the volume to what they hold.
+//!
+//! - A scan lists what it reads and builds the map of the whole list at once. The names come in
+//!   byte order, so each is compared with its neighbours alone; put one by one into the tree, each
+//!   would be compared with about as many as the tree is deep.
+//! - Items are boxed. What moves, from the list into the tree and within a node, is a pointer. A
+//!   node has room for fifteen entries and is half full after a split, so that an item in the node
+//!   would take twice its size there.
+//! - A look-up composes the name on the stack (`NameBuffer`), so it takes no memory. A text whose
+//!   name would pass 1,024 bytes isn't found.
+//! - Keys of the tree are strings and not slices of bytes, since std compares two texts eight bytes
+//!   at a time, and slices of bytes item by item.
+//! - Of a file the image has the head alone, and where its bytes are: no file's bytes are in
+//!   memory.
 
 ghost use Rattle.std.specs.Prelude.{◌≡◌, List, ℕ, Some, true, false, is_some, IfSome, IfNone, IfOk, OnOk, OnErr, map, filter, nat_eq, string_bytes};
 ghost use Rattle.std.specs.Option.{option_copied, option_map};

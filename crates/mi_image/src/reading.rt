@@ -1,4 +1,16 @@
-//! Reading what a volume holds under one name.
+//! Reading what a volume holds under one name: as much of a record as its entry needs.
+//!
+//! - Of a file it reads as many bytes as the longest head has; the file's bytes stay where they
+//!   are.
+//! - Of a folder or a key that is longer than any of its kind it reads nothing.
+//! - Any other record of at most 65,536 bytes is read whole.
+//! - Of a longer one the lengths in it are walked first (module `stated`): each says where the next
+//!   is, and a window of 65,536 bytes moves to it. A right record ends where they say, so one that
+//!   ends elsewhere is refused after at most one read for each length.
+//! - Then it is judged by fronts (module `fronts`): the first 65,536 bytes, the first 16,777,216,
+//!   then twice as many each time. A right record that is cut has no other fault than that it ends,
+//!   so a front with another fault refuses the whole. A right record is read whole at last, and is
+//!   in memory twice for a moment: as it was read, and as its entry.
 
 ghost use Rattle.std.specs.Prelude.{◌≡◌, ◌≤◌, ◌++◌, ◌||◌, List, ℕ, None, MatchOption, IfOk, OnOk, OnErr, IsErrOf, length, take, codes, min, true, false, nat_eq};
 ghost use Rattle.std.specs.List.{starts_with};
@@ -47,8 +59,8 @@ fn append(bytes: &mut Bytes, piece: Bytes) -> Result<(), NoMemory>
     Ok(())
 }
 
-/// Reads on behind the first bytes that a name holds, up to `want` of them, or all where there are fewer. They are read in
-/// pieces.
+/// Reads on after the first bytes that a name holds, up to `want` of them, or all if there are fewer. They are read in pieces:
+/// it goes on by the bytes that a read gave, and ends when a read gives none.
 fn read_on<V: Volume>(
     alloc: Global,
     vol: &mut V,
@@ -65,11 +77,10 @@ fn read_on<V: Volume>(
     while bytes.len() < want {
         let asked = PIECE.min(want - bytes.len());
         let piece = vol.read(alloc, name, bytes.len() as u64, asked)?;
-        let got = piece.len();
-        append(bytes, piece)?;
-        if got < asked {
+        if piece.is_empty() {
             return Ok(());
         }
+        append(bytes, piece)?;
     }
     Ok(())
 }
@@ -104,7 +115,20 @@ fn record_item(alloc: Global, name: &Name, bytes: &[u8]) -> Result<Item, ImageEr
     }
 }
 
-/// The item of a file, whose record has `size` bytes; at most the bytes of the longest head are read.
+/// The length of a file's record of which so many bytes were read, where `want` were asked for: the stated one, or, over a
+/// volume that gave fewer bytes than it stated, that of what it gave.
+fn record_length(stated: u64, want: usize, read: usize) -> u64
+    requires want { want ≡ min stated 131364 }
+    requires read { read ≤ want }
+    ensures whole { read ≡ want → result ≡ stated }
+    ensures within { read ≤ result }
+    ensures enough { min result 131364 ≤ read }
+{
+    if read < want { read as u64 } else { stated }
+}
+
+/// The item of a file, whose record has `size` bytes; at most the bytes of the longest head are read. A record of which the
+/// volume gives fewer bytes is taken as it is.
 fn read_head<V: Volume>(
     alloc: Global,
     vol: &mut V,
@@ -121,10 +145,8 @@ fn read_head<V: Volume>(
     let want = size.min(HEAD_LIMIT) as usize;
     let mut front = Bytes::new(alloc);
     read_on(alloc, vol, name, &mut front, want)?;
-    if front.len() < want {
-        return Err(ImageError::BadImage(name.copy(alloc)?));
-    }
-    head_item(alloc, name, front.as_slice(), size)
+    let length = record_length(size, want, front.len());
+    head_item(alloc, name, front.as_slice(), length)
 }
 
 /// Whether a name is of a folder or of a key, whose record is the shown path or key alone.

@@ -1,3 +1,11 @@
 pub mod ValueLaws
 pub mod ClientLaws
 pub mod FileLaws
+pub mod PlainLaws
+pub mod Walks
+pub mod Removal
+pub mod Histories
+pub mod Machines
+pub mod Moments
+pub mod Clients
+pub mod Outcomes

@@ -1,4 +1,8 @@
-//! The map of properties.
+//! The map of properties: a look-up is one search by the name, and takes no memory.
+//!
+//! `start` puts the lists in from the last to the first (the table's, the words', the system's), so
+//! that an earlier list's value replaces a later one's, and of two entries of one list the later
+//! holds.
 
 ghost use Rattle.std.specs.Prelude.{◌≡◌, true, false, None, Some, IfOk, OnOk, OnErr};
 ghost use Rattle.std.specs.Option.{option_or};

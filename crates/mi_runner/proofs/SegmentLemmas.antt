@@ -1,5 +1,5 @@
 -- Names that are noted, and records that are carried out then.
-use Rattle.std.proofs.Common.{◌≡◌, ◌≢◌, ℕ, ◌+◌, ◌≤◌, max, Bool, true, false, cond, not, List, [], ◌∷◌, length, Option, None, Result, Ok, Err, IsErrOf, OnOk, refl, sym, ap, subst, ◌∙◌, arith}
+use Rattle.std.proofs.Common.{◌≡◌, ◌≢◌, ℕ, ◌+◌, ◌≤◌, max, Bool, true, false, cond, not, List, [], ◌∷◌, length, Option, None, Result, Ok, Err, OnOk, refl, sym, ap, subst, ◌∙◌, arith}
 use Rattle.std.specs.FinMap.{get}
 use Rattle.mi_text.specs.Maps.{Name, is_among}
 use Rattle.mi_volume.specs.Maps.{Map, size, slot_size, Exceeds}
@@ -24,7 +24,7 @@ use Rattle.mi_undo.proofs.StepLemmas.{exceeds_more}
 use Rattle.mi_runner.specs.declared.fault.RunFault.{RunFault}
 use Rattle.mi_runner.specs.declared.fault.RunFault.TheVariants as run
 use Rattle.mi_runner.specs.Faults.{run_fault_of}
-use Rattle.mi_runner.specs.Sizes.{greatest, growth, most_held, IsNoLonger}
+use Rattle.mi_runner.specs.Sizes.{greatest, growth, most_held, IsNoLonger, AreNoLonger, AreNoLongerButOne}
 use Rattle.mi_runner.specs.Steps.{KeepsOver}
 use Rattle.mi_runner.specs.Answers.{Carries}
 use Rattle.mi_runner.proofs.CarryLemmas.{IsNamed}
@@ -107,12 +107,21 @@ not_noted s t kept F rs e r notes = record {
   works = tt;
   can_go_back = notes.can_go_back;
   others = λ q free. ap (λ (m : Map). get m q) notes.outside;
-  longest = λ not_failed q. still q;
-  longest_others = ([], λ q ne. still q);
 }
-  where
-    still : (q : Name) → IsNoLonger s.held rs t.held q
-    still q = let same : slot_size q (get (outside t.held) q) ≡ slot_size q (get (outside s.held) q) = ap (λ (m : Map). slot_size q (get m q)) notes.outside in omega (arith, same)
+
+-- where nothing outside the area has changed
+pub still_no_longer : (old new : Map) (rs : List Rec) → outside new ≡ outside old → AreNoLonger old rs new
+still_no_longer old new rs is q = let same : slot_size q (get (outside new) q) ≡ slot_size q (get (outside old) q) = ap (λ (m : Map). slot_size q (get m q)) is in omega (arith, same)
+
+pub all_but_one : (old new : Map) (rs : List Rec) → AreNoLonger old rs new → AreNoLongerButOne old rs new
+all_but_one old new rs all = ([], λ q ne. all q)
+
+-- where records were carried out, or failed, over a map that differs in the area alone
+pub no_longer : (old between new : Map) (rs : List Rec) (q : Name) → outside between ≡ outside old → slot_size q (get new q) ≤ max (slot_size q (get between q)) (greatest rs q) → IsNoLonger old rs new q
+no_longer old between new rs q is le =
+    let here = outside_longest between new q (greatest rs q) le in
+    let was : slot_size q (get (outside between) q) ≡ slot_size q (get (outside old) q) = ap (λ (m : Map). slot_size q (get m q)) is in
+    omega (arith, here, was)
 
 on_ok : {T E P : Type 0} (r : Result T E) → P → OnOk r P
 on_ok (Ok x) p = p
@@ -120,23 +129,14 @@ on_ok (Err e) p = tt
 
 module _ {V : Type 0} (told : Type 0) (state : V → State) (a b c : Open V Kept) (F : Map) (rs : List Rec) (goes : GoesOn (state (volume a)) (state (volume b)) (StandsFor F)) (works : Works (state (volume b)) b.kept F)
     (same_outside : outside (state (volume b)).held ≡ outside (state (volume a)).held) (keeps : KeepsOver told state b c (IsNamed rs)) (t : told) where
-  no_longer : (q : Name) → slot_size q (get (state (volume c)).held q) ≤ max (slot_size q (get (state (volume b)).held q)) (greatest rs q) → IsNoLonger (state (volume a)).held rs (state (volume c)).held q
-  no_longer q le =
-      let here = outside_longest (state (volume b)).held (state (volume c)).held q (greatest rs q) le in
-      let was : slot_size q (get (outside (state (volume b)).held) q) ≡ slot_size q (get (outside (state (volume a)).held) q) = ap (λ (m : Map). slot_size q (get m q)) same_outside in
-      omega (arith, here, was)
-
-  pub carries : {T : Type 0} (r : Result T RunFault) → (¬ IsErrOf r run.Volume → (q : Name) → slot_size q (get (state (volume c)).held q) ≤ max (slot_size q (get (state (volume b)).held q)) (greatest rs q))
-      → ((name : Name) × ((q : Name) → q ≢ name → slot_size q (get (state (volume c)).held q) ≤ max (slot_size q (get (state (volume b)).held q)) (greatest rs q))) → Carries (state (volume a)) (state (volume c)) c.kept F rs r
-  carries r longest others =
+  pub carries : {T : Type 0} (r : Result T RunFault) → Carries (state (volume a)) (state (volume c)) c.kept F rs r
+  carries r =
       let changes = keeps.changes t F works in
       record {
         goes = joined (state (volume a)) (state (volume b)) (state (volume c)) (StandsFor F) goes changes.goes;
         works = on_ok r changes.works;
         can_go_back = works_go_back (state (volume c)) c.kept F changes.works;
         others = λ q free. outside_other (state (volume b)).held (state (volume c)).held q (keeps.others t q (λ named. clash q free named)) ∙ ap (λ (m : Map). get m q) same_outside;
-        longest = λ not_failed q. no_longer q (longest not_failed q);
-        longest_others = (others.0, λ q ne. no_longer q (others.1 q ne));
       }
     where
       clash : (q : Name) → is_among q (touched_names rs) ≡ false → IsNamed rs q → ⊥
@@ -152,8 +152,6 @@ untouched_carries s kept F rs e w = record {
   works = tt;
   can_go_back = works_go_back s kept F w;
   others = λ q free. refl;
-  longest = λ not_failed q. omega arith;
-  longest_others = ([], λ q ne. omega arith);
 }
 
 left_more : (n m : ℕ) (s : State) → n ≤ m → LeavesAtMost n s → LeavesAtMost m s

@@ -1,5 +1,5 @@
 -- What a segment leaves, by its answer. (This project's own.)
-use Rattle.std.specs.Prelude.{◌≡◌, ◌≢◌, false, List, Result, OnOk, IsErrOf}
+use Rattle.std.specs.Prelude.{◌≡◌, false, List, Result, OnOk}
 use Rattle.std.specs.FinMap.{get}
 use Rattle.mi_text.specs.Maps.{Name, is_among}
 use Rattle.mi_volume.specs.Maps.{Map}
@@ -10,8 +10,6 @@ use Rattle.mi_undo.specs.Stands.{StandsFor, outside}
 use Rattle.mi_undo.specs.Area.{Works, CanGoBack}
 use Rattle.mi_undo.specs.declared.kept.Kept.{Kept}
 use Rattle.mi_runner.specs.declared.fault.RunFault.{RunFault}
-use Rattle.mi_runner.specs.declared.fault.RunFault.TheVariants.{Volume}
-use Rattle.mi_runner.specs.Sizes.{IsNoLonger}
 
 -- After the records were carried out over F, or a call failed.
 pub record Carries {T : Type 0} (old new : State) (kept : Kept) (F : Map) (rs : List Rec) (result : Result T RunFault) : Type 0 where
@@ -21,6 +19,3 @@ pub record Carries {T : Type 0} (old new : State) (kept : Kept) (F : Map) (rs : 
   pub can_go_back : CanGoBack new kept F
   -- outside the area no other names than the touched ones have changed
   pub others : (q : Name) → is_among q (touched_names rs) ≡ false → get (outside new.held) q ≡ get (outside old.held) q
-  -- none is longer than before or after one of its records, but for one name that the volume failed at
-  pub longest : ¬ IsErrOf result Volume → (q : Name) → IsNoLonger old.held rs new.held q
-  pub longest_others : (name : Name) × ((q : Name) → q ≢ name → IsNoLonger old.held rs new.held q)

@@ -1,5 +1,5 @@
 -- How much room a segment takes at most. (This project's own.)
-use Rattle.std.specs.Prelude.{ℕ, ◌+◌, ◌-◌, ◌≤◌, max, List, [], ◌∷◌, length, if◌then◌else◌}
+use Rattle.std.specs.Prelude.{◌≢◌, ℕ, ◌+◌, ◌-◌, ◌≤◌, max, List, [], ◌∷◌, length, if◌then◌else◌}
 use Rattle.std.specs.FinMap.{get}
 use Rattle.mi_text.specs.Maps.{Name, same_name}
 use Rattle.mi_volume.specs.Maps.{Map, size, slot_size}
@@ -38,3 +38,11 @@ most_held held noted rs =
 -- no name outside the area is longer than it was before or is after one of the records
 abbrev pub IsNoLonger : Map → List Rec → Map → Name → Type 0
 IsNoLonger old rs new q = slot_size q (get (outside new) q) ≤ max (slot_size q (get (outside old) q)) (greatest rs q)
+
+-- no name is
+abbrev pub AreNoLonger : Map → List Rec → Map → Type 0
+AreNoLonger old rs new = (q : Name) → IsNoLonger old rs new q
+
+-- no name is, but for one at most
+abbrev pub AreNoLongerButOne : Map → List Rec → Map → Type 0
+AreNoLongerButOne old rs new = (name : Name) × ((q : Name) → q ≢ name → IsNoLonger old rs new q)

@@ -37,8 +37,8 @@ pub fn write_bytes<V: Volume>(
     Ok(())
 }
 
-/// Adds the bytes of another name, from `at` up to `end`, at the end of a noted name. It ends where a read gives
-/// nothing, whatever length was told.
+/// Adds the bytes of another name, from `at` up to `end`, at the end of a noted name. It goes on by the bytes that a read
+/// gave, and ends when a read gives none, whatever length was stated.
 pub fn append_held<V: Volume>(
     alloc: Global,
     area: &mut Open<'_, V>,
@@ -63,7 +63,7 @@ pub fn append_held<V: Volume>(
             return Ok(());
         }
         area.append(alloc, name, bytes.as_slice())?;
-        at += want;
+        at += bytes.len() as u64;
     }
     Ok(())
 }

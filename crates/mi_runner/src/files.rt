@@ -1,9 +1,10 @@
 //! Writing a file: its head, and the bytes of the source's file or of another file.
 
-ghost use Rattle.std.specs.Prelude.{◌≡◌, ◌≢◌, ◌+◌, ◌-◌, ◌≤◌, ◌++◌, List, ℕ, Some, Contains, IfOk, OnOk, IsTrue, length, take, min, false};
+ghost use Rattle.std.specs.Prelude.{◌≡◌, ◌≢◌, ◌+◌, ◌-◌, ◌≤◌, ◌++◌, List, ℕ, Some, Contains, IfOk, OnOk, IsErrOf, IsTrue, length, take, min, false};
 ghost use Rattle.std.specs.FinMap.{get, insert};
 ghost use Rattle.mi_base.specs.Spelling.{head_bytes};
 ghost use Rattle.mi_source.specs.Paths.{bytes_or_none};
+ghost use Rattle.mi_source.specs.Counts.{Rose};
 ghost use Rattle.mi_image.specs.Items.{HeadMayStand};
 ghost use Rattle.mi_script.specs.Scripts.{last_bytes};
 ghost use Rattle.mi_undo.specs.Area.{volume, noted_names, IsWorking};
@@ -15,7 +16,7 @@ use crate::bytes::{append_held, write_bytes};
 use crate::fault::RunFault;
 use crate::head::head_record;
 use mi_base::{Bytes, FileHead, Name};
-use mi_source::Source;
+use mi_source::{Source, SrcFault};
 use mi_undo::{OpFault, Open};
 use mi_volume::{PIECE, Volume};
 use std::alloc::Global;
@@ -38,7 +39,8 @@ fn write_head<V: Volume>(
     Ok(())
 }
 
-// Adds the bytes of the source's file, up to this length, at the end of a noted name, and answers how many there were.
+// Adds the bytes of the source's file, up to this length, at the end of a noted name, and answers how many there were. It
+// goes on by the bytes that a read gave, and ends when a read gives none.
 fn append_file<S: Source, V: Volume>(
     alloc: Global,
     area: &mut Open<'_, V>,
@@ -64,7 +66,7 @@ fn append_file<S: Source, V: Volume>(
         area.append(alloc, name, bytes.as_slice())?;
         let found = bytes.len() as u64;
         at += found;
-        if found < want {
+        if found == 0 {
             return Ok(at);
         }
     }
@@ -76,6 +78,32 @@ fn is_one_piece(head: usize, length: u64) -> bool
     ensures { IsTrue result → head + length ≤ PIECE }
 {
     length > 0 && length <= PIECE.saturating_sub(head) as u64
+}
+
+// The first bytes of the source's file, up to this many. It goes on by the bytes that a read gave, and ends when a read gives
+// none.
+fn read_front<S: Source>(
+    alloc: Global,
+    src: &mut S,
+    path: &str,
+    want: usize,
+) -> Result<Bytes, SrcFault>
+    requires { want ≤ PIECE }
+    ensures value { S.told → IfOk result (λ bytes. bytes ≡ take want (bytes_or_none (get (S.files src.old) path.now))) }
+    ensures short { IfOk result (λ bytes. length bytes ≤ want) }
+    ensures stays { S.files src.new ≡ S.files src.old }
+    ensures counts { S.faults src.old ≤ S.faults src.new }
+    ensures failed { IsErrOf result SrcFault.Failed → Rose (S.faults src.old) (S.faults src.new) }
+{
+    let mut bytes = Bytes::new(alloc);
+    while bytes.len() < want {
+        let piece = src.read(alloc, path, bytes.len() as u64, want - bytes.len())?;
+        if piece.is_empty() {
+            return Ok(bytes);
+        }
+        bytes.extend(piece.as_slice())?;
+    }
+    Ok(bytes)
 }
 
 // Gives a noted name these bytes with those of the source's file behind them, as one piece, and answers how many the
@@ -99,7 +127,7 @@ fn put_file<S: Source, V: Volume>(
     ensures reads { Reads S.files S.faults src.old src.new result }
     ensures never { NeverDiffers result }
 {
-    let bytes = src.read(alloc, path, 0, stated)?;
+    let bytes = read_front(alloc, src, path, stated)?;
     front.extend(bytes.as_slice())?;
     area.put(alloc, name, front.as_slice())?;
     Ok(bytes.len() as u64)

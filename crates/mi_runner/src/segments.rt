@@ -14,7 +14,7 @@ ghost use Rattle.mi_undo.specs.Room.{TakesAtMost, KeepsRoom, entry_size};
 ghost use Rattle.mi_runner.specs.declared.fault.RunFault.TheVariants as run;
 ghost use Rattle.mi_runner.specs.Faults.{IfDiffers};
 ghost use Rattle.mi_runner.specs.Records.{MayCarry, HasLength, States};
-ghost use Rattle.mi_runner.specs.Sizes.{most_held};
+ghost use Rattle.mi_runner.specs.Sizes.{most_held, AreNoLonger, AreNoLongerButOne};
 ghost use Rattle.mi_runner.specs.Steps.{Reads, Differs, NeverDiffers};
 ghost use Rattle.mi_runner.specs.Answers.{Carries};
 
@@ -51,6 +51,10 @@ fn carry_out<S: Source, V: Volume>(
         → OnOk result (outside (V.state (volume area.new)).held ≡ after_script (S.files src.old) (outside (V.state (volume area.old)).held) script.now) }
     ensures carries { V.told → (F : Map) → Works (V.state (volume area.old)) area.old.kept F
         → Carries (V.state (volume area.old)) (V.state (volume area.new)) area.new.kept F script.now result }
+    ensures longest { V.told → (F : Map) → Works (V.state (volume area.old)) area.old.kept F → ¬ IsErrOf result run.Volume
+        → AreNoLonger (V.state (volume area.old)).held script.now (V.state (volume area.new)).held }
+    ensures longest_but_one { V.told → (F : Map) → Works (V.state (volume area.old)) area.old.kept F
+        → AreNoLongerButOne (V.state (volume area.old)).held script.now (V.state (volume area.new)).held }
     ensures room { V.told → (F : Map) (n : ℕ) → Works (V.state (volume area.old)) area.old.kept F → TakesAtMost n (V.state (volume area.old))
         → KeepsRoom (V.state (volume area.old)) (V.state (volume area.new)) F (n + entry_size (notes_for (V.state (volume area.old)).held (new_names (noted_names area.old) (touched_names script.now)))) }
     ensures passes { Passes (V.state (volume area.old)) (V.state (volume area.new)) }
@@ -68,7 +72,8 @@ fn carry_out<S: Source, V: Volume>(
 /// Carries out the records of a script, in order: notes the touched names that aren't noted yet, as one entry and
 /// none where all are noted, then gives each name what its record says, by pieces of at most 65,536 bytes. Ok leaves
 /// what is outside the area as after the script. At every moment, and after an error, each crash leaves the
-/// former map; after an error the area may only be gone back over. Full comes only where a capacity is told and what
+/// former map; after an error the area may only be gone back over. No name is longer then than before or than after one
+/// of its records, but for one at most where the volume failed. Full comes only where a capacity is told and what
 /// is held, the notes of the new names with 25 bytes, and what the touched names grow at most pass it; SizeDiffers only
 /// over a source that tells nothing. Each copied file is there with as many bytes as its record states, where the
 /// source tells it (this project's own).
@@ -93,6 +98,10 @@ pub fn segment<S: Source, V: Volume>(
         → OnOk result (outside (V.state (volume area.new)).held ≡ after_script (S.files src.old) (outside (V.state (volume area.old)).held) script.now) }
     ensures carries { V.told → (F : Map) → Works (V.state (volume area.old)) area.old.kept F
         → Carries (V.state (volume area.old)) (V.state (volume area.new)) area.new.kept F script.now result }
+    ensures longest { V.told → (F : Map) → Works (V.state (volume area.old)) area.old.kept F → ¬ IsErrOf result run.Volume
+        → AreNoLonger (V.state (volume area.old)).held script.now (V.state (volume area.new)).held }
+    ensures longest_but_one { V.told → (F : Map) → Works (V.state (volume area.old)) area.old.kept F
+        → AreNoLongerButOne (V.state (volume area.old)).held script.now (V.state (volume area.new)).held }
     ensures room { V.told → (F : Map) (n : ℕ) → Works (V.state (volume area.old)) area.old.kept F → TakesAtMost n (V.state (volume area.old))
         → KeepsRoom (V.state (volume area.old)) (V.state (volume area.new)) F (n + entry_size (notes_for (V.state (volume area.old)).held (new_names (noted_names area.old) (touched_names script.now)))) }
     ensures passes { Passes (V.state (volume area.old)) (V.state (volume area.new)) }

@@ -1,5 +1,5 @@
 -- While the tables of a folder are loaded into a package.
-use Rattle.std.specs.Prelude.{◌≡◌, ℕ, ◌<◌, false, if◌then◌else◌, List, length, Option, None, Some}
+use Rattle.std.specs.Prelude.{◌≡◌, ℕ, false, if◌then◌else◌, List, Option, None}
 use Rattle.std.specs.Str.{bytes_eq}
 use Rattle.mi_text.specs.Maps.{Name}
 use Rattle.mi_schema.specs.declared.package.Package.{Package}
@@ -12,11 +12,6 @@ use Rattle.mi_schema.specs.declared.known.Known.TheVariants as of
 use Rattle.mi_schema.specs.Tables.{Listed, Loaded, Refused, tables, layout_of}
 use Rattle.mi_rows.specs.Columns.{Table}
 use Rattle.mi_rows.specs.Values.{Row}
-
--- all bytes of a file, or that there are more than a table may have
-abbrev pub IsWhole : Option (List ℕ) → List ℕ → Type 0
-IsWhole (Some bytes) whole = bytes ≡ whole
-IsWhole None whole = 16777216 < length whole
 
 -- some file has no fault of this table; where the source tells, it is this one
 pub record IsRight (told : Type 0) (file : Option (List ℕ)) (t : Table) : Type 0 where

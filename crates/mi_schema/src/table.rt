@@ -1,11 +1,11 @@
 //! A table of the package, from its file.
 
-ghost use Rattle.std.specs.Prelude.{◌≡◌, ◌≤◌, IfOk, IfErr, OnErr, OnOk, is_some, IsErrOf};
+ghost use Rattle.std.specs.Prelude.{◌≡◌, ◌≤◌, IfOk, IfErr, OnErr, OnOk, is_some, IsErrOf, length};
 ghost use Rattle.std.specs.FinMap.{get};
 ghost use Rattle.mi_source.specs.Counts.{Rose};
 ghost use Rattle.mi_rows.specs.Reads.{Fails, IsCounted};
 ghost use Rattle.mi_rows.specs.Columns.{table_as, refused};
-ghost use Rattle.mi_schema.specs.Loaded.{AreRead, IsRight, IsWhole};
+ghost use Rattle.mi_schema.specs.Loaded.{AreRead, IsRight};
 ghost use Rattle.mi_rows.specs.Rows.{size_fault, table_fault};
 ghost use Rattle.mi_rows.specs.Values.{KeysTell};
 ghost use Rattle.mi_schema.specs.Checks.{table_path, content_of};
@@ -19,24 +19,31 @@ use mi_text::Bytes;
 use std::alloc::Global;
 
 /// The greatest length of a table, in bytes.
-const TABLE_LIMIT: usize = 16_777_216;
+const TABLE_LIMIT: u64 = 16_777_216;
 
-/// The bytes of a file, or None where there are more than a table may have. It is read in pieces.
-fn read_file<S: Source>(alloc: Global, src: &mut S, path: &str) -> Result<Option<Bytes>, SrcFault>
-    ensures value { S.told → IfOk result (λ found. IsWhole found (bytes_or_none (get (S.files src.old) path.now))) }
+/// The bytes of a file of so many bytes. It is read in pieces: reading goes on by the bytes that came, and ends when a read gives
+/// none, so that a source which states more than it gives gives a shorter text.
+fn read_file<S: Source>(
+    alloc: Global,
+    src: &mut S,
+    path: &str,
+    size: usize,
+) -> Result<Bytes, SrcFault>
+    ensures value { S.told → size ≡ length (bytes_or_none (get (S.files src.old) path.now)) → IfOk result (λ bytes. bytes ≡ bytes_or_none (get (S.files src.old) path.now)) }
     ensures stays { S.files src.new ≡ S.files src.old }
     ensures counts { S.faults src.old ≤ S.faults src.new }
     ensures failed { IsErrOf result SrcFault.Failed → Rose (S.faults src.old) (S.faults src.new) }
 {
     let mut bytes = Bytes::new(alloc);
-    while bytes.len() <= TABLE_LIMIT {
-        let piece = src.read(alloc, path, bytes.len() as u64, PIECE)?;
-        bytes.extend(piece.as_slice())?;
-        if piece.len() < PIECE {
-            return Ok(Some(bytes));
+    while bytes.len() < size {
+        let want = PIECE.min(size - bytes.len());
+        let piece = src.read(alloc, path, bytes.len() as u64, want)?;
+        if piece.is_empty() {
+            return Ok(bytes);
         }
+        bytes.extend(piece.as_slice())?;
     }
-    Ok(None)
+    Ok(bytes)
 }
 
 /// The path of a table's file.
@@ -61,7 +68,8 @@ pub fn is_there<S: Source>(src: &mut S, path: &str) -> Result<bool, Failed>
     Ok(size.is_some())
 }
 
-/// The bytes of a table's file, where it is there; more of them than a table may have are its fault.
+/// The bytes of a table's file, if it is there. More of them than a table may have are its fault, by the size alone: nothing of
+/// such a file is read.
 fn bytes_of<S: Source>(
     alloc: Global,
     src: &mut S,
@@ -75,13 +83,13 @@ fn bytes_of<S: Source>(
     ensures counts { S.faults src.old ≤ S.faults src.new }
 {
     let path = path_of(alloc, folder, name)?;
-    if !is_there(src, path.as_str())? {
+    let Some(size) = src.size(path.as_str())? else {
         return Ok(None);
+    };
+    if size > TABLE_LIMIT {
+        return Err(misspelled(alloc, name, IdtFault::TooLarge));
     }
-    match read_file(alloc, src, path.as_str())? {
-        Some(bytes) => Ok(Some(bytes)),
-        None => Err(misspelled(alloc, name, IdtFault::TooLarge)),
-    }
+    Ok(Some(read_file(alloc, src, path.as_str(), size as usize)?))
 }
 
 /// Reads the rows of a known table in a folder into a map, under their keys; none where its file isn't there.

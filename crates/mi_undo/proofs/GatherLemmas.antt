@@ -1,5 +1,5 @@
 -- Bytes of an entry that are gathered before they are written.
-use Rattle.std.proofs.Common.{◌≡◌, ℕ, ◌+◌, ◌≤◌, List, [], ◌∷◌, ◌++◌, length, take, drop, Option, Some, None, Result, Ok, Err, IsErr, IsErrOf, IsErrAnd, refl, sym, ap, subst, ◌∙◌, arith, append_assoc, length-append}
+use Rattle.std.proofs.Common.{◌≡◌, ℕ, ◌+◌, ◌≤◌, ◌<◌, List, [], ◌∷◌, ◌++◌, length, take, drop, Option, Some, None, Result, Ok, Err, IsErr, IsErrOf, IsErrAnd, refl, sym, ap, subst, ◌∙◌, arith, append_assoc, length-append, length-take, length-drop}
 use Rattle.std.proofs.lemmas.List.{append-nil, take_all}
 use Rattle.std.proofs.lemmas.Result.{on_ok_weaker}
 use Rattle.std.specs.FinMap.{get, insert}
@@ -120,3 +120,9 @@ no_old o none = empty (old_bytes o) none
     empty : (l : List ℕ) → length l ≡ 0 → l ≡ []
     empty [] none = refl
     empty (x ∷ l) none = absurd (omega (arith, none))
+
+-- where a read behind these bytes gives nothing, they are all that was asked for
+pub piece_ended : (bytes whole : List ℕ) (n len : ℕ) → bytes ≡ take (length bytes) whole → length bytes < len → 0 < n → length (take n (drop (length bytes) whole)) ≡ 0 → bytes ≡ take len whole
+piece_ended bytes whole n len front less some none =
+    let short : length whole ≤ length bytes = omega (arith, none, length-take n (drop (length bytes) whole), length-drop (length bytes) whole) in
+    front ∙ take_all (length bytes) whole short ∙ sym (take_all len whole (omega arith))

@@ -1,6 +1,6 @@
 -- Bytes that are added to a name by pieces.
 use Rattle.std.proofs.Common.{◌≡◌, ◌≢◌, ℕ, ◌+◌, ◌-◌, ◌≤◌, ◌<◌, List, [], ◌++◌, length, take, drop, Option, Some, Result, IsErr, IsErrOf, sym, ap, subst, ◌∙◌, arith, append_assoc, length-append, length-take, length-drop}
-use Rattle.std.proofs.lemmas.List.{append-nil, drop-drop, take_all}
+use Rattle.std.proofs.lemmas.List.{append-nil, drop-drop, take_all, take_min}
 use Rattle.std.proofs.Math.Seq.{take-add}
 use Rattle.std.specs.FinMap.{get, insert}
 use Rattle.mi_volume.specs.Maps.{Map, Exceeds, size, bytes_or_none}
@@ -78,6 +78,10 @@ more_read s t u name before so_far added stays other piece from at n ne le is =
     let same_bytes = ap bytes_or_none (added.only.others other ne) in
     ap (λ (l : List ℕ). take (at - from) (drop from (bytes_or_none (get s.held other))) ++ l) (is ∙ ap (λ (b : List ℕ). take n (drop at b)) same_bytes)
     ∙ piece_is (bytes_or_none (get s.held other)) from at n le
+
+-- what is read has as many bytes as are taken
+pub read_is : (bytes l : List ℕ) (n k : ℕ) → bytes ≡ take n l → k ≡ length bytes → bytes ≡ take k l
+read_is bytes l n k is long = is ∙ sym (take_min n l) ∙ ap (λ (k : ℕ). take k l) (sym (length-take n l) ∙ sym (ap length is) ∙ sym long)
 
 pub within_run : (bytes so_far piece : List ℕ) (m n from : ℕ) → so_far ++ piece ≡ take m (drop from bytes) → m ≤ n → length (so_far ++ piece) ≤ length (take n (drop from bytes))
 within_run bytes so_far piece m n from is le = let longer = run_longer (drop from bytes) m n le in omega (arith, longer, ap length is)

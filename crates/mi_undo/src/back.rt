@@ -1,6 +1,6 @@
 //! Going back.
 
-ghost use Rattle.std.specs.Prelude.{◌≡◌, ◌≢◌, ◌+◌, ◌-◌, take, drop, true, false, [], List, ℕ, Option, Some, None, length, ◌<◌, IfErr, IsErrOf, OnOk, OnErr};
+ghost use Rattle.std.specs.Prelude.{◌≡◌, ◌≢◌, ◌+◌, ◌-◌, take, drop, true, false, [], List, ℕ, Option, Some, None, length, ◌<◌, ◌≤◌, IfErr, IsErrOf, OnOk, OnErr};
 ghost use Rattle.std.specs.FinMap.{get};
 ghost use Rattle.mi_volume.specs.Maps.{Map, size, HoldsByte, Fits, Exceeds, bytes_or_none};
 ghost use Rattle.mi_volume.specs.State.{Passes, Rose, NothingDirty};
@@ -19,7 +19,7 @@ use crate::clear::clear_area;
 use crate::fault::{BackFault, OpFault};
 use crate::kept::{Kept, Place};
 use crate::names::entry_of;
-use crate::steps::{append_span, mark_synced};
+use crate::steps::{append_span, mark_synced, uncounted};
 use mi_text::Name;
 use mi_volume::{Failed, PIECE, Volume};
 use std::alloc::Global;
@@ -43,7 +43,8 @@ fn remove_all<V: Volume>(vol: &mut V, places: &[Place]) -> Result<(), Failed>
     Ok(())
 }
 
-/// Puts the entry's bytes from `at` up to `end` back to the name, by pieces.
+/// Puts the entry's bytes from `at` up to `end` back to the name, by pieces. It goes on by the bytes that
+/// a read gave; if the volume counts a fault meanwhile they may lack some, and the call fails.
 fn return_bytes<V: Volume>(
     alloc: Global,
     vol: &mut V,
@@ -55,12 +56,16 @@ fn return_bytes<V: Volume>(
     ensures puts { V.told → entry.now ≢ name.now → PutsOne name.now (Some (take (end - at) (drop at (bytes_or_none (get (V.state vol.old).held entry.now))))) (V.state vol.old) (V.state vol.new) result }
     ensures passes { Passes (V.state vol.old) (V.state vol.new) }
     ensures fault { IsErrOf result OpFault.Fault → Rose (V.state vol.old) (V.state vol.new) }
+    ensures uncounted { OnOk result ((V.state vol.new).faults ≤ (V.state vol.old).faults) }
     ensures told { IsErrOf result OpFault.Full → V.told }
 {
+    let faults = vol.faults();
     let first = end.saturating_sub(at).min(PIECE as u64);
     let bytes = vol.read(alloc, entry, at, first as usize)?;
     vol.put(alloc, name, bytes.as_slice())?;
-    append_span(alloc, vol, entry, at + first, end, name)
+    let rest = append_span(alloc, vol, entry, at + bytes.len() as u64, end, name);
+    uncounted(vol, faults)?;
+    rest
 }
 
 /// Puts the old bytes of a name back, which is away.

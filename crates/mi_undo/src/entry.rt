@@ -12,6 +12,7 @@ ghost use Rattle.mi_undo.specs.Entry.{note_for, placed_at, Gathers, WritesNote, 
 use crate::fault::OpFault;
 use crate::gather::{gather, gather_old, make_room};
 use crate::kept::{Place, Span};
+use crate::steps::uncounted;
 use mi_text::{Bytes, Name, NoMemory};
 use mi_volume::{PIECE, Volume};
 use std::alloc::Global;
@@ -108,7 +109,7 @@ fn gather_note<V: Volume>(
 }
 
 /// Adds the note of a name, which begins at `at`, behind what is pending of the entry. Answers its
-/// place and its end.
+/// place and its end. If the volume counts a fault meanwhile the note may lack bytes, and the call fails.
 fn write_note<V: Volume>(
     alloc: Global,
     vol: &mut V,
@@ -126,8 +127,10 @@ fn write_note<V: Volume>(
     ensures length { IfOk result (λ r. length name.now ≤ 1024) }
     ensures passes { Passes (V.state vol.old) (V.state vol.new) }
     ensures fault { IsErrOf result OpFault.Fault → Rose (V.state vol.old) (V.state vol.new) }
+    ensures uncounted { OnOk result ((V.state vol.new).faults ≤ (V.state vol.old).faults) }
     ensures told { IsErrOf result OpFault.Full → V.told }
 {
+    let faults = vol.faults();
     let len = vol.size(name)?;
     let head = head_of(alloc, name, len)?;
     let placed = place_at(alloc, name, number, at, head.len(), len)?;
@@ -140,6 +143,7 @@ fn write_note<V: Volume>(
         name,
         len.unwrap_or(0),
     )?;
+    uncounted(vol, faults)?;
     Ok(placed)
 }
 

@@ -1,15 +1,17 @@
 //! Gathering an entry's bytes up to a piece before they are written, so that many small notes take one call of the volume.
 
-ghost use Rattle.std.specs.Prelude.{◌≡◌, ◌≢◌, ◌+◌, ◌≤◌, [], List, ℕ, Some, length, OnOk, IsErrOf};
+ghost use Rattle.std.specs.Prelude.{◌≡◌, ◌≢◌, ◌+◌, ◌≤◌, [], List, ℕ, Some, length, take, IfOk, OnOk, IsErrOf};
 ghost use Rattle.std.specs.FinMap.{get};
+ghost use Rattle.mi_volume.specs.Maps.{bytes_or_none};
 ghost use Rattle.mi_volume.specs.State.{Passes, Rose};
 ghost use Rattle.mi_undo.specs.Notes.{old_bytes};
 ghost use Rattle.mi_undo.specs.Entry.{Gathers};
+ghost use Rattle.mi_undo.specs.Reading.{Looks};
 
 use crate::fault::OpFault;
 use crate::steps::append_span;
 use mi_text::{Bytes, Name};
-use mi_volume::{PIECE, Volume};
+use mi_volume::{PIECE, VolFault, Volume};
 use std::alloc::Global;
 
 /// Writes what is pending where so many bytes more would make it longer than a piece. Nothing is
@@ -60,6 +62,32 @@ pub(crate) fn gather<V: Volume>(
     Ok(())
 }
 
+/// The first `len` bytes that the name holds, or all if there are fewer. It goes on by the bytes that a
+/// read gave, and ends when a read gives none, whatever length was stated.
+fn read_piece<V: Volume>(
+    alloc: Global,
+    vol: &mut V,
+    name: &Name,
+    len: usize,
+) -> Result<Bytes, VolFault>
+    requires { len ≤ PIECE }
+    ensures value { V.told → IfOk result (λ bytes. bytes ≡ take len (bytes_or_none (get (V.state vol.old).held name.now))) }
+    ensures short { IfOk result (λ bytes. length bytes ≤ len) }
+    ensures looks { V.told → Looks (V.state vol.old) (V.state vol.new) }
+    ensures passes { Passes (V.state vol.old) (V.state vol.new) }
+    ensures fault { IsErrOf result VolFault.Failed → Rose (V.state vol.old) (V.state vol.new) }
+{
+    let mut bytes = vol.read(alloc, name, 0, len)?;
+    while bytes.len() < len {
+        let piece = vol.read(alloc, name, bytes.len() as u64, len - bytes.len())?;
+        if piece.is_empty() {
+            return Ok(bytes);
+        }
+        bytes.extend(piece.as_slice())?;
+    }
+    Ok(bytes)
+}
+
 /// Adds the name's bytes, of which there are so many and no more than a piece, behind what is pending.
 fn gather_piece<V: Volume>(
     alloc: Global,
@@ -78,7 +106,7 @@ fn gather_piece<V: Volume>(
     ensures fault { IsErrOf result OpFault.Fault → Rose (V.state vol.old) (V.state vol.new) }
     ensures told { IsErrOf result OpFault.Full → V.told }
 {
-    let old = vol.read(alloc, name, 0, len)?;
+    let old = read_piece(alloc, vol, name, len)?;
     gather(alloc, vol, entry, pending, old.as_slice())
 }
 

@@ -1,6 +1,6 @@
 //! Reading the area.
 
-ghost use Rattle.std.specs.Prelude.{◌≡◌, ◌<◌, ◌+◌, ◌++◌, ◌∷◌, [], true, not, Ok, Err, IfOk, IsErrOf};
+ghost use Rattle.std.specs.Prelude.{◌≡◌, ◌≤◌, ◌<◌, ◌+◌, ◌++◌, ◌∷◌, [], true, not, Ok, Err, IfOk, OnOk, IsErrOf};
 ghost use Rattle.mi_text.specs.Maps.{is_among};
 ghost use Rattle.std.specs.FinMap.{get};
 ghost use Rattle.mi_volume.specs.State.{Passes, Rose};
@@ -14,6 +14,7 @@ use crate::decode::read_note;
 use crate::fault::UndoError;
 use crate::kept::Place;
 use crate::names::{MOST_ENTRIES, entry_of, gate_of};
+use crate::steps::uncounted;
 use mi_text::Name;
 use mi_volume::{VolFault, Volume};
 use std::alloc::Global;
@@ -30,14 +31,20 @@ pub(crate) enum Turn {
     Bad(Name),
 }
 
-/// Whether the name holds exactly the byte 1.
+/// Whether the name holds exactly the byte 1. If the volume counts a fault meanwhile it may lack bytes, and
+/// the call fails.
 pub(crate) fn is_open<V: Volume>(alloc: Global, vol: &mut V, name: &Name) -> Result<bool, VolFault>
     ensures value { V.told → IfOk result (λ b. b ≡ is_one (get (V.state vol.old).held name.now)) }
     ensures looks { V.told → Looks (V.state vol.old) (V.state vol.new) }
     ensures passes { Passes (V.state vol.old) (V.state vol.new) }
     ensures fault { IsErrOf result VolFault.Failed → Rose (V.state vol.old) (V.state vol.new) }
+    ensures uncounted { OnOk result ((V.state vol.new).faults ≤ (V.state vol.old).faults) }
 {
+    let faults = vol.faults();
     let bytes = vol.read(alloc, name, 0, 2)?;
+    if uncounted(vol, faults).is_err() {
+        return Err(VolFault::Failed);
+    }
     Ok(bytes.as_slice() == [1].as_slice())
 }
 
@@ -69,7 +76,7 @@ fn keep_place(
 }
 
 /// Adds the places of an entry's notes. Answers whether it is there and spelled.
-fn read_entry<V: Volume>(
+fn read_notes<V: Volume>(
     alloc: Global,
     vol: &mut V,
     entry: &Name,
@@ -103,6 +110,35 @@ fn read_entry<V: Volume>(
         at = next;
     }
     Ok(true)
+}
+
+/// Adds the places of an entry's notes. Answers whether it is there and spelled. If the volume counts a fault
+/// meanwhile it may have given fewer bytes than stand there, and the call fails.
+fn read_entry<V: Volume>(
+    alloc: Global,
+    vol: &mut V,
+    entry: &Name,
+    number: u32,
+    places: &mut Vec<Place>,
+    seen: &mut BTreeSet<Name>,
+) -> Result<bool, VolFault>
+    requires entry { entry.now ≡ entry_name number }
+    requires knows { Knows seen.old (place_names places.old.items) }
+    requires below { AreBelow number places.old.items }
+    ensures knows { IfOk result (λ b. b ≡ true → Knows seen.new (place_names places.new.items)) }
+    ensures below { IfOk result (λ b. b ≡ true → AreBelow (number + 1) places.new.items) }
+    ensures adds { V.told → AddsEntry (V.state vol.old).held entry.now (notes_in (V.state vol.old).held places.old.items) (notes_in (V.state vol.old).held places.new.items) result }
+    ensures looks { V.told → Looks (V.state vol.old) (V.state vol.new) }
+    ensures passes { Passes (V.state vol.old) (V.state vol.new) }
+    ensures fault { IsErrOf result VolFault.Failed → Rose (V.state vol.old) (V.state vol.new) }
+    ensures uncounted { OnOk result ((V.state vol.new).faults ≤ (V.state vol.old).faults) }
+{
+    let faults = vol.faults();
+    let whole = read_notes(alloc, vol, entry, number, places, seen)?;
+    if uncounted(vol, faults).is_err() {
+        return Err(VolFault::Failed);
+    }
+    Ok(whole)
 }
 
 /// Reads what stands at the number of an entry.

@@ -1,6 +1,6 @@
 //! Calls of a volume that go together.
 
-ghost use Rattle.std.specs.Prelude.{◌≡◌, ◌≢◌, ◌⊎◌, ◌≤◌, ◌-◌, ◌++◌, List, ℕ, Some, take, drop, length, IsErrOf, OnOk, OnErr};
+ghost use Rattle.std.specs.Prelude.{◌≡◌, ◌≢◌, ◌⊎◌, ◌≤◌, ◌<◌, ◌-◌, ◌++◌, List, ℕ, Some, take, drop, length, IsErrOf, OnOk, OnErr};
 ghost use Rattle.std.specs.FinMap.{get, insert};
 ghost use Rattle.mi_volume.specs.Maps.{HoldsByte, Fits, Exceeds, size, bytes_or_none};
 ghost use Rattle.mi_volume.specs.State.{Passes, Rose, Stays};
@@ -44,8 +44,20 @@ pub(crate) fn mark_synced<V: Volume>(vol: &mut V, name: &Name, byte: u8) -> Resu
     Ok(())
 }
 
-/// Adds the bytes of `from`, from `at` up to `end`, at the end of `to`, by pieces. It ends where a
-/// read gives nothing, whatever length was told.
+/// A fault, if the volume has counted one since it had counted so many: what it gave in between may lack bytes.
+pub(crate) fn uncounted<V: Volume>(vol: &V, faults: u64) -> Result<(), Failed>
+    ensures counted { OnErr result (faults < (V.state vol.now).faults) }
+    ensures uncounted { OnOk result ((V.state vol.now).faults ≤ faults) }
+{
+    if vol.faults() > faults {
+        Err(Failed)
+    } else {
+        Ok(())
+    }
+}
+
+/// Adds the bytes of `from`, from `at` up to `end`, at the end of `to`, by pieces. It goes on by the
+/// bytes that a read gave, and ends when a read gives none, whatever length was stated.
 pub(crate) fn append_span<V: Volume>(
     alloc: Global,
     vol: &mut V,
@@ -69,7 +81,7 @@ pub(crate) fn append_span<V: Volume>(
             return Ok(());
         }
         vol.append(alloc, to, bytes.as_slice())?;
-        at += want;
+        at += bytes.len() as u64;
     }
     Ok(())
 }

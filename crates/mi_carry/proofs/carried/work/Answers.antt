@@ -1,15 +1,17 @@
-use Rattle.std.proofs.Common.{ℕ, Err, refl, sym, ap, subst, ◌∙◌, arith}
+use Rattle.std.proofs.Common.{inl, inr, ℕ, Err, refl, sym, ap, subst, ◌∙◌, arith}
 use Rattle.mi_volume.specs.Maps.{Map}
 use Rattle.mi_undo.specs.Area.{CanGoBack, Works}
 use Rattle.mi_model.specs.Causes.{BelowCount}
-use Rattle.mi_carry.specs.Segments.{after_segments, Reaches}
+use Rattle.mi_carry.specs.Segments.{after_segments}
 use Rattle.mi_carry.specs.Causes.{Differs}
 use Rattle.mi_carry.specs.Falls.{AnswersStop}
-use Rattle.mi_carry.specs.Halts.{Goes, IfBack, HaltCaused, reached_by}
+use Rattle.mi_carry.specs.Halts.{Goes, IfBack, HaltCaused}
+use Rattle.mi_carry.specs.Reached.{AtOne, HaltReached, HaltHasBegunCommit}
 use Rattle.mi_carry.specs.Rooms.{HasRoom, IsRoomy, FitsBack}
 use Rattle.mi_carry.proofs.CauseLemmas.{raised}
 use Rattle.mi_carry.proofs.EndLemmas.{begun_caused, all_outside, lifted, declined_ends, done_ends, fell_ends, unknown_ends, stop_before, stop_room, answers_room, fell_caused}
 use Rattle.mi_carry.proofs.RoomLemmas.{begun_roomy, walked_goes, fallen_goes, not_begun}
+use Rattle.mi_carry.proofs.ReachLemmas.{not_none, among_first, fell_reached, begun_reached, none_begun, then_begun, back_begun}
 use Rattle.mi_carry.proofs.carried.work.Goals as goal
 
 pub returns-in-Err-clause-ends : goal.returns-in-Err-clause-ends
@@ -139,10 +141,50 @@ returns-in-Err-Unknown-clause-ends g c = λ told.
     (lifted g.S.Source.told s (g.V.Volume.state c.in-Ok.area.vol.now) _ _ s.held _ _ c.args.refusal c.carry_walk.result c.in-Ok.ensures.passes.faults c.carry_walk.ensures.passes.faults
     (ap (λ (m : Map). after_segments (g.S.Source.files c.args.src.now) m c.args.parts.now) (opens.outside ∙ all_outside s (c.requires.free told))) opens.goes goes)))
 
+pub returns-in-Err-clause-reached : goal.returns-in-Err-clause-reached
+returns-in-Err-clause-reached g c =
+    rw (c.give_up.ensures, c.from.ensures)
+    (begun_reached c.args.refusal c.args.begun c.args.parts.now c.first_reached.result c.in-Err.refused.fault
+    (subst (AtOne c.args.parts.now) (sym c.first_reached.ensures) (among_first c.args.begun c.args.parts.now (not_none c.args.parts.now c.requires.some))))
+
 pub returns-in-Err-Back-clause-reached : goal.returns-in-Err-Back-clause-reached
 returns-in-Err-Back-clause-reached g c =
-    subst (λ r. Reaches c.args.begun c.args.parts.now (reached_by c.args.begun r)) (c.in-Err-Back.is ∙ ap Err c.in-Err-Back.field-0-is) c.carry_walk.ensures.reached
+    fell_reached c.args.refusal c.args.begun c.args.parts.now c.in-Err-Back.stopped.reached _ c.in-Err-Back.stopped.why _ _ _ c.fall_back.result
+    (subst (HaltReached c.args.refusal c.args.begun c.args.parts.now) (c.in-Err-Back.is ∙ ap Err c.in-Err-Back.field-0-is) (c.carry_walk.ensures.reached c.requires.some)) c.fall_back.ensures.answers
 
 pub returns-in-Err-Unknown-clause-reached : goal.returns-in-Err-Unknown-clause-reached
 returns-in-Err-Unknown-clause-reached g c =
-    subst (λ r. Reaches c.args.begun c.args.parts.now (reached_by c.args.begun r)) (c.in-Err-Unknown.is ∙ ap Err c.in-Err-Unknown.field-0-is) c.carry_walk.ensures.reached
+    rw c.suspended_in_commit.ensures
+    (subst (HaltReached c.args.refusal c.args.begun c.args.parts.now) (c.in-Err-Unknown.is ∙ ap Err c.in-Err-Unknown.field-0-is) (c.carry_walk.ensures.reached c.requires.some))
+
+pub returns-in-Err-clause-commit_begins : goal.returns-in-Err-clause-commit_begins
+returns-in-Err-clause-commit_begins g c = λ told.
+    let s = g.V.Volume.state c.args.vol.now in
+    rw (c.vol-1.given.1 (sym c.in-Err.ensures.handed_back)) (none_begun s.held s (g.V.Volume.state c.in-Err.refused.vol.now) (c.in-Err.ensures.declines told).goes _)
+
+pub returns-in-Ok-carry_walk-clause-commit_begins : goal.returns-in-Ok-carry_walk-clause-commit_begins
+returns-in-Ok-carry_walk-clause-commit_begins g c = λ told.
+    let s = g.V.Volume.state c.args.vol.now in
+    let opens = c.in-Ok.ensures.opens told in
+    rw (c.vol-in-Ok-carry_walk-1.given.1 (sym (c.carry_walk.ensures.reference ∙ c.in-Ok.ensures.reference)), c.end.ensures)
+    (then_begun s.held s _ opens.goes (g.V.Volume.state c.carry_walk.new.area.vol.now) _ _ (λ any. inl refl) (c.carry_walk.ensures.commit_begins told s.held opens.works))
+
+pub returns-in-Err-Back-clause-commit_begins : goal.returns-in-Err-Back-clause-commit_begins
+returns-in-Err-Back-clause-commit_begins g c = λ told.
+    let s = g.V.Volume.state c.args.vol.now in
+    let u = g.V.Volume.state c.carry_walk.new.area.vol.now in
+    let opens = c.in-Ok.ensures.opens told in
+    let fails = c.in-Err-Back.is ∙ ap Err c.in-Err-Back.field-0-is in
+    let goes = c.carry_walk.ensures.goes told s.held opens.works in
+    rw (c.vol-in-Err-Back-1.given.1 (sym (c.carry_walk.ensures.reference ∙ c.in-Ok.ensures.reference)))
+    (back_begun s.held s u (g.V.Volume.state c.fall_back.new.area.0) _
+    (then_begun s.held s _ opens.goes u _ _ (λ is. inr (subst (HaltHasBegunCommit c.args.begun c.args.parts.now) fails is)) (c.carry_walk.ensures.commit_begins told s.held opens.works))
+    (c.fall_back.ensures.falls told s.held (subst (λ r. IfBack r (CanGoBack u c.carry_walk.new.area.kept s.held)) fails goes.back)).goes)
+
+pub returns-in-Err-Unknown-clause-commit_begins : goal.returns-in-Err-Unknown-clause-commit_begins
+returns-in-Err-Unknown-clause-commit_begins g c = λ told.
+    let s = g.V.Volume.state c.args.vol.now in
+    let opens = c.in-Ok.ensures.opens told in
+    let fails = c.in-Err-Unknown.is ∙ ap Err c.in-Err-Unknown.field-0-is in
+    rw (c.vol-in-Err-Unknown-1.given.1 (sym (c.carry_walk.ensures.reference ∙ c.in-Ok.ensures.reference)), c.end-in-Err-Unknown.ensures)
+    (then_begun s.held s _ opens.goes (g.V.Volume.state c.carry_walk.new.area.vol.now) _ _ (λ is. inr (subst (HaltHasBegunCommit c.args.begun c.args.parts.now) fails is)) (c.carry_walk.ensures.commit_begins told s.held opens.works))

@@ -70,4 +70,4 @@ returns-clause-others g c = λ t F w q free. (c.in_ok-segment.ensures.carries t 
 pub returns-clause-longest : goal.returns-clause-longest
 returns-clause-longest g c = λ t F w q.
     let s = g.V.Volume.state c.args.area.now.vol.now in
-    subst (λ (rs : List Rec). IsNoLonger s.held rs (g.V.Volume.state c.segment.new.area.vol.now).held q) c.in_ok-script.ensures ((c.in_ok-segment.ensures.carries t F w).longest (λ failed. cc) q)
+    subst (λ (rs : List Rec). IsNoLonger s.held rs (g.V.Volume.state c.segment.new.area.vol.now).held q) c.in_ok-script.ensures (c.in_ok-segment.ensures.longest t F w (λ failed. cc) q)

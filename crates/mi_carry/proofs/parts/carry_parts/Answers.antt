@@ -1,4 +1,4 @@
-use Rattle.std.proofs.Common.{List, [], ◌∷◌, refl, ap, ◌∙◌, arith}
+use Rattle.std.proofs.Common.{ℕ, List, [], ◌∷◌, refl, sym, ap, subst, ◌∙◌, arith}
 use Rattle.std.proofs.lemmas.List.{take_all}
 use Rattle.mi_volume.proofs.Moments.{then_passes, started}
 use Rattle.std.specs.List.{All}
@@ -12,6 +12,8 @@ use Rattle.mi_carry.specs.Causes.{Differs}
 use Rattle.mi_carry.proofs.CauseLemmas.{stop_weaker, differs_among, below_before}
 use Rattle.mi_carry.proofs.PartLemmas.{at_part, more_map, then_failed, then_one, all_along}
 use Rattle.mi_carry.proofs.RoomLemmas.{room_starts, room_is_kept, segment_fits, segment_stays, segment_next}
+use Rattle.mi_carry.specs.Reached.{AtMetStop}
+use Rattle.mi_carry.proofs.ReachLemmas.{at_met}
 use Rattle.mi_carry.proofs.parts.carry_parts.Goals as goal
 
 pub loop-part-init : goal.loop-part-init
@@ -87,3 +89,8 @@ returns-in-Err-clause-roomy g c = λ t F w roomy.
 
 pub returns-clause-roomy : goal.returns-clause-roomy
 returns-clause-roomy g c = λ t F w roomy. room_is_kept _ _ F _ c.args.parts.now c.loop-part.part-index roomy (c.loop-part.invariant.room t F w roomy)
+
+pub returns-in-Err-clause-reached : goal.returns-in-Err-clause-reached
+returns-in-Err-clause-reached g c =
+    subst (λ (n : ℕ). AtMetStop c.args.parts.now n c.in-Err.why) (sym c.reached.ensures)
+    (at_met g.S.Source.told _ _ c.args.parts.now c.loop-part.part-index c.part-item.result c.loop-part-test.true c.part-item.is c.in-Err.why c.in-Err.ensures.stopped)

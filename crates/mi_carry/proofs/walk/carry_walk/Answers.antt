@@ -1,7 +1,8 @@
-use Rattle.std.proofs.Common.{inr}
+use Rattle.std.proofs.Common.{inl, refl}
 use Rattle.mi_carry.proofs.EndLemmas.{free_then}
 use Rattle.mi_carry.proofs.HaltLemmas.{stopped_goes, refused_goes, stop_caused, done_goes, failed_goes}
 use Rattle.mi_carry.proofs.RoomLemmas.{stopped_room, done_room, failed_room}
+use Rattle.mi_carry.proofs.ReachLemmas.{not_none, met_stop, commit_reached, halt_begins, none_begun, all_begun}
 use Rattle.mi_carry.proofs.walk.carry_walk.Goals as goal
 
 pub returns-in-Err-clause-goes : goal.returns-in-Err-clause-goes
@@ -14,7 +15,31 @@ returns-in-Err-clause-caused g c =
 
 pub returns-in-Err-clause-reached : goal.returns-in-Err-clause-reached
 returns-in-Err-clause-reached g c =
-    rw c.from.ensures (inr c.in-Err.ensures.reached)
+    rw c.from.ensures (λ some. met_stop c.args.refusal c.args.begun c.args.parts.now c.in-Err.stopped.reached c.in-Err.stopped.why c.in-Err.ensures.reached)
+
+pub returns-in-Some-clause-reached : goal.returns-in-Some-clause-reached
+returns-in-Some-clause-reached g c = λ some. inl (c.in-Some.is, refl)
+
+pub returns-in-Err-commit-clause-reached : goal.returns-in-Err-commit-clause-reached
+returns-in-Err-commit-clause-reached g c =
+    rw c.of.ensures (λ some. commit_reached (Unit {0}) c.args.refusal c.args.begun c.args.parts.now c.last_reached.result c.in-Err-commit.fault c.last_reached.ensures (not_none c.args.parts.now some))
+
+pub returns-in-Err-clause-commit_begins : goal.returns-in-Err-clause-commit_begins
+returns-in-Err-clause-commit_begins g c = λ t F w. rw c.from.ensures (none_begun F _ _ (c.in-Err.ensures.along t F w).goes _)
+
+pub returns-in-Some-clause-commit_begins : goal.returns-in-Some-clause-commit_begins
+returns-in-Some-clause-commit_begins g c = λ t F w. none_begun F _ _ (c.in-Ok.ensures.along t F w).goes _
+
+pub returns-in-Ok-commit-clause-commit_begins : goal.returns-in-Ok-commit-clause-commit_begins
+returns-in-Ok-commit-clause-commit_begins g c = λ t F w.
+    let along = c.in-Ok.ensures.along t F w in
+    all_begun F _ _ along.goes (g.V.Volume.state c.commit.new.self.vol.now) (Unit {0}) _ tt (c.in-Ok-commit.ensures.commits t F along.works).goes
+
+pub returns-in-Err-commit-clause-commit_begins : goal.returns-in-Err-commit-clause-commit_begins
+returns-in-Err-commit-clause-commit_begins g c = λ t F w.
+    let along = c.in-Ok.ensures.along t F w in
+    rw c.of.ensures
+    (all_begun F _ _ along.goes (g.V.Volume.state c.commit.new.self.vol.now) _ _ (halt_begins (Unit {0}) c.args.begun c.args.parts.now c.last_reached.result c.in-Err-commit.fault c.last_reached.ensures) (c.in-Err-commit.ensures.commits t F along.works).goes)
 
 pub commit-requires-clause-works : goal.commit-requires-clause-works
 commit-requires-clause-works g c = λ t. let w = c.requires.works t in (w.0, (c.in-Ok.ensures.along t w.0 w.1).works)

@@ -1,6 +1,6 @@
 use Rattle.std.proofs.Common.{subst}
 use Rattle.mi_schema.specs.TableRows.{Rows}
-use Rattle.mi_plain.specs.PlainLaws.{HasProductCode}
+use Rattle.mi_laws.specs.PlainLaws.{HasProductCode}
 use Rattle.mi_commands.proofs.package.plain_walks.Goals as goal
 
 pub returns : goal.returns

@@ -1,4 +1,4 @@
--- Written out, so that an edit that turns it is refused at once (docs/GATE.md).
+-- Written out, so that an edit that turns it is refused at once (docs/CONTRIBUTING.md).
 use Rattle.std.proofs.Common.{rules}
 use Rattle.mi_cost.proofs.total.count.Goals as goal
 

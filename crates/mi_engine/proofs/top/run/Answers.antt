@@ -12,7 +12,7 @@ use Rattle.mi_commands.proofs.BeforeLemmas.{caused_as}
 use Rattle.mi_engine.proofs.TopLemmas.{completes, logs}
 use Rattle.mi_engine.proofs.top.run.Goals as goal
 
--- Written out, so that an edit that turns it is refused at once (docs/GATE.md).
+-- Written out, so that an edit that turns it is refused at once (docs/CONTRIBUTING.md).
 pub returns-clause-words : goal.returns-clause-words
 returns-clause-words g c = c.reply_to-reply.ensures.leaves.answers
 

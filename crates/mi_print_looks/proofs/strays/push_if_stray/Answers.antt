@@ -1,4 +1,4 @@
--- Written out, so that an edit that turns it is refused at once (docs/GATE.md).
+-- Written out, so that an edit that turns it is refused at once (docs/CONTRIBUTING.md).
 use Rattle.std.proofs.Common.{◌≡◌, ◌++◌, [], ℕ, List, Bool, true, false, cond, sym, ap, subst, ◌∙◌, append-nil}
 use Rattle.std.specs.Prelude.{OnOk, is_some}
 use Rattle.mi_base.specs.Machine.{key_at}

@@ -1,4 +1,4 @@
--- Written out, so that an edit that turns it is refused at once (docs/GATE.md).
+-- Written out, so that an edit that turns it is refused at once (docs/CONTRIBUTING.md).
 use Rattle.std.proofs.Common.{List, ap, ◌∙◌}
 use Rattle.std.specs.List.{flat_map}
 use Rattle.std.proofs.lemmas.Result.{IfOk-weaker}

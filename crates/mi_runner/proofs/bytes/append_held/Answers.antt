@@ -2,6 +2,7 @@ use Rattle.std.proofs.Common.{◌≡◌, ◌+◌, ◌-◌, ◌++◌, length, tak
 use Rattle.std.proofs.lemmas.Result.{err_from_is_err_and}
 use Rattle.std.proofs.lemmas.Bool.{eqb-true}
 use Rattle.std.specs.FinMap.{get, insert}
+use Rattle.mi_text.proofs.PieceLemmas.{take_own}
 use Rattle.mi_volume.specs.Maps.{bytes_or_none}
 use Rattle.mi_undo.specs.declared.fault.OpFault.TheVariants as op
 use Rattle.mi_undo.specs.Faults.{vol_fault_of}
@@ -85,10 +86,14 @@ pub loop-at-preserved : goal.loop-at-preserved
 loop-at-preserved g c =
     let e = c.read.ensures in
     let a = c.in_ok-append.ensures in
-    appending_more g.V.Volume.told g.V.Volume.state c.args.area.now c.loop-at.area c.read.new.self c.append.new.self c.args.name.now c.args.from.now c.as_slice.result.now c.args.at c.loop-at.at c.args.end c.min-want.result
-    c.loop-at.invariant c.requires.other (omega (arith, c.min-want.ensures, c.loop-at-test.true))
+    appending_more g.V.Volume.told g.V.Volume.state c.args.area.now c.loop-at.area c.read.new.self c.append.new.self c.args.name.now c.args.from.now c.as_slice.result.now c.args.at c.loop-at.at c.args.end c.len.result
+    c.loop-at.invariant c.requires.other (omega (arith, c.len.ensures, c.in_ok-bytes.ensures.short, c.min-want.ensures, c.loop-at-test.true))
     (keeps_looks g.V.Volume.told g.V.Volume.state c.loop-at.area c.read.new.self (λ q. q ≡ c.args.name.now) e.reference e.kept e.stays e.moments e.works e.room)
-    (λ t. (e.stays t).held) (λ t. c.as_slice.ensures ∙ c.in_ok-bytes.ensures.value t)
+    (λ t. (e.stays t).held)
+    (λ t.
+    let held = bytes_or_none (get (g.V.Volume.state c.loop-at.area.vol.now).held c.args.from.now) in
+    let gave = c.in_ok-bytes.ensures.value t in
+    c.as_slice.ensures ∙ gave ∙ sym (take_own c.min-want.result (drop c.loop-at.at held)) ∙ ap (λ (l : List ℕ). take (length l) (drop c.loop-at.at held)) (sym gave) ∙ ap (λ (k : ℕ). take k (drop c.loop-at.at held)) (sym c.len.ensures))
     (record { reference = a.reference; kept = a.kept; changes = a.changes; room = a.room; others = a.others; passes = a.passes }) a.working
     (λ t. held_is _ _ c.args.name.now _ (noted_outside _ c.args.name.now c.requires.working.outside c.requires.noted) (a.others t) (a.map t))
 

@@ -73,8 +73,8 @@ returns-in_err-append-clause-never g c =
     let p = err_from_is_err_and c.from_residual-in_err-append.result c.from_residual-in_err-append.ensures.1 in
     rw (p.1, p.2) (never_op c.in_err-append.field-0.0)
 
-pub returns-then-found-want-clause-writes : goal.returns-then-found-want-clause-writes
-returns-then-found-want-clause-writes g c = λ before is.
+pub returns-then-found-eq0-clause-writes : goal.returns-then-found-eq0-clause-writes
+returns-then-found-eq0-clause-writes g c = λ before is.
     let so_far = c.loop-at.invariant.filling in
     let within = so_far.within in
     let a = c.in_ok-append.ensures in
@@ -89,8 +89,8 @@ returns-then-found-want-clause-writes g c = λ before is.
     writes_ok g.V.Volume.told g.V.Volume.state c.args.area.now c.append.new.self c.args.name.now (length c.args.name.now + (length before + c.args.stated)) run.Volume run.Full _ next.keeps next.working
     (added_within g.V.Volume.told g.V.Volume.state c.args.area.now c.append.new.self c.args.name.now next.bytes before c.args.stated next.added is (omega (arith, few, high)))
 
-pub returns-then-found-want-clause-map : goal.returns-then-found-want-clause-map
-returns-then-found-want-clause-map g c = λ t s before is.
+pub returns-then-found-eq0-clause-map : goal.returns-then-found-eq0-clause-map
+returns-then-found-eq0-clause-map g c = λ t s before is.
     let so_far = c.loop-at.invariant.filling in
     let within = so_far.within in
     let a = c.in_ok-append.ensures in
@@ -103,7 +103,7 @@ returns-then-found-want-clause-map g c = λ t s before is.
     (record { reference = a.reference; kept = a.kept; changes = a.changes; room = a.room; others = a.others; passes = a.passes }) a.working
     (λ t. held_is _ _ c.args.name.now _ (noted_outside _ c.args.name.now c.requires.working.outside c.requires.noted) (a.others t) (a.map t)) in
     filled g.V.Volume.told g.V.Volume.state g.S.Source.told c.args.area.now c.append.new.self c.args.name.now file (c.loop-at.at + length c.as_slice.result.now) c.args.stated next
-    (λ s. (filling_short g.V.Volume.told g.V.Volume.state g.S.Source.told c.args.area.now c.append.new.self c.args.name.now file (c.loop-at.at + length c.as_slice.result.now) c.loop-at.at c.args.stated c.min-want.result (length c.as_slice.result.now) c.as_slice.result.now next refl refl (omega (arith, piece, c.if-found-want.true)) read s).1)
+    (λ s. (filling_short g.V.Volume.told g.V.Volume.state g.S.Source.told c.args.area.now c.append.new.self c.args.name.now file (c.loop-at.at + length c.as_slice.result.now) c.loop-at.at c.args.stated c.min-want.result (length c.as_slice.result.now) c.as_slice.result.now next refl refl (omega (arith, piece, c.if-found-eq0.true, c.min-want.ensures, c.loop-at-test.true)) read s).1)
     t s before is
 
 pub loop-at-preserved : goal.loop-at-preserved

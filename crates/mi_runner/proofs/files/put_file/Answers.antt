@@ -23,7 +23,7 @@ returns-in_err-bytes-clause-writes g c =
 pub returns-in_err-bytes-clause-reads : goal.returns-in_err-bytes-clause-reads
 returns-in_err-bytes-clause-reads g c =
     let p = err_from_is_err_and c.from_residual.result c.from_residual.ensures.1 in
-    rw (p.1, p.2) (reads_failed g.S.Source.files g.S.Source.faults c.args.src.now c.args.src.now c.read.new.self c.in_err-bytes.field-0.0 refl (omega arith) c.read.ensures.stays c.read.ensures.counts c.in_err-bytes.ensures.failed)
+    rw (p.1, p.2) (reads_failed g.S.Source.files g.S.Source.faults c.args.src.now c.args.src.now c.read_front.new.src c.in_err-bytes.field-0.0 refl (omega arith) c.read_front.ensures.stays c.read_front.ensures.counts c.in_err-bytes.ensures.failed)
 
 pub returns-in_err-bytes-clause-never : goal.returns-in_err-bytes-clause-never
 returns-in_err-bytes-clause-never g c =
@@ -42,7 +42,7 @@ returns-in_err-extend-clause-writes g c =
 pub returns-in_err-extend-clause-reads : goal.returns-in_err-extend-clause-reads
 returns-in_err-extend-clause-reads g c =
     let p = err_from_is_err_and c.from_residual-in_err-extend.result c.from_residual-in_err-extend.ensures.1 in
-    rw (p.1, p.2) (reads_op g.S.Source.files g.S.Source.faults c.args.src.now c.read.new.self op.NoMemory c.read.ensures.stays c.read.ensures.counts)
+    rw (p.1, p.2) (reads_op g.S.Source.files g.S.Source.faults c.args.src.now c.read_front.new.src op.NoMemory c.read_front.ensures.stays c.read_front.ensures.counts)
 
 pub returns-in_err-put-clause-writes : goal.returns-in_err-put-clause-writes
 returns-in_err-put-clause-writes g c =
@@ -59,7 +59,7 @@ returns-in_err-put-clause-writes g c =
 pub returns-in_err-put-clause-reads : goal.returns-in_err-put-clause-reads
 returns-in_err-put-clause-reads g c =
     let p = err_from_is_err_and c.from_residual-in_err-put.result c.from_residual-in_err-put.ensures.1 in
-    rw (p.1, p.2) (reads_op g.S.Source.files g.S.Source.faults c.args.src.now c.read.new.self c.in_err-put.field-0.0 c.read.ensures.stays c.read.ensures.counts)
+    rw (p.1, p.2) (reads_op g.S.Source.files g.S.Source.faults c.args.src.now c.read_front.new.src c.in_err-put.field-0.0 c.read_front.ensures.stays c.read_front.ensures.counts)
 
 pub returns-in_err-put-clause-never : goal.returns-in_err-put-clause-never
 returns-in_err-put-clause-never g c =

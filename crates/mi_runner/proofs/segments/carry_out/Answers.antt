@@ -11,13 +11,13 @@ use Rattle.mi_undo.specs.Stands.{outside}
 use Rattle.mi_undo.specs.Area.{entries_for, noted_names, entry_count, place_names}
 use Rattle.mi_undo.specs.declared.kept.Kept.{Kept}
 use Rattle.mi_undo.specs.Room.{KeepsRoom, entry_size}
-use Rattle.mi_runner.specs.Sizes.{growth}
+use Rattle.mi_runner.specs.Sizes.{growth, AreNoLonger, AreNoLongerButOne}
 use Rattle.mi_runner.specs.Steps.{Differs}
 use Rattle.mi_runner.specs.Answers.{Carries}
 use Rattle.mi_runner.proofs.StepLemmas.{room_then}
 use Rattle.mi_runner.proofs.FaultLemmas.{fault_handed, full_handed, op_differs, reads_op}
 use Rattle.mi_runner.proofs.RecordLemmas.{all_are_noted}
-use Rattle.mi_runner.proofs.SegmentLemmas.{at_most_one, note_full, noted_size, carry_full, not_noted, carries, memory_not_full}
+use Rattle.mi_runner.proofs.SegmentLemmas.{at_most_one, note_full, noted_size, carry_full, not_noted, carries, still_no_longer, all_but_one, no_longer, memory_not_full}
 use Rattle.mi_runner.proofs.segments.carry_out.Goals as goal
 
 pub returns-in_err-note-clause-carries : goal.returns-in_err-note-clause-carries
@@ -69,7 +69,7 @@ returns-in_err-carry_records-clause-carries g c =
     let notes = c.in_ok-note.ensures.notes t F w in
     let p = err_from_is_err_and c.from_residual-in_err-carry_records.result c.from_residual-in_err-carry_records.ensures.1 in
     rw (p.1, p.2) (subst (λ (rs : List Rec). Carries {T = Unit {0}} (g.V.Volume.state c.args.area.now.vol.now) (g.V.Volume.state c.carry_records.new.area.vol.now) c.carry_records.new.area.kept F rs (Err c.in_err-carry_records.field-0.0)) c.recs.ensures
-    (carries g.V.Volume.told g.V.Volume.state c.args.area.now c.note.new.self c.carry_records.new.area F c.recs.result.now notes.goes notes.works notes.outside c.in_err-carry_records.ensures.keeps t (Err c.in_err-carry_records.field-0.0) (c.in_err-carry_records.ensures.longest t) (c.in_err-carry_records.ensures.longest_others t)))
+    (carries g.V.Volume.told g.V.Volume.state c.args.area.now c.note.new.self c.carry_records.new.area F c.recs.result.now notes.goes notes.works notes.outside c.in_err-carry_records.ensures.keeps t (Err c.in_err-carry_records.field-0.0)))
 
 pub returns-in_err-carry_records-clause-room : goal.returns-in_err-carry_records-clause-room
 returns-in_err-carry_records-clause-room g c =
@@ -141,7 +141,7 @@ returns-clause-carries g c =
     λ t F w.
     let notes = c.in_ok-note.ensures.notes t F w in
     subst (λ (rs : List Rec). Carries {T = Unit {0}} (g.V.Volume.state c.args.area.now.vol.now) (g.V.Volume.state c.carry_records.new.area.vol.now) c.carry_records.new.area.kept F rs (Ok _)) c.recs.ensures
-    (carries g.V.Volume.told g.V.Volume.state c.args.area.now c.note.new.self c.carry_records.new.area F c.recs.result.now notes.goes notes.works notes.outside c.in_ok-carry_records.ensures.keeps t (Ok _) (c.in_ok-carry_records.ensures.longest t) (c.in_ok-carry_records.ensures.longest_others t))
+    (carries g.V.Volume.told g.V.Volume.state c.args.area.now c.note.new.self c.carry_records.new.area F c.recs.result.now notes.goes notes.works notes.outside c.in_ok-carry_records.ensures.keeps t (Ok _))
 
 pub returns-clause-room : goal.returns-clause-room
 returns-clause-room g c =
@@ -177,3 +177,33 @@ returns-clause-entries_most g c =
     let kept = ap (λ (k : Kept). k.entries) c.in_ok-carry_records.ensures.keeps.kept in
     let most = at_most_one (new_names (noted_names c.args.area.now) c.args.names.now) in
     omega (arith, kept, c.in_ok-note.ensures.entries, most)
+
+pub returns-in_err-note-clause-longest : goal.returns-in_err-note-clause-longest
+returns-in_err-note-clause-longest g c = λ t F w not_failed. still_no_longer _ _ c.args.script.now (c.in_err-note.ensures.notes t F w).outside
+
+pub returns-in_err-note-clause-longest_but_one : goal.returns-in_err-note-clause-longest_but_one
+returns-in_err-note-clause-longest_but_one g c = λ t F w. all_but_one _ _ c.args.script.now (still_no_longer _ _ c.args.script.now (c.in_err-note.ensures.notes t F w).outside)
+
+pub returns-in_err-carry_records-clause-longest : goal.returns-in_err-carry_records-clause-longest
+returns-in_err-carry_records-clause-longest g c =
+    let p = err_from_is_err_and c.from_residual-in_err-carry_records.result c.from_residual-in_err-carry_records.ensures.1 in
+    rw (p.1, p.2) (λ t F w not_failed.
+    subst (λ (rs : List Rec). AreNoLonger (g.V.Volume.state c.args.area.now.vol.now).held rs (g.V.Volume.state c.carry_records.new.area.vol.now).held) c.recs.ensures
+    (λ q. no_longer _ _ _ c.recs.result.now q (c.in_ok-note.ensures.notes t F w).outside (c.in_err-carry_records.ensures.longest t not_failed q)))
+
+pub returns-in_err-carry_records-clause-longest_but_one : goal.returns-in_err-carry_records-clause-longest_but_one
+returns-in_err-carry_records-clause-longest_but_one g c = λ t F w.
+    let others = c.in_err-carry_records.ensures.longest_others t in
+    subst (λ (rs : List Rec). AreNoLongerButOne (g.V.Volume.state c.args.area.now.vol.now).held rs (g.V.Volume.state c.carry_records.new.area.vol.now).held) c.recs.ensures
+    (others.0, λ q ne. no_longer _ _ _ c.recs.result.now q (c.in_ok-note.ensures.notes t F w).outside (others.1 q ne))
+
+pub returns-clause-longest : goal.returns-clause-longest
+returns-clause-longest g c = λ t F w not_failed.
+    subst (λ (rs : List Rec). AreNoLonger (g.V.Volume.state c.args.area.now.vol.now).held rs (g.V.Volume.state c.carry_records.new.area.vol.now).held) c.recs.ensures
+    (λ q. no_longer _ _ _ c.recs.result.now q (c.in_ok-note.ensures.notes t F w).outside (c.in_ok-carry_records.ensures.longest t not_failed q))
+
+pub returns-clause-longest_but_one : goal.returns-clause-longest_but_one
+returns-clause-longest_but_one g c = λ t F w.
+    let others = c.in_ok-carry_records.ensures.longest_others t in
+    subst (λ (rs : List Rec). AreNoLongerButOne (g.V.Volume.state c.args.area.now.vol.now).held rs (g.V.Volume.state c.carry_records.new.area.vol.now).held) c.recs.ensures
+    (others.0, λ q ne. no_longer _ _ _ c.recs.result.now q (c.in_ok-note.ensures.notes t F w).outside (others.1 q ne))

@@ -1,5 +1,6 @@
+use Rattle.std.proofs.Common.{refl}
 use Rattle.std.proofs.lemmas.Result.{err_from_is_err_and}
-use Rattle.mi_runner.proofs.SegmentLemmas.{untouched_carries, untouched_room}
+use Rattle.mi_runner.proofs.SegmentLemmas.{untouched_carries, untouched_room, still_no_longer, all_but_one}
 use Rattle.mi_runner.proofs.segments.segment.Goals as goal
 
 pub returns-in_err-names-clause-carries : goal.returns-in_err-names-clause-carries
@@ -59,3 +60,14 @@ returns-clause-source_stays g c = c.in_ok-carry_out.ensures.reads.stays
 
 pub returns-clause-source_counts : goal.returns-clause-source_counts
 returns-clause-source_counts g c = c.in_ok-carry_out.ensures.reads.counts
+
+pub returns-in_err-names-clause-longest : goal.returns-in_err-names-clause-longest
+returns-in_err-names-clause-longest g c = λ t F w not_failed. still_no_longer _ _ c.args.script.now refl
+
+pub returns-in_err-names-clause-longest_but_one : goal.returns-in_err-names-clause-longest_but_one
+returns-in_err-names-clause-longest_but_one g c = λ t F w. all_but_one _ _ c.args.script.now (still_no_longer _ _ c.args.script.now refl)
+
+pub returns-in_err-carry_out-clause-longest : goal.returns-in_err-carry_out-clause-longest
+returns-in_err-carry_out-clause-longest g c =
+    let p = err_from_is_err_and c.from_residual-in_err-carry_out.result c.from_residual-in_err-carry_out.ensures.1 in
+    rw (p.1, p.2) c.in_err-carry_out.ensures.longest

@@ -1,4 +1,4 @@
--- Field by field, written out, so that an edit that turns it is refused at once (docs/GATE.md).
+-- Field by field, written out, so that an edit that turns it is refused at once (docs/CONTRIBUTING.md).
 use Rattle.std.proofs.Common.{[], refl, sym, ap, ◌∙◌}
 use Rattle.std.specs.Int.{w16}
 use Rattle.std.specs.Option.{option_map_or}

@@ -1,4 +1,4 @@
--- Written out, so that an edit that turns it is refused at once (docs/GATE.md).
+-- Written out, so that an edit that turns it is refused at once (docs/CONTRIBUTING.md).
 use Rattle.std.proofs.Common.{Bool, ap, sym}
 use Rattle.mi_shortcut_rows.specs.Targets.{component_to_start}
 use Rattle.mi_shortcut_rows.proofs.target.component_to_start.Goals as goal

@@ -1,7 +1,7 @@
 use Rattle.std.proofs.Common.{◌≡◌, length, ap, ◌∙◌, arith}
 use Rattle.mi_undo.specs.Entry.{note_for}
-use Rattle.mi_undo.proofs.FaultLemmas.{value_at_err}
-use Rattle.mi_undo.proofs.GatherLemmas.{gathers_as, gathers_ok}
+use Rattle.mi_undo.proofs.FaultLemmas.{value_at_err, fault_not_full}
+use Rattle.mi_undo.proofs.GatherLemmas.{gathers_as, gathers_ok, memory_failed}
 use Rattle.mi_undo.proofs.EntryLemmas.{note_gathered, placed_is, end_is, old_fits}
 use Rattle.mi_undo.proofs.entry.write_note.Goals as goal
 
@@ -14,6 +14,20 @@ returns-in_err-gather_note-clause-writes g c = λ told ne before is.
       gathers = note_gathered (g.V.Volume.state c.args.vol.now) (g.V.Volume.state c.size.new.self) (g.V.Volume.state c.gather_note.new.vol) c.args.entry.now before c.args.pending.now c.gather_note.new.pending c.args.name.now c.as_slice.result.now c.in_ok-len.len r.result
           c.size.ensures.moments stays len (c.as_slice.ensures ∙ c.in_ok-head.ensures.value) is
           (λ long held. gathers_as _ _ _ _ _ _ _ _ _ r.result _ (c.in_err-gather_note.ensures.gathers told ne (c.unwrap_or.ensures ∙ long) before held) r.ensures.1 r.ensures.0 (omega arith));
+      place = value_at_err r.result _ r.ensures.0;
+      end_is = value_at_err r.result _ r.ensures.0;
+      fits = value_at_err r.result _ r.ensures.0;
+    }
+
+pub returns-in_err-uncounted-clause-writes : goal.returns-in_err-uncounted-clause-writes
+returns-in_err-uncounted-clause-writes g c = λ told ne before is.
+    let stays = c.size.ensures.stays told in
+    let len = c.in_ok-len.ensures.value told in
+    let r = c.from_residual-in_err-uncounted in
+    record {
+      gathers = note_gathered (g.V.Volume.state c.args.vol.now) (g.V.Volume.state c.size.new.self) (g.V.Volume.state c.gather_note.new.vol) c.args.entry.now before c.args.pending.now c.gather_note.new.pending c.args.name.now c.as_slice.result.now c.in_ok-len.len r.result
+          c.size.ensures.moments stays len (c.as_slice.ensures ∙ c.in_ok-head.ensures.value) is
+          (λ long held. memory_failed _ _ _ _ _ _ _ _ _ _ r.result (c.in_ok-gather_note.ensures.gathers told ne (c.unwrap_or.ensures ∙ long) before held) (omega arith) r.ensures.0 (fault_not_full r.result r.ensures.1));
       place = value_at_err r.result _ r.ensures.0;
       end_is = value_at_err r.result _ r.ensures.0;
       fits = value_at_err r.result _ r.ensures.0;

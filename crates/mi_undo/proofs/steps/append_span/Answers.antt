@@ -5,7 +5,7 @@ use Rattle.mi_volume.specs.Maps.{bytes_or_none}
 use Rattle.mi_volume.proofs.Moments.{passes, then_passes}
 use Rattle.mi_undo.proofs.FaultLemmas.{at_err, full_was, never_full}
 use Rattle.mi_undo.proofs.StepLemmas.{only_looks, only_then, within_stays, within_put, no_more_held, no_more_longer}
-use Rattle.mi_undo.proofs.SpanLemmas.{Added, added_start, more_read, piece_added, piece_fails, run_longer, run_whole, run_ended}
+use Rattle.mi_undo.proofs.SpanLemmas.{Added, added_start, more_read, piece_added, piece_fails, run_longer, run_whole, run_ended, read_is}
 use Rattle.mi_undo.proofs.steps.append_span.Goals as goal
 
 pub loop-at-init : goal.loop-at-init
@@ -67,12 +67,12 @@ returns-in_err-append-clause-adds g c = λ told other before is.
 pub loop-at-preserved : goal.loop-at-preserved
 loop-at-preserved g c = record {
   low = omega (arith, c.loop-at.invariant.low);
-  high = λ less. omega (arith, c.min-want.ensures, c.loop-at-test.true);
+  high = λ less. omega (arith, c.len.ensures, c.in_ok-bytes.ensures.short, c.min-want.ensures, c.loop-at-test.true);
   passes = then_passes _ _ _ c.loop-at.invariant.passes (then_passes _ _ _ (passes _ _ _ c.read.ensures.moments) (passes _ _ _ c.append.ensures.moments));
   added = λ told other before is.
       let added = c.loop-at.invariant.added told other before is in
       let writes = c.in_ok-append.ensures.writes told in
-      let piece = more_read _ _ _ _ before _ added (c.read.ensures.stays told) _ _ _ _ c.min-want.result other c.loop-at.invariant.low (c.as_slice.ensures ∙ c.in_ok-bytes.ensures.value told) in
+      let piece = more_read _ _ _ _ before _ added (c.read.ensures.stays told) _ _ _ _ c.len.result other c.loop-at.invariant.low (c.as_slice.ensures ∙ read_is _ _ _ c.len.result (c.in_ok-bytes.ensures.value told) c.len.ensures) in
       subst (λ (l : List ℕ). Added c.args.to.now before l (g.V.Volume.state c.args.vol.now) (g.V.Volume.state c.append.new.self)) piece
       (piece_added _ _ _ _ before _ _ added c.read.ensures.moments (c.read.ensures.stays told) _ c.append.ensures.moments writes.others writes.dirty writes.ok);
   fits = λ told fits. within_put (g.V.Volume.state c.read.new.self) (g.V.Volume.state c.append.new.self) c.args.to.now _ _ c.append.ensures.moments.capacity (c.in_ok-append.ensures.writes told);

@@ -1,4 +1,4 @@
--- Written out, so that an edit that turns it is refused at once (docs/GATE.md).
+-- Written out, so that an edit that turns it is refused at once (docs/CONTRIBUTING.md).
 use Rattle.std.proofs.Common.{arith}
 use Rattle.std.proofs.lemmas.Grind.{common_steps}
 use Rattle.mi_words.proofs.digits.number_of.Goals as goal

@@ -1,4 +1,4 @@
--- Written out, so that an edit that turns it is refused at once (docs/GATE.md).
+-- Written out, so that an edit that turns it is refused at once (docs/CONTRIBUTING.md).
 use Rattle.std.proofs.Common.{◌≡◌, ℕ, true, List, take, ap, ◌∙◌}
 use Rattle.mi_model.specs.Report.{walk_lines}
 use Rattle.mi_report.specs.WalkLogs.{end_at}

@@ -1,5 +1,0 @@
-use Rattle.mi_laws.proofs.ClientLemmas as lemma
-use Rattle.mi_laws.proofs.laws.clients_go_by_absence.Goals as goal
-
-pub returns : goal.returns
-returns c = lemma.clients_go_by_absence

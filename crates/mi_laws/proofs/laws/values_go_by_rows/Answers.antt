@@ -1,5 +1,0 @@
-use Rattle.mi_laws.proofs.ValueLemmas as lemma
-use Rattle.mi_laws.proofs.laws.values_go_by_rows.Goals as goal
-
-pub returns : goal.returns
-returns c = lemma.values_go_by_rows
