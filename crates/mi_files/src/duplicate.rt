@@ -1,6 +1,6 @@
 //! DuplicateFiles as a plan call (DuplicateFile table).
 
-ghost use Rattle.std.specs.Prelude.{◌≡◌, ◌++◌, ◌&&◌, not, [], List, ℕ, Some, IfOk, IfSome, OnOk, IsTrue, true, is_some, map, filter, option_map};
+ghost use Rattle.std.specs.Prelude.{◌≡◌, ◌≢◌, ◌++◌, ◌&&◌, not, [], List, ℕ, Some, IfOk, IfSome, OnOk, IsTrue, true, is_some, map, filter, option_map};
 ghost use Rattle.std.specs.FinMap.{get};
 ghost use Rattle.std.specs.Option.{option_copied};
 ghost use Rattle.mi_text.specs.Maps.{Map, same_name};
@@ -119,6 +119,7 @@ fn head_of_copy(
 ) -> Result<Option<FileHead>, NoMemory>
     requires { IsTrue (is_file_path path.now) }
     ensures file { (held files : Map (List ℕ)) → AreThere held files image.now → IfOk result (λ own. own ≡ option_map (copied_head path.now moment) (option_map head_of (as_file (get (machine_over held files image.now) from.now)))) }
+    ensures shown { IfOk result (λ own. IfSome own (λ head. head.shown ≡ path.now)) }
     ensures length { IfOk result (λ own. IfSome own (λ head. length_in (get image.now from.now) ≡ Some head.length)) }
     ensures fits { IfOk result (λ own. IfSome own (λ head. fits (entry.File (with_bytes head [])) ≡ true)) }
 {
@@ -131,7 +132,7 @@ fn head_of_copy(
     }
 }
 
-// Copies a file to a folder that is there; nothing where no file stands at the name.
+// Copies another file to a folder that is there; nothing where no file stands at the name.
 fn write_copy(
     alloc: Global,
     plan: &mut Plan,
@@ -139,7 +140,8 @@ fn write_copy(
     path: &PathText,
     from: &Name,
 ) -> Result<(), NoMemory>
-    requires { IsTrue (is_file_path path.now) }
+    requires path { IsTrue (is_file_path path.now) }
+    requires other { from.now ≢ file_name path.now }
     ensures makes { (held files : Map (List ℕ)) → AreThere held files (present_items plan.old.overlay) → OnOk result (Makes held files plan.old plan.new (copy_of_file path.now moment (as_file (get (plan_machine held files plan.old) from.now)))) }
     ensures keeps { Keeps plan.old plan.new }
 {
@@ -154,7 +156,7 @@ fn write_copy(
     }
 }
 
-// Makes the folders of a path, and copies a file to it.
+// Makes the folders of a path, and copies another file to it.
 fn copy_with_folders(
     alloc: Global,
     plan: &mut Plan,
@@ -164,6 +166,7 @@ fn copy_with_folders(
 ) -> Result<(), NoMemory>
     requires path { IsTrue (is_file_path path.now) }
     requires from { is_file_name from.now ≡ true }
+    requires other { from.now ≢ file_name path.now }
     ensures makes { (held files : Map (List ℕ)) → AreThere held files (present_items plan.old.overlay) → OnOk result (Makes held files plan.old plan.new (parents_of_path path.now ++ copy_of_file path.now moment (as_file (get (plan_machine held files plan.old) from.now)))) }
     ensures keeps { Keeps plan.old plan.new }
 {
@@ -174,7 +177,8 @@ fn copy_with_folders(
 
 // Whether a file is copied: one stands at the name, and it isn't the copy itself.
 fn is_copied(alloc: Global, image: &Image, path: &PathText, from: &Name) -> Result<bool, NoMemory>
-    ensures { (held files : Map (List ℕ)) → AreThere held files image.now → IfOk result (λ b. b ≡ (is_some (as_file (get (machine_over held files image.now) from.now)) && not (same_name (file_name path.now) from.now))) }
+    ensures copied { (held files : Map (List ℕ)) → AreThere held files image.now → IfOk result (λ b. b ≡ (is_some (as_file (get (machine_over held files image.now) from.now)) && not (same_name (file_name path.now) from.now))) }
+    ensures other { IfOk result (λ b. b ≡ true → from.now ≢ file_name path.now) }
 {
     let own = name_of_file(alloc, path)?;
     Ok(head_at(image, from).is_some() && own.as_bytes() != from.as_bytes())

@@ -1,3 +1,4 @@
+pub mod Carried
 pub mod Follows
 pub mod Makes
 pub mod Rows

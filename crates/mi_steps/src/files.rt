@@ -1,6 +1,6 @@
 //! Steps that write files. Their records are always added, also where nothing changes.
 
-ghost use Rattle.std.specs.Prelude.{◌≡◌, ◌∷◌, ◌++◌, [], Some, List, ℕ, OnOk, OnErr, length, true};
+ghost use Rattle.std.specs.Prelude.{◌≡◌, ◌≢◌, ◌∷◌, ◌++◌, [], Some, List, ℕ, OnOk, OnErr, length, true};
 ghost use Rattle.std.specs.FinMap.{get, insert};
 ghost use Rattle.mi_text.specs.Maps.{Map};
 ghost use Rattle.mi_base.specs.declared.entry.Entry.TheVariants as entry;
@@ -15,6 +15,7 @@ ghost use Rattle.mi_steps.specs.Follows.{Grows};
 ghost use Rattle.mi_steps.specs.Makes.{Makes, plan_machine, copy_touch, duplicate_touch};
 
 use crate::heads::{copy_head, head_name};
+use crate::outside::stands_outside;
 use crate::plan::Plan;
 use crate::records::{push_copy, push_duplicate};
 use mi_base::{FileHead, Name, NoMemory, Text};
@@ -102,6 +103,7 @@ impl Plan {
     ) -> Result<(), NoMemory>
         requires right { fits (entry.File (with_bytes head.now [])) ≡ true }
         requires from { length_in (get (present_items self.old.overlay) from.now) ≡ Some head.now.length }
+        requires other { from.now ≢ file_name head.now.shown }
         ensures makes { (held files : Map (List ℕ)) → AreThere held files (present_items self.old.overlay) → OnOk result (Makes held files self.old self.new (duplicate_touch (plan_machine held files self.old) head.now from.now ∷ [])) }
         ensures there { (held files : Map (List ℕ)) → AreThere held files (present_items self.old.overlay) → AreThere held files (present_items self.new.overlay) }
         ensures image { OnErr result (present_items self.new.overlay ≡ present_items self.old.overlay) }
@@ -109,6 +111,7 @@ impl Plan {
         ensures grows { Grows self.old.script self.new.script }
     {
         let name = head_name(alloc, head)?;
+        stands_outside(self.overlay.image(), from);
         push_duplicate(alloc, &mut self.script, &name, head, from)?;
         put_duplicate(alloc, &mut self.overlay, &name, head, from)?;
         Ok(())

@@ -4,10 +4,12 @@
 mod files;
 mod heads;
 mod laws;
+mod outside;
 mod places;
 mod plan;
 mod prune;
 mod records;
+mod script;
 mod seats;
 mod steps;
 
@@ -16,4 +18,5 @@ pub use laws::{
 };
 pub use places::Places;
 pub use plan::Plan;
+pub use script::Records;
 pub use seats::{Place, Tree, key_place, place_in};

@@ -1,21 +1,23 @@
 //! The records that steps add to a script.
 
-ghost use Rattle.std.specs.Prelude.{◌≡◌, ◌++◌, ◌∷◌, [], Some, List, ℕ, IfOk, OnOk, OnErr, true, false, if◌then◌else◌};
+ghost use Rattle.std.specs.Prelude.{◌≡◌, ◌≢◌, ◌++◌, ◌∷◌, [], Some, List, ℕ, IfOk, OnOk, true, false, if◌then◌else◌};
 ghost use Rattle.std.specs.Str.{bytes_eq};
 ghost use Rattle.std.specs.FinMap.{get};
 ghost use Rattle.mi_text.specs.Maps.{Map};
 ghost use Rattle.mi_base.specs.Limits.{fits};
 ghost use Rattle.mi_base.specs.Machine.{volume_of};
 ghost use Rattle.mi_base.specs.Spelling.{record_of};
-ghost use Rattle.mi_image.specs.Items.{machine_over};
+ghost use Rattle.mi_image.specs.Items.{machine_over, HeadMayStand};
 ghost use Rattle.mi_script.specs.Spelled.{is_file_name, same_record};
 ghost use Rattle.mi_script.specs.declared.rec.Rec.TheVariants as record_of_script;
+ghost use Rattle.mi_undo.specs.Names.{is_inside};
 ghost use Rattle.mi_steps.specs.Follows.{Grows};
 
 use crate::heads::copy_head;
+use crate::script::Records;
 use mi_base::{Bytes, EncError, Entry, FileHead, Name, NoMemory, Text, enc_entry};
 use mi_image::{Image, Item};
-use mi_script::{Rec, Script};
+use mi_script::Rec;
 use std::alloc::Global;
 
 // Whether these bytes are the record of an entry.
@@ -45,11 +47,12 @@ fn stands(alloc: Global, image: &Image, name: &str, own: &[u8]) -> Result<bool, 
 // Adds the record that puts these bytes at a name, unless they stand there.
 fn push_put(
     alloc: Global,
-    script: &mut Script,
+    script: &mut Records,
     name: &Name,
     bytes: Bytes,
     stays: bool,
 ) -> Result<(), NoMemory>
+    requires outside { is_inside name.now ≡ false }
     ensures ok { OnOk result (script.new ≡ script.old ++ (if stays then [] else record_of_script.Put name.now bytes ∷ [])) }
     ensures grows { Grows script.old script.new }
 {
@@ -64,11 +67,12 @@ fn push_put(
 pub fn note_put(
     alloc: Global,
     image: &Image,
-    script: &mut Script,
+    script: &mut Records,
     name: &Name,
     bytes: Bytes,
 ) -> Result<(), NoMemory>
-    requires { is_file_name name.now ≡ false }
+    requires plain { is_file_name name.now ≡ false }
+    requires outside { is_inside name.now ≡ false }
     ensures ok { (held files : Map (List ℕ)) → OnOk result (script.new ≡ script.old ++ (if same_record (Some bytes) (get (volume_of (machine_over held files image.now)) name.now) then [] else record_of_script.Put name.now bytes ∷ [])) }
     ensures grows { Grows script.old script.new }
 {
@@ -77,7 +81,8 @@ pub fn note_put(
 }
 
 /// Adds the record that takes away what stands at a name.
-pub fn push_drop(alloc: Global, script: &mut Script, name: &Name) -> Result<(), NoMemory>
+pub fn push_drop(alloc: Global, script: &mut Records, name: &Name) -> Result<(), NoMemory>
+    requires outside { is_inside name.now ≡ false }
     ensures ok { OnOk result (script.new ≡ script.old ++ record_of_script.Drop name.now ∷ []) }
     ensures grows { Grows script.old script.new }
 {
@@ -107,12 +112,13 @@ fn copy_record(
 /// Adds the record that copies a file of the source.
 pub fn push_copy(
     alloc: Global,
-    script: &mut Script,
+    script: &mut Records,
     name: &Name,
     head: &FileHead,
     file: &str,
     path: &str,
 ) -> Result<(), NoMemory>
+    requires may { HeadMayStand name.now head.now }
     ensures ok { OnOk result (script.new ≡ script.old ++ record_of_script.Copy name.now head.now file.now path.now head.now.length ∷ []) }
     ensures grows { Grows script.old script.new }
 {
@@ -139,11 +145,14 @@ fn duplicate_record(
 /// Adds the record that duplicates a file that is there.
 pub fn push_duplicate(
     alloc: Global,
-    script: &mut Script,
+    script: &mut Records,
     name: &Name,
     head: &FileHead,
     from: &Name,
 ) -> Result<(), NoMemory>
+    requires may { HeadMayStand name.now head.now }
+    requires other { from.now ≢ name.now }
+    requires from { is_inside from.now ≡ false }
     ensures ok { OnOk result (script.new ≡ script.old ++ record_of_script.Dup name.now head.now from.now ∷ []) }
     ensures grows { Grows script.old script.new }
 {

@@ -12,6 +12,7 @@ ghost use Rattle.mi_script.specs.Spelled.{is_file_name};
 ghost use Rattle.mi_steps.specs.Follows.{Grows, put_touch, drop_touch};
 ghost use Rattle.mi_steps.specs.Makes.{Makes, is_file};
 
+use crate::outside::is_held;
 use crate::plan::Plan;
 use crate::records::{note_put, push_drop};
 use mi_base::{Bytes, EncError, Entry, Name, NoMemory, enc_entry};
@@ -80,7 +81,7 @@ impl Plan {
         ensures former { former_items self.new.overlay ≡ former_items self.old.overlay }
         ensures grows { Grows self.old.script self.new.script }
     {
-        if self.overlay.image().get(name.as_str()).is_none() {
+        if !is_held(self.overlay.image(), name) {
             return Ok(());
         }
         push_drop(alloc, &mut self.script, name)?;

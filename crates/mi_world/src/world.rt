@@ -21,8 +21,7 @@ use mi_base::NoMemory;
 use mi_image::{Image, Overlay};
 use mi_props::{PropError, PropFault};
 use mi_schema::Package;
-use mi_script::Script;
-use mi_steps::Plan;
+use mi_steps::{Plan, Records};
 use std::alloc::Global;
 
 /// The world that a walk goes through: what an action sees, and the plan, which is the machine so far and the open script.
@@ -61,7 +60,7 @@ impl World {
                 },
                 plan: Plan {
                     overlay: Overlay::new(alloc, image),
-                    script: Script::new(alloc),
+                    script: Records::new(alloc),
                 },
             }),
             Err(_) => {

@@ -14,6 +14,9 @@ use Rattle.mi_files.proofs.duplicate.copy_file.Goals as goal
 pub copy_with_folders-requires-clause-from : goal.copy_with_folders-requires-clause-from
 copy_with_folders-requires-clause-from c = ap is_file_name c.in_ok-from.ensures ∙ named_file c.args.original.now
 
+pub copy_with_folders-requires-clause-other : goal.copy_with_folders-requires-clause-other
+copy_with_folders-requires-clause-other c = c.in_ok-is_copied.ensures.other c.if-branch.true
+
 pub returns-then-branch-clause-makes : goal.returns-then-branch-clause-makes
 returns-then-branch-clause-makes c = λ held files w now there.
     let path = c.args.path.now in
@@ -21,7 +24,7 @@ returns-then-branch-clause-makes c = λ held files w now there.
     let from = c.in_ok-from.from in
     if_ok c.copy_with_folders.result (c.copy_with_folders.ensures.makes held files there)
     (copied held files c.args.plan.now path original from c.image.result.now c.image.ensures c.in_ok-from.ensures c.copy_with_folders.new.plan w c.args.moment now
-    (judged held files c.args.plan.now path original from c.image.result.now c.image.ensures c.in_ok-from.ensures c.in_ok-is_copied.field-0 true (c.in_ok-is_copied.ensures held files) there c.if-branch.true))
+    (judged held files c.args.plan.now path original from c.image.result.now c.image.ensures c.in_ok-from.ensures c.in_ok-is_copied.field-0 true (c.in_ok-is_copied.ensures.copied held files) there c.if-branch.true))
 
 pub returns-clause-makes : goal.returns-clause-makes
 returns-clause-makes c = λ held files w now there.
@@ -30,5 +33,5 @@ returns-clause-makes c = λ held files w now there.
     let m = plan_machine held files c.args.plan.now in
     subst (λ (ts : List (Touch Entry)). Follows files m m c.args.plan.now.script c.args.plan.now.script ts)
     (copies_none w path original (file_at m original)
-    (judged held files c.args.plan.now path original c.in_ok-from.from c.image.result.now c.image.ensures c.in_ok-from.ensures c.in_ok-is_copied.field-0 false (c.in_ok-is_copied.ensures held files) there c.if-branch.false))
+    (judged held files c.args.plan.now path original c.in_ok-from.from c.image.result.now c.image.ensures c.in_ok-from.ensures c.in_ok-is_copied.field-0 false (c.in_ok-is_copied.ensures.copied held files) there c.if-branch.false))
     (started files m c.args.plan.now.script)

@@ -1,9 +1,10 @@
 -- With the bytes of the file that is there.
-use Rattle.std.proofs.Common.{◌≡◌, List, Some, sym, subst, ◌∙◌}
+use Rattle.std.proofs.Common.{◌≡◌, List, ap, Some, sym, subst, ◌∙◌}
 use Rattle.std.specs.Prelude.{option_map}
 use Rattle.std.specs.FinMap.{get}
 use Rattle.mi_base.specs.declared.entry.Entry.{Entry}
 use Rattle.mi_base.specs.Machine.{as_file}
+use Rattle.mi_base.specs.Names.{file_name}
 use Rattle.mi_base.specs.Spelling.{head_of}
 use Rattle.mi_changes.specs.Touches.{Touch}
 use Rattle.mi_image.specs.Items.{Items, machine_over, AreThere}
@@ -12,6 +13,9 @@ use Rattle.mi_records.proofs.KeyLemmas.{if_ok}
 use Rattle.mi_files.specs.Copies.{copied_head}
 use Rattle.mi_files.proofs.CopyLemmas.{copy_made}
 use Rattle.mi_files.proofs.duplicate.write_copy.Goals as goal
+
+pub duplicate_file-done-requires-clause-other : goal.duplicate_file-done-requires-clause-other
+duplicate_file-done-requires-clause-other c = λ same. c.requires.other (same ∙ ap file_name c.in-Ok-Some.ensures.shown)
 
 pub returns-in-Ok-Some-clause-makes : goal.returns-in-Ok-Some-clause-makes
 returns-in-Ok-Some-clause-makes c = λ held files there.
