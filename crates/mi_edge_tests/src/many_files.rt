@@ -50,20 +50,36 @@ fn act(alloc: Global, volume: &mut FakeVolume, number: usize, act: Act) -> Resul
     if is_done { Ok(()) } else { Err(Wrong::Unread) }
 }
 
-/// A process that opens the folder, does this, and ends; it syncs and closes where that is asked for.
+/// Gives each of the first so many names the text `o`.
+fn fill(alloc: Global, volume: &mut FakeVolume, files: usize) -> Result<(), Wrong> {
+    for number in 0..files {
+        act(alloc, volume, number, Act::Put("o"))?;
+    }
+    Ok(())
+}
+
+fn change(alloc: Global, volume: &mut FakeVolume, changes: &[(usize, Act)]) -> Result<(), Wrong> {
+    for change in changes {
+        act(alloc, volume, change.0, change.1)?;
+    }
+    Ok(())
+}
+
+/// A process that opens the folder, fills so many names, changes some, and ends; it syncs and closes where that is asked
+/// for.
 fn process(
     alloc: Global,
     device: Device,
-    changes: impl Iterator<Item = (usize, Act)>,
+    files: usize,
+    changes: &[(usize, Act)],
     is_synced: bool,
 ) -> Result<Device, Wrong> {
     let fake = Fake::new(alloc, device)?;
     let Ok(mut volume) = FolderVolume::at(fake.clone()?, alloc, FOLDER) else {
         return Err(Wrong::Unread);
     };
-    for (number, change) in changes {
-        act(alloc, &mut volume, number, change)?;
-    }
+    fill(alloc, &mut volume, files)?;
+    change(alloc, &mut volume, changes)?;
     if is_synced && volume.sync().is_err() {
         return Err(Wrong::Unread);
     }
@@ -104,10 +120,9 @@ fn are_found(alloc: Global, device: Device) -> Result<bool, Wrong> {
 
 /// Whether the process behind one that has ended without a sync writes anew what that had changed, and nothing else.
 fn is_renewed(alloc: Global) -> Result<bool, Wrong> {
-    let files = (0..FILES).map(|number| (number, Act::Put("o")));
-    let made = process(alloc, Device::new(alloc)?, files, true)?;
-    let left = process(alloc, made.again(None)?, CHANGES.into_iter(), false)?;
-    let renewed = process(alloc, left.again(None)?, [].into_iter(), false)?;
+    let made = process(alloc, Device::new(alloc)?, FILES, &[], true)?;
+    let left = process(alloc, made.again(None)?, 0, &CHANGES, false)?;
+    let renewed = process(alloc, left.again(None)?, 0, &[], false)?;
     let is_written = renewed
         .written()
         .iter()
