@@ -12,7 +12,8 @@ use Rattle.mi_fver.specs.declared.mode.Mode.{Mode}
 use Rattle.mi_fver.specs.declared.new_file.NewFile.{NewFile}
 use Rattle.mi_fver.specs.declared.rules.Answers.{Answers}
 use Rattle.mi_fver.specs.Rules.{compared, of_versions, answers_of, by_languages, replaces_of}
-use Rattle.mi_installs.specs.Deciding.{looks_at_hash}
+use Rattle.mi_text.proofs.ByteLemmas.{both}
+use Rattle.mi_installs.specs.Deciding.{looks_at_hash, IgnoresHash}
 
 -- what the letters make of what o, e and d say
 abbrev by_letters : Bool → Bool → Bool → Bool → Answers → Bool
@@ -64,6 +65,31 @@ pub unlooked : (mode : Mode) (old : FileHead) (new : NewFile) (product : ℕ) (h
 unlooked mode old new product h k is =
     by_case (by_languages old.languages new.languages product) h k old.version new.version (nat_lt old.created old.modified) mode.a mode.o mode.e mode.d
     (ap (λ (b : Bool). leave_it mode.a mode.o mode.e mode.d && is_none old.version && is_none new.version && b) (not_changed old.created old.modified) ∙ is)
+
+module _ (languages : Bool) where
+  -- neither has a version, the old file wasn't changed, and the letters leave it to the hash
+  by_letter : (a o e d : Bool) → leave_it a o e d ≡ true → by_letters a o e d (answers_of (compared None None false) languages true) ≡ by_letters a o e d (answers_of (compared None None false) languages false) → ⊥
+  by_letter true o e d is same = absurd cc
+  by_letter false o true d is same = absurd cc
+  by_letter false true false true is same = absurd cc
+  by_letter false true false false is same = absurd cc
+  by_letter false false false true is same = absurd cc
+  by_letter false false false false is same = absurd cc
+
+  -- in the one case in which they look
+  in_case : (old new : Option Version) (changed a o e d : Bool) → (leave_it a o e d && is_none old && is_none new && not changed) ≡ true
+      → by_letters a o e d (answers_of (compared old new changed) languages true) ≡ by_letters a o e d (answers_of (compared old new changed) languages false) → ⊥
+  in_case old new true a o e d is same = let off : false ≡ true = (both _ _ is).1 in absurd cc
+  in_case old (Some w) false a o e d is same = let off : false ≡ true = (both _ _ (both _ _ is).0).1 in absurd cc
+  in_case (Some v) None false a o e d is same = let off : false ≡ true = (both _ _ (both _ _ (both _ _ is).0).0).1 in absurd cc
+  in_case None None false a o e d is same = by_letter a o e d (both _ _ (both _ _ (both _ _ is).0).0).0 same
+
+-- where the rules look at the hash, it isn't the same to them
+pub looked : (mode : Mode) (old : FileHead) (new : NewFile) → looks_at_hash mode old new ≡ true → IgnoresHash mode old new → ⊥
+looked mode old new is ignores =
+    in_case (by_languages old.languages new.languages 0) old.version new.version (nat_lt old.created old.modified) mode.a mode.o mode.e mode.d
+    (ap (λ (b : Bool). leave_it mode.a mode.o mode.e mode.d && is_none old.version && is_none new.version && b) (not_changed old.created old.modified) ∙ is)
+    (ignores 0)
 
 -- a list of four
 pub four : (xs : List ℕ) → length xs ≡ 4 → xs ≡ get_or xs 0 0 ∷ get_or xs 1 0 ∷ get_or xs 2 0 ∷ get_or xs 3 0 ∷ []

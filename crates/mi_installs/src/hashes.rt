@@ -1,7 +1,7 @@
 //! The hash that a package states of a row's file, and when the rules on versions look at it (MsiFileHash table; File Versioning
 //! Rules).
 
-ghost use Rattle.std.specs.Prelude.{◌≡◌, ◌∷◌, [], Some, ℕ, IfOk};
+ghost use Rattle.std.specs.Prelude.{◌≡◌, ◌⊎◌, ◌∷◌, [], Some, ℕ, IfOk};
 ghost use Rattle.std.specs.Int.{w32, to_le_bytes};
 ghost use Rattle.std.specs.List.{flat_map};
 ghost use Rattle.std.specs.Option.{option_map};
@@ -21,7 +21,7 @@ ghost use Rattle.mi_schema.specs.declared.typed_rows.FileRow.{FileRow};
 ghost use Rattle.mi_schema.specs.declared.typed_rows.MsiFileHashRow as hash_row;
 ghost use Rattle.mi_model.specs.World.{World};
 ghost use Rattle.mi_model.specs.FileVersions.{hash_bytes, has_same_hash};
-ghost use Rattle.mi_installs.specs.Deciding.{looks_at_hash};
+ghost use Rattle.mi_installs.specs.Deciding.{looks_at_hash, IgnoresHash, StatesNoHash};
 ghost use Rattle.mi_installs.specs.Reading.{Reads, Causes};
 ghost use Rattle.mi_source.specs.Counts as source;
 ghost use Rattle.mi_volume.specs.State as volume;
@@ -103,6 +103,7 @@ fn has_same_hash<S: Source, V: Volume>(
 ) -> Result<bool, InstallError>
     requires { IsLawful loaded.now }
     ensures same { (w : World) (r : FileRow) (f : FileEntry) → w.given.rows ≡ rows_in loaded.now → r.file ≡ file.now → V.told → S.told → AreThere (V.state vol.old).held (S.files src.old) image.now → file_at (machine_over (V.state vol.old).held (S.files src.old) image.now) path.now ≡ Some f → IfOk result (λ same. same ≡ has_same_hash w r f) }
+    ensures untouched { StatesNoHash loaded.now file.now → (src.new ≡ src.old) × (vol.new ≡ vol.old) }
     ensures reads { Reads V.told (V.state vol.old) (V.state vol.new) (S.files src.old) (S.files src.new) (S.faults src.old) (S.faults src.new) }
     ensures causes { Causes (source.Rose (S.faults src.old) (S.faults src.new)) (volume.Rose (V.state vol.old) (V.state vol.new)) result }
 {
@@ -141,6 +142,7 @@ pub(crate) fn same_hash<S: Source, V: Volume>(
     requires { IsLawful loaded.now }
     ensures same { (w : World) (f : FileEntry) (product : ℕ) → w.given.rows ≡ rows_in loaded.now → V.told → S.told → AreThere (V.state vol.old).held (S.files src.old) image.now → file_at (machine_over (V.state vol.old).held (S.files src.old) image.now) placed.now.path ≡ Some f
         → IfOk result (λ same. replaces_of mode (Some old.now) new.now product same ≡ replaces_of mode (Some old.now) new.now product (has_same_hash w placed.now.row.now f)) }
+    ensures untouched { IgnoresHash mode old.now new.now ⊎ StatesNoHash loaded.now placed.now.row.now.file → (src.new ≡ src.old) × (vol.new ≡ vol.old) }
     ensures reads { Reads V.told (V.state vol.old) (V.state vol.new) (S.files src.old) (S.files src.new) (S.faults src.old) (S.faults src.new) }
     ensures causes { Causes (source.Rose (S.faults src.old) (S.faults src.new)) (volume.Rose (V.state vol.old) (V.state vol.new)) result }
 {

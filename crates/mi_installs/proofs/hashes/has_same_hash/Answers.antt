@@ -1,11 +1,12 @@
-use Rattle.std.proofs.Common.{◌≡◌, Bool, List, ℕ, ◌∙◌}
+use Rattle.std.proofs.Common.{◌≡◌, Bool, List, ℕ, ◌∙◌, ap}
+use Rattle.std.specs.Option.{option_map}
 use Rattle.std.specs.FinMap.{get}
 use Rattle.std.specs.Str.{bytes_eq}
 use Rattle.md5.specs.Md5.{md5}
 use Rattle.mi_base.specs.Names.{file_name}
 use Rattle.mi_image.specs.Items.{bytes_of_file, machine_over}
 use Rattle.mi_schema.specs.RowsOf.{rows_in}
-use Rattle.mi_model.specs.FileVersions.{has_same_hash}
+use Rattle.mi_model.specs.FileVersions.{hash_bytes, has_same_hash}
 use Rattle.mi_installs.proofs.CallLemmas.{if_ok, hash_is, no_hash, bytes_there}
 use Rattle.mi_installs.proofs.hashes.has_same_hash.Goals as goal
 
@@ -18,3 +19,6 @@ returns-in-Some-clause-same g c = λ w r f same_rows same_key told src there at.
 
 pub returns-in-None-clause-same : goal.returns-in-None-clause-same
 returns-in-None-clause-same g c = λ w r f same_rows same_key told src there at. no_hash w r f (rows_in c.args.loaded.now) c.args.file.now same_rows same_key c.in-None.ensures
+
+pub returns-in-Some-clause-untouched : goal.returns-in-Some-clause-untouched
+returns-in-Some-clause-untouched g c = λ unstated. let none = c.in-Some.ensures ∙ ap (option_map hash_bytes) unstated in absurd cc
