@@ -11,7 +11,8 @@ use Rattle.mi_undo.specs.Area.{AreOutside}
 use Rattle.mi_runner.specs.Records.{MayCarry}
 use Rattle.mi_runner.proofs.RecordLemmas.{is_among-touched}
 use Rattle.mi_plan.specs.declared.segment.Segment.{Segment}
-use Rattle.mi_plan.specs.Carried.{IsCarried, AreCarried}
+use Rattle.mi_steps.specs.Carried.{IsCarried, AreCarried}
+use Rattle.mi_plan.specs.Carried.{SegmentsCarry}
 
 -- ---- of a script
 
@@ -38,8 +39,8 @@ all_outside rs all = outside_all (touched_names rs) (λ q is. among rs q (recurs
 
 -- ---- of segments
 
-pub segments_carry : (segments : List Segment) → All (λ (s : Segment). AreCarried s.script) segments → All (λ (s : Segment). All MayCarry s.script) segments
+pub segments_carry : (segments : List Segment) → SegmentsCarry segments → All (λ (s : Segment). All MayCarry s.script) segments
 segments_carry segments all = All-weaker (λ (s : Segment). AreCarried s.script) (λ (s : Segment). All MayCarry s.script) (λ s is. all_carry s.script is) segments all
 
-pub segments_outside : (segments : List Segment) → All (λ (s : Segment). AreCarried s.script) segments → All (λ (s : Segment). AreOutside (touched_names s.script)) segments
+pub segments_outside : (segments : List Segment) → SegmentsCarry segments → All (λ (s : Segment). AreOutside (touched_names s.script)) segments
 segments_outside segments all = All-weaker (λ (s : Segment). AreCarried s.script) (λ (s : Segment). AreOutside (touched_names s.script)) (λ s is. all_outside s.script is) segments all

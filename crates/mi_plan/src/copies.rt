@@ -5,7 +5,8 @@ ghost use Rattle.std.specs.List.{All};
 ghost use Rattle.mi_plan.specs.Lengths.{is_copy};
 
 use mi_base::NoMemory;
-use mi_script::{Rec, Script};
+use mi_script::Rec;
+use mi_steps::Records;
 
 fn is_copy(rec: &Rec) -> bool
     ensures { result ≡ is_copy rec.now }
@@ -31,7 +32,7 @@ fn copy_nothing(recs: &[Rec]) -> bool
 
 /// Refuses, as want of memory, a script with a record behind the first so many that copies a file of the source. The phases but
 /// InstallFiles aren't expected to make such a record, which no clause of theirs says.
-pub fn check_copies(script: &Script, had: usize) -> Result<(), NoMemory>
+pub fn check_copies(script: &Records, had: usize) -> Result<(), NoMemory>
     requires { had ≤ length script.now }
     ensures { OnOk result (All (λ r. is_copy r ≡ false) (drop had script.now)) }
 {

@@ -3,13 +3,13 @@
 #![tactic(auto)]
 
 mod arms;
-mod carried;
 mod copies;
 mod error;
 mod phases;
 mod planned;
 mod planning;
 mod segment;
+mod segments;
 mod steps;
 mod turn;
 mod work;

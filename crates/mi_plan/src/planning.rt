@@ -22,6 +22,7 @@ ghost use Rattle.mi_undo.specs.Area.{AreOutside};
 ghost use Rattle.mi_seq.specs.Orders.{ordered};
 ghost use Rattle.mi_seq.specs.Walks.{rest};
 ghost use Rattle.mi_world.specs.Seen.{Starts};
+ghost use Rattle.mi_plan.specs.Carried.{SegmentsCarry};
 ghost use Rattle.mi_plan.specs.Devices.{Asks, FailsOnly};
 ghost use Rattle.mi_plan.specs.Lengths.{HaveLengths, SegmentsHave};
 ghost use Rattle.mi_plan.specs.Made.{as_planned, with_action};
@@ -31,9 +32,9 @@ ghost use Rattle.mi_plan.specs.Stages.{IsRight, IsFresh, IsReady};
 ghost use Rattle.mi_plan.specs.Turns.{IsSoFar, IsStart, IsTurned, planned_of};
 ghost use Rattle.mi_plan.specs.declared.turn.Turn.TheVariants.{Went, Ended};
 
-use crate::carried::checked;
 use crate::error::WalkError;
 use crate::planned::WalkPlan;
+use crate::segments::Segments;
 use crate::steps::step_on;
 use crate::turn::Turn;
 use crate::work::Work;
@@ -137,6 +138,7 @@ fn walk_on<S: Source, V: Volume>(
 fn plan_of(work: Work, refusal: Option<Cause>) -> WalkPlan
     ensures begun { result.begun ≡ work.begun }
     ensures segments { result.segments ≡ work.segments }
+    ensures carried { SegmentsCarry result.segments.items }
     ensures refusal { result.refusal ≡ refusal }
     ensures overlay { result.overlay ≡ work.world.plan.overlay }
 {
@@ -151,7 +153,7 @@ fn plan_of(work: Work, refusal: Option<Cause>) -> WalkPlan
     drop(script);
     WalkPlan {
         begun,
-        segments,
+        segments: segments.into_vec(),
         refusal,
         overlay,
     }
@@ -169,6 +171,7 @@ fn planned<S: Source, V: Volume>(
     requires fresh { IsFresh world }
     requires order { ordered world.seen.loaded order.now ≡ sequence (rows_in world.seen.loaded) }
     ensures plan { (g : Given) → V.told → S.told → IsStart (V.state vol.old).held (S.files src.old) g world → folder.now ≡ g.folder → IfOk result (λ p. IsPlan (S.files src.old) (walk g) p.begun.items (map as_planned p.segments.items) p.refusal) }
+    ensures carried { IfOk result (λ p. SegmentsCarry p.segments.items) }
     ensures lengths { S.told → IfOk result (λ p. SegmentsHave (S.files src.old) p.segments.items) }
     ensures former { IfOk result (λ p. former_items p.overlay ≡ former_items world.plan.overlay) }
     ensures refusal { IfOk result (λ p. IsWalkRefusal p.refusal) }
@@ -178,7 +181,7 @@ fn planned<S: Source, V: Volume>(
     keys_stand(world.seen.package());
     keys_apart(world.seen.package());
     let begun = Vec::new(alloc);
-    let segments = Vec::new(alloc);
+    let segments = Segments::new(alloc);
     let mut work = Work {
         world,
         begun,
@@ -210,6 +213,7 @@ fn started<S: Source, V: Volume>(
     requires order { ordered loaded order.now ≡ sequence (rows_in loaded) }
     ensures plan { (g : Given) → V.told → S.told → g.files ≡ (S.files src.old) → AreThere (V.state vol.old).held (S.files src.old) image → Starts g loaded props (machine_over (V.state vol.old).held (S.files src.old) image) now → folder.now ≡ g.folder
         → IfOk result (λ p. IsPlan (S.files src.old) (walk g) p.begun.items (map as_planned p.segments.items) p.refusal) }
+    ensures carried { IfOk result (λ p. SegmentsCarry p.segments.items) }
     ensures lengths { S.told → IfOk result (λ p. SegmentsHave (S.files src.old) p.segments.items) }
     ensures former { IfOk result (λ p. former_items p.overlay ≡ image) }
     ensures refusal { IfOk result (λ p. IsWalkRefusal p.refusal) }
@@ -236,6 +240,7 @@ fn walked<S: Source, V: Volume>(
     requires lawful { IsLawful loaded }
     ensures plan { (g : Given) → V.told → S.told → g.files ≡ (S.files src.old) → AreThere (V.state vol.old).held (S.files src.old) image → Starts g loaded props (machine_over (V.state vol.old).held (S.files src.old) image) now → folder.now ≡ g.folder
         → IfOk result (λ p. IsPlan (S.files src.old) (walk g) p.begun.items (map as_planned p.segments.items) p.refusal) }
+    ensures carried { IfOk result (λ p. SegmentsCarry p.segments.items) }
     ensures lengths { S.told → IfOk result (λ p. SegmentsHave (S.files src.old) p.segments.items) }
     ensures former { IfOk result (λ p. former_items p.overlay ≡ image) }
     ensures refusal { IfOk result (λ p. IsWalkRefusal p.refusal) }
@@ -285,11 +290,5 @@ pub fn plan_walk<S: Source, V: Volume>(
     ensures source { IsErrOf result WalkError.Source → Rose (S.faults src.old) (S.faults src.new) }
     ensures volume { IsErrOf result WalkError.Volume → volume.Rose (V.state vol.old) (V.state vol.new) }
 {
-    match walked(alloc, loaded, props, image, folder, now, src, vol) {
-        Ok(plan) => match checked(alloc, plan) {
-            Ok(plan) => Ok(plan),
-            Err(_) => Err(WalkError::NoMemory),
-        },
-        Err(error) => Err(error),
-    }
+    walked(alloc, loaded, props, image, folder, now, src, vol)
 }

@@ -4,10 +4,10 @@ ghost use Rattle.std.specs.Prelude.{◌≡◌, ◌++◌, ◌∷◌, [], length, 
 ghost use Rattle.mi_plan.specs.Made.{as_planned};
 ghost use Rattle.mi_plan.specs.declared.turn.Turn.TheVariants.{Went};
 
-use crate::segment::Segment;
+use crate::segments::Segments;
 use crate::turn::Turn;
 use mi_base::{NoMemory, Text};
-use mi_script::Script;
+use mi_steps::Records;
 use mi_world::World;
 use std::alloc::Global;
 use std::mem;
@@ -17,7 +17,7 @@ use std::mem;
 pub struct Work {
     pub world: World,
     pub begun: Vec<Text>,
-    pub segments: Vec<Segment>,
+    pub segments: Segments,
 }
 
 impl Work {
@@ -31,9 +31,9 @@ impl Work {
         ensures kept { OnOk result (self.new.segments.items ≡ self.old.segments.items ++ record { script = self.old.world.plan.script; reached = length self.old.begun.items } ∷ []) }
         ensures segments { OnOk result (map as_planned self.new.segments.items ≡ map as_planned self.old.segments.items ++ record { records = self.old.world.plan.script; reached = length self.old.begun.items } ∷ []) }
     {
-        let script = mem::replace(&mut self.world.plan.script, Script::new(alloc));
+        let records = mem::replace(&mut self.world.plan.script, Records::new(alloc));
         let reached = self.begun.len() as u64;
-        self.segments.push(Segment { script, reached })?;
+        self.segments.push(records, reached)?;
         Ok(Turn::Went)
     }
 }

@@ -1,11 +1,21 @@
--- The checked plan is the plan.
-use Rattle.std.proofs.Common.{map, sym, subst}
-use Rattle.mi_model.specs.Planning.{IsPlan}
-use Rattle.mi_model.specs.Walk.{walk}
+-- What the walk gives, and that its segments may be carried out.
+use Rattle.std.specs.List.{All}
+use Rattle.mi_script.specs.Scripts.{touched_names}
+use Rattle.mi_undo.specs.Area.{AreOutside}
+use Rattle.mi_runner.specs.Records.{MayCarry}
 use Rattle.mi_plan.specs.declared.planned.WalkPlan.{WalkPlan}
-use Rattle.mi_plan.specs.Made.{as_planned}
+use Rattle.mi_plan.specs.declared.segment.Segment.{Segment}
+use Rattle.mi_plan.specs.Carried.{SegmentsCarry}
+use Rattle.mi_plan.proofs.CarriedLemmas.{segments_carry, segments_outside}
+use Rattle.mi_plan.proofs.TurnLemmas.{ok_map}
 use Rattle.mi_plan.proofs.planning.plan_walk.Goals as goal
 
-pub returns-in-Ok-checked-clause-plan : goal.returns-in-Ok-checked-clause-plan
-returns-in-Ok-checked-clause-plan g c = λ x v s handed contents starts folder.
-    subst (λ (p : WalkPlan). IsPlan (g.S.Source.files c.args.src.now) (walk x) p.begun.items (map as_planned p.segments.items) p.refusal) (sym c.in-Ok-checked.ensures.same) (c.in-Ok.ensures.plan x v s handed contents starts folder)
+pub returns-clause-outside : goal.returns-clause-outside
+returns-clause-outside g c =
+    ok_map (λ (p : WalkPlan). SegmentsCarry p.segments.items) (λ (p : WalkPlan). All (λ (s : Segment). AreOutside (touched_names s.script)) p.segments.items) c.walked.result
+    (λ p is. segments_outside p.segments.items is) c.walked.ensures.carried
+
+pub returns-clause-records : goal.returns-clause-records
+returns-clause-records g c =
+    ok_map (λ (p : WalkPlan). SegmentsCarry p.segments.items) (λ (p : WalkPlan). All (λ (s : Segment). All MayCarry s.script) p.segments.items) c.walked.result
+    (λ p is. segments_carry p.segments.items is) c.walked.ensures.carried
