@@ -36,11 +36,11 @@ returns-clause-other c = λ yes same.
     elim c.if-is_some.branch [
       | then-is_some w ↦
           let apart : false ≡ true =
-            sym (ap not alike)
-            ∙ sym (w.result-is ∙ w.ne.ensures
-            ∙ ap (λ (q : List ℕ). not (bytes_eq q w.as_bytes-then-is_some.result.now)) (w.as_bytes.ensures.bytes ∙ c.in_ok-own.ensures)
-            ∙ ap (λ (q : List ℕ). not (bytes_eq own q)) w.as_bytes-then-is_some.ensures.bytes)
-            ∙ yes in
+          sym (ap not alike)
+          ∙ sym (w.result-is ∙ w.ne.ensures
+          ∙ ap (λ (q : List ℕ). not (bytes_eq q w.as_bytes-then-is_some.result.now)) (w.as_bytes.ensures.bytes ∙ c.in_ok-own.ensures)
+          ∙ ap (λ (q : List ℕ). not (bytes_eq own q)) w.as_bytes-then-is_some.ensures.bytes)
+          ∙ yes in
           cc
       | else-is_some w ↦ let none : false ≡ true = sym (w.result-is ∙ w.if-is_some.false) ∙ yes in cc
     ]
