@@ -1,7 +1,8 @@
 -- With the bytes of the file that is there.
-use Rattle.std.proofs.Common.{◌≡◌, List, ap, Some, sym, subst, ◌∙◌}
-use Rattle.std.specs.Prelude.{option_map}
+use Rattle.std.proofs.Common.{◌≡◌, List, ap, Option, Some, sym, subst, ◌∙◌}
+use Rattle.std.specs.Prelude.{option_map, IfSome}
 use Rattle.std.specs.FinMap.{get}
+use Rattle.mi_base.specs.declared.entry.FileHead.{FileHead}
 use Rattle.mi_base.specs.declared.entry.Entry.{Entry}
 use Rattle.mi_base.specs.Machine.{as_file}
 use Rattle.mi_base.specs.Names.{file_name}
@@ -15,7 +16,9 @@ use Rattle.mi_files.proofs.CopyLemmas.{copy_made}
 use Rattle.mi_files.proofs.duplicate.write_copy.Goals as goal
 
 pub duplicate_file-done-requires-clause-other : goal.duplicate_file-done-requires-clause-other
-duplicate_file-done-requires-clause-other c = λ same. c.requires.other (same ∙ ap file_name c.in-Ok-Some.ensures.shown)
+duplicate_file-done-requires-clause-other c = λ same.
+    let shown : c.in-Ok-Some.head.shown ≡ c.args.path.now = subst (λ (o : Option FileHead). IfSome o (λ h. h.shown ≡ c.args.path.now)) c.in-Ok-Some.field-0-is c.in-Ok-Some.ensures.shown in
+    c.requires.other (same ∙ ap file_name shown)
 
 pub returns-in-Ok-Some-clause-makes : goal.returns-in-Ok-Some-clause-makes
 returns-in-Ok-Some-clause-makes c = λ held files there.
