@@ -16,6 +16,8 @@ use Rattle.mi_undo.proofs.StandsLemmas.{get-outside, stands_unmarked}
 use Rattle.mi_undo.proofs.NoteLemmas.{shut_gate}
 use Rattle.mi_base.specs.declared.answers.Cause.{Cause}
 use Rattle.mi_base.specs.declared.answers.Cause.TheVariants.{BadWords, VolumeFault, BadRollback, RecoveryFull}
+use Rattle.mi_base.specs.declared.answers.Place.{Place}
+use Rattle.mi_base.specs.declared.answers.Place.TheVariants.{InRollback, InCommit}
 use Rattle.mi_base.specs.declared.answers.Kind.{Kind}
 use Rattle.mi_base.specs.declared.answers.Kind.TheVariants as kind
 use Rattle.mi_model.specs.Causes.{BelowCount}
@@ -28,7 +30,8 @@ use Rattle.mi_carry.specs.declared.stop.Halt.{Halt}
 use Rattle.mi_carry.specs.declared.stop.Halt.TheVariants.{Back, Unknown}
 use Rattle.mi_carry.specs.Stops.{stop_of_op}
 use Rattle.mi_carry.specs.Causes.{MayRefuse, MayStop, Caused}
-use Rattle.mi_carry.specs.Ends.{StandsAfter, AtExit, Reads, Ends}
+use Rattle.mi_carry.specs.Ends.{StandsAfter, AtPause, AtExit, Reads, Ends, EndsAtOne}
+use Rattle.mi_carry.specs.OneMap.{PausesFor, ExitsFor, LeavesOne}
 use Rattle.mi_carry.specs.Falls.{Falls, AnswersStop, gone, stuck}
 use Rattle.mi_carry.specs.Halts.{Goes, IsVolumeStop, MayHold, unknown}
 use Rattle.mi_carry.proofs.CauseLemmas.{below_before, below_after, met_weaker}
@@ -147,6 +150,62 @@ done_ends told s t kept F A refusal x g = record { stops = g.goes; leaves = g.le
 
 pub unknown_ends : {T : Type 0} (told : Type 0) (s t : State) (kept : Kept) (F A : Map) (refusal : Option Cause) (first second reached : ℕ) → Goes {T = T} told s t kept F A refusal (Err (Unknown first second reached)) → Ends told s t F A refusal (unknown first second)
 unknown_ends told s t kept F A refusal first second reached g = record { stops = g.goes; leaves = g.leaves; reads = tt; cleans = tt }
+
+-- ---- any source
+
+-- the one map after, if the source reports its content
+module _ (told : Type 0) (F A B : Map) (refusal : Option Cause) (made : told → A ≡ B) where
+  stands_told : (d : Map) → StandsAfter (Unit {0}) A refusal d → StandsAfter told B refusal d
+  stands_told d after = (after.0, λ is. subst (λ (m : Map). StandsFor m d) (made is) (after.1 tt))
+
+  pause_told : (place : Place) (d : Map) → AtPause (Unit {0}) F A refusal place d → AtPause told F B refusal place d
+  pause_told InRollback d at = at
+  pause_told InCommit d at = ⊎_elim (λ former. inl former) (λ after. inr (stands_told d after)) at
+
+  exit_told : (k : Kind) (d : Map) → AtExit (Unit {0}) F A refusal k d → AtExit told F B refusal k d
+  exit_told kind.Done d at = stands_told d at
+  exit_told kind.Listed d at = at
+  exit_told (kind.Recovered settled) d at = at
+  exit_told (kind.Refused cause) d at = at
+  exit_told (kind.Suspended pause) d at = pause_told pause.place d at
+  exit_told kind.NoMemory d at = at
+
+  reads_told : (k : Kind) (m : Map) → Reads (Unit {0}) F A k m → Reads told F B k m
+  reads_told kind.Done m reads = λ is. reads tt ∙ made is
+  reads_told kind.Listed m reads = reads
+  reads_told (kind.Recovered settled) m reads = reads
+  reads_told (kind.Refused cause) m reads = reads
+  reads_told (kind.Suspended pause) m reads = reads
+  reads_told kind.NoMemory m reads = reads
+
+pub ends_told : (told : Type 0) (s u : State) (F B : Map) (refusal : Option Cause) (k : Kind) → EndsAtOne told s u F B refusal k → Ends told s u F B refusal k
+ends_told told s u F B refusal k one = record {
+  stops = weaker s u _ _ (λ d is. ⊎_elim (λ former. inl former) (λ after. inr (after.0, stands_told told F one.after B refusal one.made d after.1)) is) one.ends.stops;
+  leaves = λ d image. exit_told told F one.after B refusal one.made k d (one.ends.leaves d image);
+  reads = reads_told told F one.after B refusal one.made k (outside u.held) one.ends.reads;
+  cleans = one.ends.cleans;
+}
+
+module _ (F A : Map) (refusal : Option Cause) where
+  pause_one : (place : Place) (d : Map) → AtPause (Unit {0}) F A refusal place d → PausesFor F A place d
+  pause_one InRollback d at = at
+  pause_one InCommit d at = ⊎_elim (λ former. inl former) (λ after. inr (after.1 tt)) at
+
+  exit_one : (k : Kind) (d : Map) → AtExit (Unit {0}) F A refusal k d → ExitsFor F A k d
+  exit_one kind.Done d at = at.1 tt
+  exit_one kind.Listed d at = at
+  exit_one (kind.Recovered settled) d at = at
+  exit_one (kind.Refused cause) d at = at
+  exit_one (kind.Suspended pause) d at = pause_one pause.place d at
+  exit_one kind.NoMemory d at = at
+
+-- what it leaves, whatever the source reports
+pub ends_one : (s u : State) (F A : Map) (refusal : Option Cause) (k : Kind) → Ends (Unit {0}) s u F A refusal k → LeavesOne s u F A k
+ends_one s u F A refusal k ends = record {
+  stops = weaker s u _ _ (λ d is. ⊎_elim (λ former. inl former) (λ after. inr (after.0, after.1.1 tt)) is) ends.stops;
+  leaves = λ d image. exit_one F A refusal k d (ends.leaves d image);
+  reads = λ is. subst (λ (x : Kind). Reads (Unit {0}) F A x (outside u.held)) is ends.reads tt;
+}
 
 -- ---- nothing to do
 

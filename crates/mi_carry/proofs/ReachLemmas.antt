@@ -87,7 +87,7 @@ module _ (refusal : Option Cause) (begun : ℕ) (segments : List Planned) (reach
   gone_reached NoMemory is = inr is
   gone_reached (Refuse cause) is = is
 
-  memory_reached : (why : Stop) → AtStop refusal begun segments reached why → IsReached refusal begun segments reached kind.NoMemory
+  pub memory_reached : (why : Stop) → AtStop refusal begun segments reached why → IsReached refusal begun segments reached kind.NoMemory
   memory_reached NoMemory is = inr is
   memory_reached (Refuse cause) is = ⊎_elim (λ own. inl (ap is_some own.0, own.1)) (λ met. inr (at_one segments reached cause met)) is
 

@@ -47,3 +47,9 @@ pub record Ends (told : Type 0) (old new : State) (F A : Map) (refusal : Option 
   pub reads : Reads told F A kind (outside new.held)
   -- behind which answers no name inside the area is held and nothing is dirty
   pub cleans : Cleans old new kind
+
+-- The same over any source: the map after is one map, and B if the source reports its content.
+pub record EndsAtOne (told : Type 0) (old new : State) (F B : Map) (refusal : Option Cause) (kind : Kind) : Type 0 where
+  pub after : Map
+  pub made : told → after ≡ B
+  pub ends : Ends (Unit {0}) old new F after refusal kind

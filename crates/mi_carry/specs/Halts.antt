@@ -72,6 +72,12 @@ pub record Goes {T : Type 0} (told : Type 0) (old new : State) (kept : Kept) (F 
   pub free : OnOk result (IsFreeUnlessRose old new)
   pub back : IfBack result (CanGoBack new kept F)
 
+-- The same over any source: the map after is one map, and B if the source reports its content.
+pub record GoesToOne {T : Type 0} (told : Type 0) (old new : State) (kept : Kept) (F B : Map) (refusal : Option Cause) (result : Result T Halt) : Type 0 where
+  pub after : Map
+  pub made : told → after ≡ B
+  pub goes : Goes (Unit {0}) old new kept F after refusal result
+
 -- ---- causes
 
 -- the two counts of a commit of which it isn't known whether it holds

@@ -2,6 +2,7 @@ pub mod Segments
 pub mod Stops
 pub mod Causes
 pub mod Ends
+pub mod OneMap
 pub mod Falls
 pub mod Halts
 pub mod Rooms

@@ -2,6 +2,7 @@
 
 ghost use Rattle.std.specs.Prelude.{◌≡◌, ◌⊎◌, ◌≤◌, IsTrue, ◌↔◌, length};
 ghost use Rattle.std.specs.List.{All};
+ghost use Rattle.mi_volume.specs.Maps.{Map};
 ghost use Rattle.mi_volume.specs.State.{Passes, GoesOn};
 ghost use Rattle.mi_script.specs.Scripts.{touched_names};
 ghost use Rattle.mi_undo.specs.Names.{most_entries};
@@ -15,8 +16,9 @@ ghost use Rattle.mi_model.specs.Leaves.{Cleans};
 ghost use Rattle.mi_model.specs.Planning.{kind_by};
 ghost use Rattle.mi_carry.specs.Segments.{after_segments, HaveNoRecord};
 ghost use Rattle.mi_carry.specs.Causes.{IsWalkKind, Differs, Caused, Completes};
-ghost use Rattle.mi_carry.specs.Ends.{MayStand, AtExit, Reads, Ends};
+ghost use Rattle.mi_carry.specs.Ends.{MayStand, AtExit, Reads, EndsAtOne};
 ghost use Rattle.mi_carry.specs.Halts.{unknown};
+ghost use Rattle.mi_carry.specs.OneMap.{LeavesOne};
 ghost use Rattle.mi_carry.specs.Reached.{IsReached, HasBegunCommit};
 ghost use Rattle.mi_carry.specs.Rooms.{HasRoom};
 
@@ -87,7 +89,7 @@ fn work<S: Source, V: Volume>(
     requires outside { All (λ p. AreOutside (touched_names p.records)) parts.now }
     requires records { All (λ p. All MayCarry p.records) parts.now }
     requires there { S.told → All (λ p. All (HasLength (S.files src.old)) p.records) parts.now }
-    ensures ends { V.told → Ends S.told (V.state vol.old) (V.state vol.new) (V.state vol.old).held (after_segments (S.files src.old) (V.state vol.old).held parts.now) refusal result.kind }
+    ensures ends { V.told → EndsAtOne S.told (V.state vol.old) (V.state vol.new) (V.state vol.old).held (after_segments (S.files src.old) (V.state vol.old).held parts.now) refusal result.kind }
     ensures caused { Caused (Differs S.told parts.now) (V.told → HasRoom (V.state vol.old) parts.now) (BelowCount (S.faults src.old) (S.faults src.new)) refusal begun result.reached (V.state vol.old).faults (V.state vol.new).faults result.kind }
     ensures recovers { V.told → HasRoom (V.state vol.old) parts.now → GoesOn (V.state vol.old) (V.state vol.new) (NeverShort (V.state vol.old).capacity) }
     ensures reached { IsReached refusal begun parts.now result.reached result.kind }
@@ -156,6 +158,7 @@ pub fn carry_out<S: Source, V: Volume>(
     ensures stops { V.told → GoesOn (V.state vol.old) (V.state vol.new) (MayStand S.told (V.state vol.old).held (after_segments (S.files src.old) (V.state vol.old).held segments.now) refusal (BelowCount (V.state vol.old).faults (V.state vol.new).faults) result.kind) }
     ensures leaves { V.told → Each (V.state vol.new) (AtExit S.told (V.state vol.old).held (after_segments (S.files src.old) (V.state vol.old).held segments.now) refusal result.kind) }
     ensures reads { V.told → Reads S.told (V.state vol.old).held (after_segments (S.files src.old) (V.state vol.old).held segments.now) result.kind (outside (V.state vol.new).held) }
+    ensures one_map { V.told → (A : Map) × (S.told → A ≡ after_segments (S.files src.old) (V.state vol.old).held segments.now) × LeavesOne (V.state vol.old) (V.state vol.new) (V.state vol.old).held A result.kind }
     ensures cleans { V.told → Cleans (V.state vol.old) (V.state vol.new) result.kind }
     ensures kinds { IsWalkKind result.kind }
     ensures caused { Caused (Differs S.told segments.now) (V.told → HasRoom (V.state vol.old) segments.now) (BelowCount (S.faults src.old) (S.faults src.new)) refusal begun result.reached (V.state vol.old).faults (V.state vol.new).faults result.kind }

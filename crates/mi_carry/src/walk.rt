@@ -12,7 +12,7 @@ ghost use Rattle.mi_runner.specs.Records.{MayCarry, HasLength};
 ghost use Rattle.mi_model.specs.Causes.{BelowCount};
 ghost use Rattle.mi_carry.specs.Segments.{after_segments, HaveNoRecord};
 ghost use Rattle.mi_carry.specs.Causes.{Differs};
-ghost use Rattle.mi_carry.specs.Halts.{Goes, IfBack, HaltCaused};
+ghost use Rattle.mi_carry.specs.Halts.{GoesToOne, IfBack, HaltCaused};
 ghost use Rattle.mi_carry.specs.Reached.{first_reached, last_reached, HaltReached, HaltHasBegunCommit};
 ghost use Rattle.mi_carry.specs.Rooms.{IsRoomy, EndsRoomy};
 
@@ -63,7 +63,7 @@ pub fn carry_walk<S: Source, V: Volume>(
     ensures reference { area.new.vol.ghost_name ≡ area.old.vol.ghost_name }
     ensures live { IfBack result (IsLive area.new) }
     ensures goes { V.told → (F : Map) → Works (V.state (volume area.old)) area.old.kept F
-        → Goes S.told (V.state (volume area.old)) (V.state (volume area.new)) area.new.kept F (after_segments (S.files src.old) (outside (V.state (volume area.old)).held) parts.now) refusal result }
+        → GoesToOne S.told (V.state (volume area.old)) (V.state (volume area.new)) area.new.kept F (after_segments (S.files src.old) (outside (V.state (volume area.old)).held) parts.now) refusal result }
     ensures roomy { V.told → (F : Map) → Works (V.state (volume area.old)) area.old.kept F → IsRoomy (V.state (volume area.old)) F parts.now → EndsRoomy (V.state (volume area.old)) (V.state (volume area.new)) F result }
     ensures passes { Passes (V.state (volume area.old)) (V.state (volume area.new)) }
     ensures caused { HaltCaused (Differs S.told parts.now) (V.told → (F : Map) × Works (V.state (volume area.old)) area.old.kept F × IsRoomy (V.state (volume area.old)) F parts.now) (BelowCount (S.faults src.old) (S.faults src.new)) refusal begun (V.state (volume area.old)).faults (V.state (volume area.new)).faults result }

@@ -18,7 +18,7 @@ pub returns-in-Err-clause-ends : goal.returns-in-Err-clause-ends
 returns-in-Err-clause-ends g c = λ told.
     let s = g.V.Volume.state c.args.vol.now in
     rw (c.vol-1.given.1 (sym c.in-Err.ensures.handed_back), c.give_up.ensures)
-    (declined_ends g.S.Source.told s (g.V.Volume.state c.in-Err.refused.vol.now) s.held _ c.args.refusal c.from.result refl (all_outside s (c.requires.free told)) (c.in-Err.ensures.declines told))
+    (record { after = _; made = λ is. refl; ends = declined_ends (Unit {0}) s (g.V.Volume.state c.in-Err.refused.vol.now) s.held _ c.args.refusal c.from.result refl (all_outside s (c.requires.free told)) (c.in-Err.ensures.declines told) })
 
 pub carry_walk-requires-clause-works : goal.carry_walk-requires-clause-works
 carry_walk-requires-clause-works g c = λ told. ((g.V.Volume.state c.args.vol.now).held, (c.in-Ok.ensures.opens told).works)
@@ -26,33 +26,39 @@ carry_walk-requires-clause-works g c = λ told. ((g.V.Volume.state c.args.vol.no
 pub fall_back-requires-clause-can_go_back : goal.fall_back-requires-clause-can_go_back
 fall_back-requires-clause-can_go_back g c = λ told.
     let F = (g.V.Volume.state c.args.vol.now).held in
-    let goes = c.carry_walk.ensures.goes told F (c.in-Ok.ensures.opens told).works in
+    let goes = (c.carry_walk.ensures.goes told F (c.in-Ok.ensures.opens told).works).goes in
     (F, subst (λ r. IfBack r (CanGoBack (g.V.Volume.state c.carry_walk.new.area.vol.now) c.carry_walk.new.area.kept F)) (c.in-Err-Back.is ∙ ap Err c.in-Err-Back.field-0-is) goes.back)
 
 pub returns-in-Ok-carry_walk-clause-ends : goal.returns-in-Ok-carry_walk-clause-ends
 returns-in-Ok-carry_walk-clause-ends g c = λ told.
     let s = g.V.Volume.state c.args.vol.now in
     let opens = c.in-Ok.ensures.opens told in
-    let goes = c.carry_walk.ensures.goes told s.held opens.works in
+    let one = c.carry_walk.ensures.goes told s.held opens.works in
     rw (c.vol-in-Ok-carry_walk-1.given.1 (sym (c.carry_walk.ensures.reference ∙ c.in-Ok.ensures.reference)), c.end.ensures)
-    (done_ends g.S.Source.told s (g.V.Volume.state c.carry_walk.new.area.vol.now) c.carry_walk.new.area.kept s.held _ c.args.refusal _
-    (subst (Goes g.S.Source.told s (g.V.Volume.state c.carry_walk.new.area.vol.now) c.carry_walk.new.area.kept s.held _ c.args.refusal) c.in-Ok-carry_walk.is
-    (lifted g.S.Source.told s (g.V.Volume.state c.in-Ok.area.vol.now) _ _ s.held _ _ c.args.refusal c.carry_walk.result c.in-Ok.ensures.passes.faults c.carry_walk.ensures.passes.faults
-    (ap (λ (m : Map). after_segments (g.S.Source.files c.args.src.now) m c.args.parts.now) (opens.outside ∙ all_outside s (c.requires.free told))) opens.goes goes)))
+    (record {
+      after = one.after;
+      made = λ is. one.made is ∙ ap (λ (m : Map). after_segments (g.S.Source.files c.args.src.now) m c.args.parts.now) (opens.outside ∙ all_outside s (c.requires.free told));
+      ends = (done_ends (Unit {0}) s (g.V.Volume.state c.carry_walk.new.area.vol.now) c.carry_walk.new.area.kept s.held _ c.args.refusal _
+          (subst (Goes (Unit {0}) s (g.V.Volume.state c.carry_walk.new.area.vol.now) c.carry_walk.new.area.kept s.held one.after c.args.refusal) c.in-Ok-carry_walk.is
+          (lifted (Unit {0}) s (g.V.Volume.state c.in-Ok.area.vol.now) _ _ s.held one.after one.after c.args.refusal c.carry_walk.result c.in-Ok.ensures.passes.faults c.carry_walk.ensures.passes.faults refl opens.goes one.goes)));
+    })
 
 pub returns-in-Err-Back-clause-ends : goal.returns-in-Err-Back-clause-ends
 returns-in-Err-Back-clause-ends g c = λ told.
     let s = g.V.Volume.state c.args.vol.now in
     let opens = c.in-Ok.ensures.opens told in
-    let goes = c.carry_walk.ensures.goes told s.held opens.works in
+    let one = c.carry_walk.ensures.goes told s.held opens.works in
     let fails = c.in-Err-Back.is ∙ ap Err c.in-Err-Back.field-0-is in
     rw (c.vol-in-Err-Back-1.given.1 (sym (c.carry_walk.ensures.reference ∙ c.in-Ok.ensures.reference)))
-    (fell_ends g.S.Source.told s (g.V.Volume.state c.carry_walk.new.area.vol.now) (g.V.Volume.state c.fall_back.new.area.0) c.carry_walk.new.area.kept s.held _ c.args.refusal _ _ _ _ c.in-Err-Back.stopped c.fall_back.result
-    (omega (arith, c.in-Ok.ensures.passes.faults, c.carry_walk.ensures.passes.faults)) c.fall_back.ensures.passes.faults c.fall_back.ensures.answers
-    (subst (Goes g.S.Source.told s (g.V.Volume.state c.carry_walk.new.area.vol.now) c.carry_walk.new.area.kept s.held _ c.args.refusal) fails
-    (lifted g.S.Source.told s (g.V.Volume.state c.in-Ok.area.vol.now) _ _ s.held _ _ c.args.refusal c.carry_walk.result c.in-Ok.ensures.passes.faults c.carry_walk.ensures.passes.faults
-    (ap (λ (m : Map). after_segments (g.S.Source.files c.args.src.now) m c.args.parts.now) (opens.outside ∙ all_outside s (c.requires.free told))) opens.goes goes))
-    (c.fall_back.ensures.falls told s.held (subst (λ r. IfBack r (CanGoBack (g.V.Volume.state c.carry_walk.new.area.vol.now) c.carry_walk.new.area.kept s.held)) fails goes.back)))
+    (record {
+      after = one.after;
+      made = λ is. one.made is ∙ ap (λ (m : Map). after_segments (g.S.Source.files c.args.src.now) m c.args.parts.now) (opens.outside ∙ all_outside s (c.requires.free told));
+      ends = (fell_ends (Unit {0}) s (g.V.Volume.state c.carry_walk.new.area.vol.now) (g.V.Volume.state c.fall_back.new.area.0) c.carry_walk.new.area.kept s.held _ c.args.refusal _ _ _ _ c.in-Err-Back.stopped c.fall_back.result
+          (omega (arith, c.in-Ok.ensures.passes.faults, c.carry_walk.ensures.passes.faults)) c.fall_back.ensures.passes.faults c.fall_back.ensures.answers
+          (subst (Goes (Unit {0}) s (g.V.Volume.state c.carry_walk.new.area.vol.now) c.carry_walk.new.area.kept s.held one.after c.args.refusal) fails
+          (lifted (Unit {0}) s (g.V.Volume.state c.in-Ok.area.vol.now) _ _ s.held one.after one.after c.args.refusal c.carry_walk.result c.in-Ok.ensures.passes.faults c.carry_walk.ensures.passes.faults refl opens.goes one.goes))
+          (c.fall_back.ensures.falls told s.held (subst (λ r. IfBack r (CanGoBack (g.V.Volume.state c.carry_walk.new.area.vol.now) c.carry_walk.new.area.kept s.held)) fails one.goes.back)));
+    })
 
 -- where there is room for the walk, so there is for the walk over the area that was begun
 pub returns-in-Err-Back-clause-caused : goal.returns-in-Err-Back-clause-caused
@@ -70,7 +76,7 @@ returns-in-Err-Back-clause-caused g c =
     let to_begun : room → begun = λ has told. (s.held, (c.in-Ok.ensures.opens told).works, roomy told (has told)) in
     let to_back : room → back = λ has told.
     let works = (c.in-Ok.ensures.opens told).works in
-    let goes = c.carry_walk.ensures.goes told s.held works in
+    let goes = (c.carry_walk.ensures.goes told s.held works).goes in
     let ends = c.carry_walk.ensures.roomy told s.held works (roomy told (has told)) in
     (s.held, subst (λ r. IfBack r (CanGoBack u c.carry_walk.new.area.kept s.held)) fails goes.back, subst (λ r. IfBack r (FitsBack u s.held)) fails ends.back) in
     let may = stop_room (Differs g.S.Source.told c.args.parts.now) begun room source c.args.refusal c.args.begun c.in-Err-Back.stopped.reached (BelowCount t.faults u.faults) c.in-Err-Back.stopped.why to_begun
@@ -122,7 +128,7 @@ returns-in-Err-Back-clause-recovers g c = λ told has.
     let opens = c.in-Ok.ensures.opens told in
     let keeps = c.in-Ok.ensures.room told in
     let roomy = begun_roomy s c.args.parts.now c.requires.some has t keeps (opens.outside ∙ all_outside s (c.requires.free told)) in
-    let goes = c.carry_walk.ensures.goes told s.held opens.works in
+    let goes = (c.carry_walk.ensures.goes told s.held opens.works).goes in
     let ends = c.carry_walk.ensures.roomy told s.held opens.works roomy in
     let fails = c.in-Err-Back.is ∙ ap Err c.in-Err-Back.field-0-is in
     rw (c.vol-in-Err-Back-1.given.1 (sym (c.carry_walk.ensures.reference ∙ c.in-Ok.ensures.reference)))
@@ -133,13 +139,16 @@ pub returns-in-Err-Unknown-clause-ends : goal.returns-in-Err-Unknown-clause-ends
 returns-in-Err-Unknown-clause-ends g c = λ told.
     let s = g.V.Volume.state c.args.vol.now in
     let opens = c.in-Ok.ensures.opens told in
-    let goes = c.carry_walk.ensures.goes told s.held opens.works in
+    let one = c.carry_walk.ensures.goes told s.held opens.works in
     let fails = c.in-Err-Unknown.is ∙ ap Err c.in-Err-Unknown.field-0-is in
     rw (c.vol-in-Err-Unknown-1.given.1 (sym (c.carry_walk.ensures.reference ∙ c.in-Ok.ensures.reference)), c.end-in-Err-Unknown.ensures, c.suspended_in_commit.ensures)
-    (unknown_ends g.S.Source.told s (g.V.Volume.state c.carry_walk.new.area.vol.now) c.carry_walk.new.area.kept s.held _ c.args.refusal c.in-Err-Unknown.before c.in-Err-Unknown.again c.in-Err-Unknown.reached
-    (subst (Goes g.S.Source.told s (g.V.Volume.state c.carry_walk.new.area.vol.now) c.carry_walk.new.area.kept s.held _ c.args.refusal) fails
-    (lifted g.S.Source.told s (g.V.Volume.state c.in-Ok.area.vol.now) _ _ s.held _ _ c.args.refusal c.carry_walk.result c.in-Ok.ensures.passes.faults c.carry_walk.ensures.passes.faults
-    (ap (λ (m : Map). after_segments (g.S.Source.files c.args.src.now) m c.args.parts.now) (opens.outside ∙ all_outside s (c.requires.free told))) opens.goes goes)))
+    (record {
+      after = one.after;
+      made = λ is. one.made is ∙ ap (λ (m : Map). after_segments (g.S.Source.files c.args.src.now) m c.args.parts.now) (opens.outside ∙ all_outside s (c.requires.free told));
+      ends = (unknown_ends (Unit {0}) s (g.V.Volume.state c.carry_walk.new.area.vol.now) c.carry_walk.new.area.kept s.held _ c.args.refusal c.in-Err-Unknown.before c.in-Err-Unknown.again c.in-Err-Unknown.reached
+          (subst (Goes (Unit {0}) s (g.V.Volume.state c.carry_walk.new.area.vol.now) c.carry_walk.new.area.kept s.held one.after c.args.refusal) fails
+          (lifted (Unit {0}) s (g.V.Volume.state c.in-Ok.area.vol.now) _ _ s.held one.after one.after c.args.refusal c.carry_walk.result c.in-Ok.ensures.passes.faults c.carry_walk.ensures.passes.faults refl opens.goes one.goes)));
+    })
 
 pub returns-in-Err-clause-reached : goal.returns-in-Err-clause-reached
 returns-in-Err-clause-reached g c =
@@ -175,7 +184,7 @@ returns-in-Err-Back-clause-commit_begins g c = λ told.
     let u = g.V.Volume.state c.carry_walk.new.area.vol.now in
     let opens = c.in-Ok.ensures.opens told in
     let fails = c.in-Err-Back.is ∙ ap Err c.in-Err-Back.field-0-is in
-    let goes = c.carry_walk.ensures.goes told s.held opens.works in
+    let goes = (c.carry_walk.ensures.goes told s.held opens.works).goes in
     rw (c.vol-in-Err-Back-1.given.1 (sym (c.carry_walk.ensures.reference ∙ c.in-Ok.ensures.reference)))
     (back_begun s.held s u (g.V.Volume.state c.fall_back.new.area.0) _
     (then_begun s.held s _ opens.goes u _ _ (λ is. inr (subst (HaltHasBegunCommit c.args.begun c.args.parts.now) fails is)) (c.carry_walk.ensures.commit_begins told s.held opens.works))

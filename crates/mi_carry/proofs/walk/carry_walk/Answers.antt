@@ -1,4 +1,5 @@
 use Rattle.std.proofs.Common.{inl, refl}
+use Rattle.mi_undo.specs.Stands.{outside}
 use Rattle.mi_carry.proofs.EndLemmas.{free_then}
 use Rattle.mi_carry.proofs.HaltLemmas.{stopped_goes, refused_goes, stop_caused, done_goes, failed_goes}
 use Rattle.mi_carry.proofs.RoomLemmas.{stopped_room, done_room, failed_room}
@@ -7,7 +8,7 @@ use Rattle.mi_carry.proofs.walk.carry_walk.Goals as goal
 
 pub returns-in-Err-clause-goes : goal.returns-in-Err-clause-goes
 returns-in-Err-clause-goes g c = λ t F w.
-    rw c.from.ensures (stopped_goes g.S.Source.told _ _ _ F _ c.args.refusal _ _ (c.in-Err.ensures.along t F w))
+    rw c.from.ensures (record { after = _; made = λ s. refl; goes = stopped_goes (Unit {0}) _ _ _ F _ c.args.refusal _ _ (c.in-Err.ensures.along t F w) })
 
 pub returns-in-Err-clause-caused : goal.returns-in-Err-clause-caused
 returns-in-Err-clause-caused g c =
@@ -45,23 +46,31 @@ pub commit-requires-clause-works : goal.commit-requires-clause-works
 commit-requires-clause-works g c = λ t. let w = c.requires.works t in (w.0, (c.in-Ok.ensures.along t w.0 w.1).works)
 
 pub returns-in-Some-clause-goes : goal.returns-in-Some-clause-goes
-returns-in-Some-clause-goes g c = λ t F w. refused_goes g.S.Source.told _ _ _ F _ c.args.refusal _ _ (c.in-Ok.ensures.along t F w)
+returns-in-Some-clause-goes g c = λ t F w. record { after = _; made = λ s. refl; goes = refused_goes (Unit {0}) _ _ _ F _ c.args.refusal _ _ (c.in-Ok.ensures.along t F w) }
 
 pub returns-in-Ok-commit-clause-goes : goal.returns-in-Ok-commit-clause-goes
 returns-in-Ok-commit-clause-goes g c = λ t F w.
     let along = c.in-Ok.ensures.along t F w in
     let commits = c.in-Ok-commit.ensures.commits t F along.works in
-    rw c.in-None.is
-    (done_goes g.S.Source.told (g.V.Volume.state c.args.area.now.vol.now) (g.V.Volume.state c.carry_parts.new.area.vol.now) (g.V.Volume.state c.commit.new.self.vol.now) c.commit.new.self.kept F _ along.goes
-    c.carry_parts.ensures.passes.faults c.commit.ensures.passes.faults (λ s. c.in-Ok.ensures.map t s F w) _ _ commits (free_then _ _ _ c.carry_parts.ensures.passes.faults commits.free))
+    let t1 = g.V.Volume.state c.carry_parts.new.area.vol.now in
+    rw c.in-None.is (record {
+      after = outside t1.held;
+      made = λ s. c.in-Ok.ensures.map t s F w;
+      goes = done_goes (Unit {0}) (g.V.Volume.state c.args.area.now.vol.now) t1 (g.V.Volume.state c.commit.new.self.vol.now) c.commit.new.self.kept F (outside t1.held) along.goes
+          c.carry_parts.ensures.passes.faults c.commit.ensures.passes.faults (λ is. refl) _ _ commits (free_then _ _ _ c.carry_parts.ensures.passes.faults commits.free);
+    })
 
 pub returns-in-Err-commit-clause-goes : goal.returns-in-Err-commit-clause-goes
 returns-in-Err-commit-clause-goes g c = λ t F w.
     let along = c.in-Ok.ensures.along t F w in
     let commits = c.in-Err-commit.ensures.commits t F along.works in
-    rw (c.in-None.is, c.of.ensures)
-    (failed_goes g.S.Source.told (g.V.Volume.state c.args.area.now.vol.now) (g.V.Volume.state c.carry_parts.new.area.vol.now) (g.V.Volume.state c.commit.new.self.vol.now) c.commit.new.self.kept F _ along.goes
-    c.carry_parts.ensures.passes.faults c.commit.ensures.passes.faults (λ s. c.in-Ok.ensures.map t s F w) c.in-Err-commit.fault _ commits c.in-Err-commit.ensures.undoable)
+    let t1 = g.V.Volume.state c.carry_parts.new.area.vol.now in
+    rw (c.in-None.is, c.of.ensures) (record {
+      after = outside t1.held;
+      made = λ s. c.in-Ok.ensures.map t s F w;
+      goes = failed_goes (Unit {0}) (g.V.Volume.state c.args.area.now.vol.now) t1 (g.V.Volume.state c.commit.new.self.vol.now) c.commit.new.self.kept F (outside t1.held) along.goes
+          c.carry_parts.ensures.passes.faults c.commit.ensures.passes.faults (λ is. refl) c.in-Err-commit.fault _ commits c.in-Err-commit.ensures.undoable;
+    })
 
 pub returns-in-Err-clause-roomy : goal.returns-in-Err-clause-roomy
 returns-in-Err-clause-roomy g c = λ t F w roomy.
