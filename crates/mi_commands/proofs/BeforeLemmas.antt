@@ -18,10 +18,12 @@ use Rattle.mi_model.specs.Leaves.{StandsAfter, MayStand, AtPause, AtExit, Cleans
 use Rattle.mi_model.specs.Logs.{Tells, IsReport, IsLog}
 use Rattle.mi_model.specs.PackageOutcome.{Outcome}
 use Rattle.mi_model.specs.Words.{Command, walks}
+use Rattle.mi_carry.specs.OneMap.{LeavesOne}
 use Rattle.mi_commands.specs.Answers.{Begins}
 use Rattle.mi_commands.specs.Looks.{Looks}
 use Rattle.mi_commands.specs.Replies.{Says, SettledReads, Serves}
 use Rattle.mi_commands.proofs.EndLemmas.{may_commit, below_before, looks_go, looks_recover, free_then}
+use Rattle.mi_commands.proofs.OneLemmas.{one_then}
 
 -- ---- the same outcome
 
@@ -183,6 +185,9 @@ module _ (volume told told' : Type 0) (less : told → told') (of_told : told �
     reads = λ v. reads_as volume told told' less of_told out out' is s.held kind u.held (subst (λ (F : Map). SettledReads told' F out' kind u.held) (looks v).stays.held (serves.reads v));
     cleans = λ v. cleans_from s t u pass kind (serves.cleans v);
     recovers = λ v. recovers_from s t u pass.capacity (looks_recover s t (free v) (looks v)) (serves.recovers v);
+    one_map = λ v.
+        let one = serves.one_map v in
+        (one.0, one_then s t u s.held one.0 kind pass.faults then.faults (looks_go s t (free v) (looks v)) (subst (λ (F : Map). LeavesOne t u F one.0 kind) (looks v).stays.held one.1));
     caused = caused_from volume told told' less of_told s t u out out' x x' source is pass kind serves.caused;
     answers = serves.answers;
     begins = begins_as volume told told' less of_told out out' is n kind serves.begins;
@@ -199,6 +204,7 @@ serves_command volume told s u out command command' found x kind n bytes answers
   reads = serves.reads;
   cleans = serves.cleans;
   recovers = serves.recovers;
+  one_map = serves.one_map;
   caused = serves.caused;
   answers = answers serves.answers;
   begins = serves.begins;

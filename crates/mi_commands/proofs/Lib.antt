@@ -3,6 +3,7 @@ mod WordLemmas
 mod LookLemmas
 mod MachineLemmas
 mod EndLemmas
+mod OneLemmas
 pub mod BeforeLemmas
 mod QuietLemmas
 mod ReplyLemmas

@@ -21,6 +21,7 @@ use Rattle.mi_commands.specs.declared.reply.Reply.{Reply}
 use Rattle.mi_commands.specs.Looks.{Looks}
 use Rattle.mi_commands.specs.Replies.{log_in, log_of, IsFront, WantsMemory, Says, SettledReads, Serves}
 use Rattle.mi_commands.proofs.EndLemmas.{free_looks, looks_go, looks_recover, looks_leave, looks_read}
+use Rattle.mi_commands.proofs.OneLemmas.{one_former}
 
 -- an answer behind which the volume is as it was
 abbrev pub IsQuiet : Kind → Type 0
@@ -95,6 +96,7 @@ module _ (volume told : Type 0) (s t : State) (out : Outcome) (command : Command
     reads = λ v. quiet_reads told s.held out kind quiet t.held (looks_read s t (free v) (looks v));
     cleans = λ v. quiet_cleans s t kind quiet (free_looks s t (free v) (looks v));
     recovers = λ v. looks_recover s t (free v) (looks v);
+    one_map = λ v. (s.held, one_former s t s.held kind (looks_go s t (free v) (looks v)) (looks_leave s t (free v) (looks v)) (λ done. looks_read s t (free v) (looks v)));
     caused = caused;
     answers = answers;
     begins = begins;

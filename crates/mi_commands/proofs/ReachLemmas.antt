@@ -26,11 +26,11 @@ Within n (p ∷ parts) = (p.reached ≤ n) × Within n parts
 abbrev pub Reaching : Walked → Type 0
 Reaching w = Within (length w.begun) w.parts
 
-later : (n m : ℕ) (parts : List Part) → n ≤ m → Within n parts → Within m parts
+pub later : (n m : ℕ) (parts : List Part) → n ≤ m → Within n parts → Within m parts
 later n m [] le within = tt
 later n m (p ∷ parts) le within = (omega (arith, le, within.0), later n m parts le within.1)
 
-one_more : (n : ℕ) (parts : List Part) (p : Part) → p.reached ≤ n → Within n parts → Within n (parts ++ p ∷ [])
+pub one_more : (n : ℕ) (parts : List Part) (p : Part) → p.reached ≤ n → Within n parts → Within n (parts ++ p ∷ [])
 one_more n [] p le within = (le, tt)
 one_more n (q ∷ parts) p le within = (within.0, one_more n parts p le within.1)
 

@@ -34,11 +34,13 @@ use Rattle.mi_model.specs.Texts.{Text}
 use Rattle.mi_model.specs.TopCall.{handed}
 use Rattle.mi_model.specs.Words.{Command, Package, Selftest, Clients, Products, Recover, walks, command_of}
 use Rattle.mi_commands.specs.declared.reply.Reply.{Reply}
+use Rattle.mi_carry.specs.OneMap.{LeavesOne}
 use Rattle.mi_commands.specs.Answers.{IsTold, SourceFails, Begins}
 use Rattle.mi_commands.specs.Endings.{RepliesUnsettled}
 use Rattle.mi_commands.specs.Replies.{log_in, log_of, WantsMemory, Replies, Says, SettledReads, IsHanded, Serves, Leaves, Runs}
 use Rattle.mi_commands.proofs.BeforeLemmas.{may_stand_as, exit_as, reads_as, caused_from, begins_as, says_as, cleans_from, recovers_from}
 use Rattle.mi_commands.proofs.EndLemmas.{below_before}
+use Rattle.mi_commands.proofs.OneLemmas.{one_former, one_then}
 use Rattle.mi_commands.proofs.QuietLemmas.{says_whole, says_front, memory_log, memory_begins, answers_memory}
 
 pub ok_same : (r : Result Map Name) (F H : Map) → r ≡ Ok F → r ≡ Ok H → F ≡ H
@@ -119,12 +121,16 @@ module _ (volume source : Type 0) (s t u : State) (files : Files) (words : List 
       same : volume → inner ≡ out
       same = same_outcome out asked comes value room
 
-  pub served_leaves : (volume → stands s.held ≡ Ok t.held) → (volume → NothingDirty s → GoesOn s t (ShortAs s.capacity s.held)) → Passes s t → Serves volume told t u inner command (λ x. x ≡ found) source_fails kind n bytes → Leaves volume s u (Ok command) kind
-  served_leaves value short pass serves = record {
+  pub served_leaves : (volume → stands s.held ≡ Ok t.held) → (volume → NothingDirty s → GoesOn s t (ShortAs s.capacity s.held)) → (volume → NothingDirty s → (F : Map) → StandsFor F s.held → GoesOn s t (StandsFor F)) → Passes s t → Passes t u → Serves volume told t u inner command (λ x. x ≡ found) source_fails kind n bytes → Leaves volume s u (Ok command) kind
+  served_leaves value short goes pass then serves = record {
     unread = λ v clean bad stood. absurd (not_bad (stands s.held) t.held bad (value v) stood);
     unread_stays = λ v bad stood. absurd (not_bad (stands s.held) t.held bad (value v) stood);
     cleans = λ v. cleans_from s t u pass kind (serves.cleans v);
     recovers = λ v clean room. recovers_from s t u pass.capacity (still_recovers s t (short v clean) room) (serves.recovers v);
+    one_map = λ v clean F stood.
+        let at : t.held ≡ F = ok_same (stands s.held) t.held F (value v) stood in
+        let one = serves.one_map v in
+        (one.0, one_then s t u F one.0 kind pass.faults then.faults (goes v clean F stood) (subst (λ (x : Map). LeavesOne t u x one.0 kind) at one.1));
     answers = serves.answers;
   }
 
@@ -249,11 +255,22 @@ module _ (volume source : Type 0) (s t : State) (files : Files) (words : List Te
       let full : volume → out ≡ only (o.Refused (RecoveryFull name)) = λ v. full_outcome out asked comes name (u.full name refl) in
       early_runs (undo.Full name) (RecoveryFull name) r out tt u (λ v. ap (λ (x : Outcome). x.end) (full v)) (refusal_begins (RecoveryFull name) out full) is
 
+  -- nothing but the former map is left
+  unsettled_one : (e : UndoError) (kind : Kind) → Unsettled volume s t e → (kind ≡ Done → ⊥) → volume → NothingDirty s → (F : Map) → stands s.held ≡ Ok F → (A : Map) × LeavesOne s t F A kind
+  unsettled_one e kind u undone v clean F stood = (F, one_former s t F kind (u.goes v clean F stood) (u.leaves v clean F stood) (λ done. absurd (undone done)))
+
   early_leaves : (e : UndoError) (cause : Cause) (r : Reply) → IsEarly cause → Unsettled volume s t e → Replies (walks (Ok command)) Clean (Refused cause) r → Leaves volume s t (Ok command) r.kind
-  early_leaves e cause r early u is = ⊎_elim (λ x. at (Refused cause) x.0 (refused_cleans cause early) (before_answers cause early command)) (λ x. at NoMemory x.0 tt (answers_memory command)) is.answers
+  early_leaves e cause r early u is = ⊎_elim (λ x. at (Refused cause) x.0 (λ done. cc) (refused_cleans cause early) (before_answers cause early command)) (λ x. at NoMemory x.0 (λ done. cc) tt (answers_memory command)) is.answers
     where
-      at : (kind : Kind) → r.kind ≡ kind → Cleans s t kind → AnswersCommand command kind → Leaves volume s t (Ok command) r.kind
-      at kind is cleans answers = subst (λ (k : Kind). Leaves volume s t (Ok command) k) (sym is) (record { unread = u.unread; unread_stays = u.unread_stays; cleans = λ v. cleans; recovers = λ v clean room. still_recovers s t (u.short v clean) room; answers = answers })
+      at : (kind : Kind) → r.kind ≡ kind → (kind ≡ Done → ⊥) → Cleans s t kind → AnswersCommand command kind → Leaves volume s t (Ok command) r.kind
+      at kind is undone cleans answers = subst (λ (k : Kind). Leaves volume s t (Ok command) k) (sym is) (record {
+        unread = u.unread;
+        unread_stays = u.unread_stays;
+        cleans = λ v. cleans;
+        recovers = λ v clean room. still_recovers s t (u.short v clean) room;
+        one_map = unsettled_one e kind u undone;
+        answers = answers;
+      })
 
       refused_cleans : (cause : Cause) → IsEarly cause → Cleans s t (Refused cause)
       refused_cleans VolumeFault is = tt
@@ -262,7 +279,14 @@ module _ (volume source : Type 0) (s t : State) (files : Files) (words : List Te
       refused_cleans other is = absurd is
 
   pub unsettled_leaves : (e : UndoError) (r : Reply) → Unsettled volume s t e → RepliesUnsettled (walks (Ok command)) e r → Leaves volume s t (Ok command) r.kind
-  unsettled_leaves undo.NoMemory r u is = subst (λ (k : Kind). Leaves volume s t (Ok command) k) (sym is.0.0) (record { unread = u.unread; unread_stays = u.unread_stays; cleans = λ v. tt; recovers = λ v clean room. still_recovers s t (u.short v clean) room; answers = answers_memory command })
+  unsettled_leaves undo.NoMemory r u is = subst (λ (k : Kind). Leaves volume s t (Ok command) k) (sym is.0.0) (record {
+    unread = u.unread;
+    unread_stays = u.unread_stays;
+    cleans = λ v. tt;
+    recovers = λ v clean room. still_recovers s t (u.short v clean) room;
+    one_map = unsettled_one undo.NoMemory NoMemory u (λ done. cc);
+    answers = answers_memory command;
+  })
   unsettled_leaves undo.Fault r u is = early_leaves undo.Fault VolumeFault r tt u is
   unsettled_leaves (undo.BadRollback name) r u is = early_leaves (undo.BadRollback name) (BadRollback name) r tt u is
   unsettled_leaves (undo.Full name) r u is = early_leaves (undo.Full name) (RecoveryFull name) r tt u is
@@ -308,14 +332,15 @@ module _ (volume source : Type 0) (s : State) (files : Files) (words : List Text
           (subst (λ (k : Kind). Runs volume words_told s s out (Err place) source_fails k 0 (log_in r)) (sym is_kind) runs)
 
   pub words_leave : (r : Reply) → Replies false Clean (Refused (BadWords place)) r → Leaves volume s s (Err place) r.kind
-  words_leave r is = ⊎_elim (λ x. at (Refused (BadWords place)) x.0 tt (inl refl)) (λ x. at NoMemory x.0 tt (inr refl)) is.answers
+  words_leave r is = ⊎_elim (λ x. at (Refused (BadWords place)) x.0 (λ done. cc) tt (inl refl)) (λ x. at NoMemory x.0 (λ done. cc) tt (inr refl)) is.answers
     where
-      at : (kind : Kind) → r.kind ≡ kind → Cleans s s kind → (kind ≡ Refused (BadWords place)) ⊎ (kind ≡ NoMemory) → Leaves volume s s (Err place) r.kind
-      at kind is cleans answers = subst (λ (k : Kind). Leaves volume s s (Err place) k) (sym is) (record {
+      at : (kind : Kind) → r.kind ≡ kind → (kind ≡ Done → ⊥) → Cleans s s kind → (kind ≡ Refused (BadWords place)) ⊎ (kind ≡ NoMemory) → Leaves volume s s (Err place) r.kind
+      at kind is undone cleans answers = subst (λ (k : Kind). Leaves volume s s (Err place) k) (sym is) (record {
         unread = λ v clean bad stood. started s (λ d. d ≡ s.held);
         unread_stays = λ v bad stood. refl;
         cleans = λ v. cleans;
         recovers = λ v clean room. started s (NeverShort s.capacity);
+        one_map = λ v clean F stood. (F, one_former s s F kind (started s (StandsFor F)) (λ d image. ap stands (clean_same s s.held refl clean d image) ∙ stood) (λ done. absurd (undone done)));
         answers = answers;
       })
 

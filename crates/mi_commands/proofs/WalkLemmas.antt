@@ -42,12 +42,14 @@ use Rattle.mi_report.specs.WalkLogs as report
 use Rattle.mi_carry.specs.Segments.{after_segments}
 use Rattle.mi_carry.specs.Ends as carry
 use Rattle.mi_carry.specs.Causes as carried
+use Rattle.mi_carry.specs.OneMap.{LeavesOne}
 use Rattle.mi_commands.specs.Answers.{IsTold, IsOwnCause, Begins}
 use Rattle.mi_commands.specs.Looks.{Looks}
 use Rattle.mi_commands.specs.Replies.{SettledReads, Serves}
 use Rattle.mi_plan.specs.Refusals.{IsWalkCause, IsWalkRefusal}
 use Rattle.mi_commands.specs.Walks.{is_sized_fault, is_sized, IsSized, SaysKind, MayClose}
 use Rattle.mi_commands.proofs.QuietLemmas.{says_whole, quiet_serves}
+use Rattle.mi_commands.proofs.OneLemmas.{one_late}
 use Rattle.mi_commands.proofs.RoomLemmas.{IsFull}
 
 -- the map behind the planned segments of a walk
@@ -282,15 +284,16 @@ module _ (volume source : Type 0) (recorded : Bool) (folder : Name) (sets : Assi
     -- ---- all of it
 
     pub walk_serves : s.faults ≤ u.faults → f ≤ h → (kind : Kind) (bytes : List ℕ) → caused_so kind
-        → (volume → GoesOn s u (carry.MayStand source s.held A refusal (BelowCount s.faults u.faults) kind)) → (volume → Each u (carry.AtExit source s.held A refusal kind)) → (volume → carry.Reads source s.held A kind (outside u.held)) → (volume → Cleans s u kind)
+        → (volume → GoesOn s u (carry.MayStand source s.held A refusal (BelowCount s.faults u.faults) kind)) → (volume → Each u (carry.AtExit source s.held A refusal kind)) → (volume → carry.Reads source s.held A kind (outside u.held)) → (volume → Cleans s u kind) → (volume → (B : Map) × LeavesOne s u s.held B kind)
         → bytes ≡ report_of kind found true names (min reached (length names))
         → Serves volume told s u out (Package recorded folder sets) (λ x. x ≡ found) fails kind (min reached (length names)) bytes
-    walk_serves le less kind bytes c stops leaves at cleans is = record {
+    walk_serves le less kind bytes c stops leaves at cleans one is = record {
       stops = λ v. weaker s u (carry.MayStand source s.held A refusal (BelowCount s.faults u.faults) kind) (MayStand told s.held out (BelowCount s.faults u.faults) kind) (may_stand (BelowCount s.faults u.faults) kind) (stops v);
       leaves = λ v d image. at_exit kind d (leaves v d image);
       reads = λ v. reads kind u.held c (at v);
       cleans = cleans;
       recovers = recovers;
+      one_map = one;
       caused = caused le less kind c;
       answers = answers kind c;
       begins = begins kind c;
@@ -305,35 +308,35 @@ module _ (volume source : Type 0) (recorded : Bool) (folder : Name) (sets : Assi
     late_stand rose other is d may = absurd cc
 
     late_serves : s.faults ≤ u.faults → f ≤ h → (kind : Kind) (bytes : List ℕ) → IsSized kind
-        → (volume → GoesOn s u (carry.MayStand source s.held A refusal (BelowCount s.faults u.faults) kind)) → (volume → Each u (carry.AtExit source s.held A refusal kind))
+        → (volume → GoesOn s u (carry.MayStand source s.held A refusal (BelowCount s.faults u.faults) kind)) → (volume → Each u (carry.AtExit source s.held A refusal kind)) → (volume → (B : Map) × LeavesOne s u s.held B kind)
         → bytes ≡ report_of NoMemory found true names (min reached (length names))
         → Serves volume told s u out (Package recorded folder sets) (λ x. x ≡ found) fails NoMemory (min reached (length names)) bytes
-    late_serves le less Done bytes is stops leaves log_is = absurd is
-    late_serves le less Listed bytes is stops leaves log_is = absurd is
-    late_serves le less (Recovered settled) bytes is stops leaves log_is = absurd is
-    late_serves le less (Suspended pause) bytes is stops leaves log_is = absurd is
-    late_serves le less NoMemory bytes is stops leaves log_is = absurd is
-    late_serves le less (Refused cause) bytes is stops leaves log_is =
+    late_serves le less Done bytes is stops leaves one log_is = absurd is
+    late_serves le less Listed bytes is stops leaves one log_is = absurd is
+    late_serves le less (Recovered settled) bytes is stops leaves one log_is = absurd is
+    late_serves le less (Suspended pause) bytes is stops leaves one log_is = absurd is
+    late_serves le less NoMemory bytes is stops leaves one log_is = absurd is
+    late_serves le less (Refused cause) bytes is stops leaves one log_is =
         walk_serves le less NoMemory bytes tt
         (λ v. weaker s u (carry.MayStand source s.held A refusal (BelowCount s.faults u.faults) (Refused cause)) (carry.MayStand source s.held A refusal (BelowCount s.faults u.faults) NoMemory) (late_stand (BelowCount s.faults u.faults) cause is) (stops v))
-        leaves (λ v. tt) (λ v. tt) log_is
+        leaves (λ v. tt) (λ v. tt) (λ v. let map = one v in (map.0, one_late s u s.held map.0 cause is map.1)) log_is
 
     -- the answer as it is said
     pub said_serves : s.faults ≤ u.faults → f ≤ h → (kind said : Kind) (n : ℕ) (bytes : List ℕ) → SaysKind kind said → n ≡ min reached (length names) → caused_so kind
-        → (volume → GoesOn s u (carry.MayStand source s.held A refusal (BelowCount s.faults u.faults) kind)) → (volume → Each u (carry.AtExit source s.held A refusal kind)) → (volume → carry.Reads source s.held A kind (outside u.held)) → (volume → Cleans s u kind)
+        → (volume → GoesOn s u (carry.MayStand source s.held A refusal (BelowCount s.faults u.faults) kind)) → (volume → Each u (carry.AtExit source s.held A refusal kind)) → (volume → carry.Reads source s.held A kind (outside u.held)) → (volume → Cleans s u kind) → (volume → (B : Map) × LeavesOne s u s.held B kind)
         → bytes ≡ report_of said found true names n
         → Serves volume told s u out (Package recorded folder sets) (λ x. x ≡ found) fails said n bytes
-    said_serves le less kind said n bytes says is c stops leaves at cleans log_is =
+    said_serves le less kind said n bytes says is c stops leaves at cleans one log_is =
         subst (λ (k : ℕ). Serves volume told s u out (Package recorded folder sets) (λ x. x ≡ found) fails said k bytes) (sym is) (⊎_elim same late says)
       where
         log_at : (k : Kind) → said ≡ k → bytes ≡ report_of k found true names (min reached (length names))
         log_at k e = log_is ∙ ap (λ (x : Kind). report_of x found true names n) e ∙ ap (report_of k found true names) is
 
         same : said ≡ kind → Serves volume told s u out (Package recorded folder sets) (λ x. x ≡ found) fails said (min reached (length names)) bytes
-        same e = subst (λ (k : Kind). Serves volume told s u out (Package recorded folder sets) (λ x. x ≡ found) fails k (min reached (length names)) bytes) (sym e) (walk_serves le less kind bytes c stops leaves at cleans (log_at kind e))
+        same e = subst (λ (k : Kind). Serves volume told s u out (Package recorded folder sets) (λ x. x ≡ found) fails k (min reached (length names)) bytes) (sym e) (walk_serves le less kind bytes c stops leaves at cleans one (log_at kind e))
 
         late : (said ≡ NoMemory) × IsSized kind → Serves volume told s u out (Package recorded folder sets) (λ x. x ≡ found) fails said (min reached (length names)) bytes
-        late e = subst (λ (k : Kind). Serves volume told s u out (Package recorded folder sets) (λ x. x ≡ found) fails k (min reached (length names)) bytes) (sym e.0) (late_serves le less kind bytes e.1 stops leaves (log_at NoMemory e.0))
+        late e = subst (λ (k : Kind). Serves volume told s u out (Package recorded folder sets) (λ x. x ≡ found) fails k (min reached (length names)) bytes) (sym e.0) (late_serves le less kind bytes e.1 stops leaves one (log_at NoMemory e.0))
 
 -- ---- planned segments in their written form
 

@@ -21,6 +21,7 @@ use Rattle.mi_model.specs.Report.{report_of}
 use Rattle.mi_model.specs.Words.{Command, walks}
 use Rattle.mi_report.specs.WalkLogs.{log_text}
 use Rattle.mi_commands.specs.declared.reply.Reply.{Reply}
+use Rattle.mi_carry.specs.OneMap.{LeavesOne}
 use Rattle.mi_commands.specs.Answers.{Begins}
 
 -- ---- logs
@@ -82,6 +83,7 @@ pub record Serves (volume told : Type 0) (old new : State) (out : Outcome) (comm
   pub stops : volume → GoesOn old new (MayStand told old.held out (BelowCount old.faults new.faults) kind)
   pub leaves : volume → Each new (AtExit told old.held out kind)
   pub reads : volume → SettledReads told old.held out kind new.held
+  pub one_map : volume → (A : Map) × LeavesOne old new old.held A kind
   pub cleans : volume → Cleans old new kind
   pub recovers : volume → GoesOn old new (NeverShort old.capacity)
   pub caused : Caused old.faults new.faults volume told out (Rose old new) source_fails kind
@@ -97,6 +99,7 @@ pub record Leaves (volume : Type 0) (old new : State) (words : Result Command �
   pub unread_stays : volume → (bad : List ℕ) → stands old.held ≡ Err bad → new.held ≡ old.held
   pub cleans : volume → Cleans old new kind
   pub recovers : volume → NothingDirty old → ((name : List ℕ) → ¬ IsShort old.capacity old.held name) → GoesOn old new (NeverShort old.capacity)
+  pub one_map : volume → NothingDirty old → (F : Map) → stands old.held ≡ Ok F → (A : Map) × LeavesOne old new F A kind
   pub answers : AnswersWords words kind
 
 -- What a run leaves that comes to this outcome.

@@ -29,7 +29,7 @@ returns-in-Ok-clause-leaves g c =
     let files = g.S.Source.files c.args.src.now in
     let fails = SourceFails (Ok (asked c.args.command.now)) (g.S.Source.faults c.args.src.now) (g.S.Source.faults c.serve_settled.new.src) in
     let r = c.serve_settled.result in
-    served_leaves g.V.Volume.told g.S.Source.told s t u files [] c.args.now (asked c.args.command.now) c.in-Ok.settled fails r.kind r.reached (log_in r) c.in-Ok.ensures.value c.in-Ok.ensures.room c.in-Ok.ensures.passes
+    served_leaves g.V.Volume.told g.S.Source.told s t u files [] c.args.now (asked c.args.command.now) c.in-Ok.settled fails r.kind r.reached (log_in r) c.in-Ok.ensures.value c.in-Ok.ensures.room c.in-Ok.ensures.stops c.in-Ok.ensures.passes c.serve_settled.ensures.passes
     (c.serve_settled.ensures.serves (handed [] files s c.args.now) (is_handed g.V.Volume.told g.S.Source.told s t u files [] c.args.now (asked c.args.command.now) c.in-Ok.settled fails r.kind r.reached (log_in r) c.in-Ok.ensures.passes c.in-Ok.ensures.settled))
 
 pub returns-in-Err-clause-runs : goal.returns-in-Err-clause-runs

@@ -32,5 +32,5 @@ returns-clause-serves g c recorded folder sets given out names settled made begu
     (λ v told. ((plan v told).0, subst (λ (l : List Planned). IsPlan files (walk given) names l refusal) (sym c.as_slice.ensures.value) (plan v told).1)) former c.requires.refusal differs (λ file stated size d told. d.untold told) room has
     (λ v. c.carry_out-carried.ensures.recovers v (has v)) reached
     c.carry_out-carried.ensures.passes.faults c.carry_out-carried.ensures.source_counts kind r.kind r.reached (log_in r) c.answered.ensures.says (c.answered.ensures.reached ∙ ap (min reached) begun) caused
-    c.carry_out-carried.ensures.stops c.carry_out-carried.ensures.leaves c.carry_out-carried.ensures.reads c.carry_out-carried.ensures.cleans
+    c.carry_out-carried.ensures.stops c.carry_out-carried.ensures.leaves c.carry_out-carried.ensures.reads c.carry_out-carried.ensures.cleans (λ v. let one = c.carry_out-carried.ensures.one_map v in (one.0, one.2))
     (c.answered.ensures.log settled names refusal made (may_close differs room (BelowCount f h) refusal (length names) reached s.faults u.faults kind caused))
