@@ -19,6 +19,7 @@ ghost use Rattle.mi_model.specs.Outcome.{ComesTo};
 ghost use Rattle.mi_model.specs.TopCall.{handed, IsTold, IsStill};
 ghost use Rattle.mi_model.specs.Words.{Installs, command_of, walks};
 ghost use Rattle.mi_report.specs.WalkLogs.{log_text};
+ghost use Rattle.mi_carry.specs.OneMap.{LeavesOne};
 
 use crate::answer::Answer;
 use mi_commands::{Reply, reply_to};
@@ -59,6 +60,8 @@ pub fn run<S: Source, V: Volume, K: Sink>(
         → GoesOn (V.state vol.old) (V.state vol.new) (MayStand (IsTold V.told S.told (texts_of words.now)) F o (BelowCount (V.state vol.old).faults (V.state vol.new).faults) result.kind) }
     ensures leaves { (o : Outcome) → ComesTo (handed (texts_of words.now) (S.files src.old) (V.state vol.old) now) o → V.told → NothingDirty (V.state vol.old) → (F : Map) → stands (V.state vol.old).held ≡ Ok F
         → Each (V.state vol.new) (AtExit (IsTold V.told S.told (texts_of words.now)) F o result.kind) }
+    // The same whatever the source reports: the former map F, or one and the same other map A.
+    ensures one_map { V.told → NothingDirty (V.state vol.old) → (F : Map) → stands (V.state vol.old).held ≡ Ok F → (A : Map) × LeavesOne (V.state vol.old) (V.state vol.new) F A result.kind }
     ensures unread { V.told → NothingDirty (V.state vol.old) → (bad : List ℕ) → stands (V.state vol.old).held ≡ Err bad → GoesOn (V.state vol.old) (V.state vol.new) (λ d. d ≡ (V.state vol.old).held) }
 
     // What a crash leaves has room for its recovery, where what is handed in has.

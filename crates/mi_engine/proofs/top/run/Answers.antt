@@ -39,6 +39,9 @@ returns-clause-stops g c = λ o comes. (c.reply_to-reply.ensures.runs o comes).s
 pub returns-clause-leaves : goal.returns-clause-leaves
 returns-clause-leaves g c = λ o comes. (c.reply_to-reply.ensures.runs o comes).leaves
 
+pub returns-clause-one_map : goal.returns-clause-one_map
+returns-clause-one_map g c = c.reply_to-reply.ensures.leaves.one_map
+
 pub returns-clause-recovers : goal.returns-clause-recovers
 returns-clause-recovers g c = c.reply_to-reply.ensures.leaves.recovers
 
