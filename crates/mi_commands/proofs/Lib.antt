@@ -9,6 +9,7 @@ mod QuietLemmas
 mod ReplyLemmas
 mod PackageLemmas
 mod ReachLemmas
+mod SegmentLemmas
 mod RoomLemmas
 mod WalkLemmas
 mod ServeLemmas

@@ -71,7 +71,7 @@ answers_memory Recover = tt
 
 -- no action is begun
 pub memory_begins : (out : Outcome) → Begins out 0 NoMemory
-memory_begins out = record { own = λ own. absurd own; most = omega arith }
+memory_begins out = record { own = λ own. absurd own; most = omega arith; begun = inl refl }
 
 -- ---- logs
 

@@ -21,7 +21,7 @@ use Rattle.mi_undo.specs.declared.fault.UndoError.TheVariants as undo
 use Rattle.mi_undo.proofs.StandsLemmas.{get-outside, clean_same}
 use Rattle.mi_base.specs.Machine.{machine_of}
 use Rattle.mi_base.specs.declared.answers.Cause.{Cause}
-use Rattle.mi_base.specs.declared.answers.Cause.TheVariants.{BadWords, VolumeFault, BadRollback, RecoveryFull}
+use Rattle.mi_base.specs.declared.answers.Cause.TheVariants.{BadWords, VolumeFault, BadRollback, RecoveryFull, SourceFault}
 use Rattle.mi_base.specs.declared.answers.Kind.{Kind}
 use Rattle.mi_base.specs.declared.answers.Kind.TheVariants.{Done, Listed, Recovered, Refused, Suspended, NoMemory}
 use Rattle.mi_model.specs.Causes.{BelowCount, AnswersCommand, Caused}
@@ -36,6 +36,7 @@ use Rattle.mi_model.specs.Words.{Command, Package, Selftest, Clients, Products, 
 use Rattle.mi_commands.specs.declared.reply.Reply.{Reply}
 use Rattle.mi_carry.specs.OneMap.{LeavesOne}
 use Rattle.mi_commands.specs.Answers.{IsTold, SourceFails, Begins}
+use Rattle.mi_commands.specs.Begun.{AtRefusal}
 use Rattle.mi_commands.specs.Endings.{RepliesUnsettled}
 use Rattle.mi_commands.specs.Replies.{log_in, log_of, WantsMemory, Replies, Says, SettledReads, IsHanded, Serves, Leaves, Runs}
 use Rattle.mi_commands.proofs.BeforeLemmas.{may_stand_as, exit_as, reads_as, caused_from, begins_as, says_as, cleans_from, recovers_from}
@@ -229,10 +230,17 @@ module _ (volume source : Type 0) (s t : State) (files : Files) (words : List Te
 
   -- the same of a fault, and of a refusal that the outcome is
   fault_begins : (out : Outcome) → asked_told → Begins out 0 (Refused VolumeFault)
-  fault_begins out t = record { own = λ own. absurd own; most = omega arith }
+  fault_begins out t = record { own = λ own. absurd own; most = omega arith; begun = inl refl }
 
   refusal_begins : (cause : Cause) (out : Outcome) → (volume → out ≡ only (o.Refused cause)) → asked_told → Begins out 0 (Refused cause)
-  refusal_begins cause out is t = record { own = λ own. sym (ap (λ (x : Outcome). x.reached) (is t.0)); most = omega arith }
+  refusal_begins cause out is t =
+      let none = sym (ap (λ (x : Outcome). x.reached) (is t.0)) in
+      record { own = λ own. none; most = omega arith; begun = at cause none }
+    where
+      at : (cause : Cause) → 0 ≡ out.reached → AtRefusal out 0 cause
+      at VolumeFault is_none = inl refl
+      at SourceFault is_none = inl refl
+      at other is_none = is_none
 
   -- a refusal while settling, with its log, or want of memory
   early_runs : (e : UndoError) (cause : Cause) (r : Reply) (out : Outcome) → IsEarly cause → Unsettled volume s t e → Caused s.faults t.faults volume asked_told out (Rose s t) source_fails (Refused cause) → (asked_told → Begins out 0 (Refused cause)) → Replies (walks (Ok command)) Clean (Refused cause) r
@@ -311,7 +319,7 @@ module _ (volume source : Type 0) (s : State) (files : Files) (words : List Text
   pub words_runs : (r : Reply) → Replies false Clean (Refused (BadWords place)) r → (out : Outcome) → ComesTo (handed words files s now) out → Runs volume words_told s s out (Err place) source_fails r.kind r.reached (log_in r)
   words_runs r is out comes = ⊎_elim
       (λ x. at (Refused (BadWords place)) x.0
-      (words_at (Refused (BadWords place)) (log_in r) out (λ t. ap (λ (y : Outcome). y.end) refused) (λ t. record { own = λ own. sym (ap (λ (y : Outcome). y.reached) refused); most = omega arith })
+      (words_at (Refused (BadWords place)) (log_in r) out (λ t. ap (λ (y : Outcome). y.end) refused) (λ t. let none = sym (ap (λ (y : Outcome). y.reached) refused) in record { own = λ own. none; most = omega arith; begun = none })
       (says_whole (IsLog volume words_told (λ y. volume → y ≡ settled s.held) false out (Refused (BadWords place)) 0) (Refused (BadWords place)) (log_in r) (log_of false Clean (Refused (BadWords place))) x.1 (record { settled = Clean; begun = out.begun; tells = refl; begins = λ t. refl; is = refl }))
       (λ F d standing. standing) (λ F. tt)))
       (λ x. at NoMemory x.0

@@ -67,8 +67,8 @@ module _ (volume told : Type 0) (of_told : told → volume) (s t : State) (out :
 
   scan_begins : (e : ImageError) → IsBad e → told → Begins out 0 (kind_unscanned e)
   scan_begins scan.NoMemory bad t = memory_begins out
-  scan_begins scan.Fault bad t = record { own = λ own. absurd own; most = omega arith }
-  scan_begins (scan.BadImage name) bad t = record { own = λ own. sym (ap (λ (x : Outcome). x.reached) (bad (of_told t) name refl)); most = omega arith }
+  scan_begins scan.Fault bad t = record { own = λ own. absurd own; most = omega arith; begun = inl refl }
+  scan_begins (scan.BadImage name) bad t = let none = sym (ap (λ (x : Outcome). x.reached) (bad (of_told t) name refl)) in record { own = λ own. none; most = omega arith; begun = none }
 
   scan_log : (e : ImageError) → IsLog volume told (λ x. x ≡ found) (walks (Ok command)) out (kind_unscanned e) 0 (log_of (walks (Ok command)) found (kind_unscanned e))
   scan_log scan.NoMemory = record { settled = found; begun = out.begun; tells = refl; begins = λ t. refl; is = refl }
@@ -105,14 +105,14 @@ module _ (volume told : Type 0) (of_told : told → volume) (s : State) (found :
 
   pub recover_serves : (was : Settled) (r : Reply) → (volume → was ≡ found) → Replies false found (Recovered found) r → Serves volume told s s (only (o.Recovered was)) Recover (λ x. x ≡ found) source_fails r.kind r.reached (log_in r)
   recover_serves was r same is =
-      replied volume told s s (only (o.Recovered was)) Recover (λ x. x ≡ found) found refl source_fails free looks (Recovered found) (log_of false found (Recovered found)) r tt (λ v. ap (λ (x : Settled). o.Recovered x) (same v)) tt (λ t. record { own = λ own. refl; most = refl })
+      replied volume told s s (only (o.Recovered was)) Recover (λ x. x ≡ found) found refl source_fails free looks (Recovered found) (log_of false found (Recovered found)) r tt (λ v. ap (λ (x : Settled). o.Recovered x) (same v)) tt (λ t. record { own = λ own. refl; most = refl; begun = refl })
       (record { settled = found; begun = []; tells = refl; begins = λ t. refl; is = refl }) is.answers is.reached
 
   -- of the machine m, of which the image is where the volume tells what it holds
   pub list_serves : (command : Command) (texts : Machine → List ℕ) (m m' : Machine) (r : Reply) → (volume → m' ≡ m) → AnswersCommand command Listed → ((r.kind ≡ Listed) × (log_in r ≡ texts m')) ⊎ WantsMemory (walks (Ok command)) r → r.reached ≡ 0
       → Serves volume told s s (only (o.Listed (texts m))) command (λ x. x ≡ found) source_fails r.kind r.reached (log_in r)
   list_serves command texts m m' r same answers is none =
-      replied volume told s s (only (o.Listed (texts m))) command (λ x. x ≡ found) found refl source_fails free looks Listed (texts m') r tt (λ v. (texts m, refl)) answers (λ t. record { own = λ own. refl; most = refl }) (λ v. ap (λ (n : Machine). o.Listed (texts n)) (sym (same v))) is none
+      replied volume told s s (only (o.Listed (texts m))) command (λ x. x ≡ found) found refl source_fails free looks Listed (texts m') r tt (λ v. (texts m, refl)) answers (λ t. record { own = λ own. refl; most = refl; begun = refl }) (λ v. ap (λ (n : Machine). o.Listed (texts n)) (sym (same v))) is none
 
 -- ---- a package that isn't walked over
 
@@ -141,10 +141,10 @@ module _ (volume source : Type 0) (recorded : Bool) (folder : Name) (sets : Assi
 
   stop_begins : (volume_fails : Type 0) (e : Stop) → CausedStop source volume_fails source_fails out e → told_package → Begins out 0 (kind_stopped e)
   stop_begins volume_fails stop.NoMemory c t = memory_begins out
-  stop_begins volume_fails (stop.Refuse VolumeFault) c t = record { own = λ own. absurd own; most = omega arith }
-  stop_begins volume_fails (stop.Refuse SourceFault) c t = record { own = λ own. absurd own; most = omega arith }
-  stop_begins volume_fails (stop.Refuse (Table fault)) c t = record { own = λ own. sym (ap (λ (x : Outcome). x.reached) (c (t.1 tt))); most = omega arith }
-  stop_begins volume_fails (stop.Refuse (UnknownProduct code)) c t = record { own = λ own. sym (ap (λ (x : Outcome). x.reached) (c (t.1 tt))); most = omega arith }
+  stop_begins volume_fails (stop.Refuse VolumeFault) c t = record { own = λ own. absurd own; most = omega arith; begun = inl refl }
+  stop_begins volume_fails (stop.Refuse SourceFault) c t = record { own = λ own. absurd own; most = omega arith; begun = inl refl }
+  stop_begins volume_fails (stop.Refuse (Table fault)) c t = let none = sym (ap (λ (x : Outcome). x.reached) (c (t.1 tt))) in record { own = λ own. none; most = omega arith; begun = none }
+  stop_begins volume_fails (stop.Refuse (UnknownProduct code)) c t = let none = sym (ap (λ (x : Outcome). x.reached) (c (t.1 tt))) in record { own = λ own. none; most = omega arith; begun = none }
   stop_begins volume_fails (stop.Refuse other) c t = absurd c
 
   stop_log : (volume_fails : Type 0) (e : Stop) → CausedStop source volume_fails source_fails out e → IsLog volume told_package (λ x. x ≡ found) true out (kind_stopped e) 0 (log_of true found (kind_stopped e))

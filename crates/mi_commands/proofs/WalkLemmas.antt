@@ -1,5 +1,5 @@
 -- What a planned walk that was carried out leaves on a settled volume.
-use Rattle.std.proofs.Common.{◌≡◌, ◌⊎◌, inl, inr, ⊎_elim, ℕ, ◌≤◌, arith, min, Bool, true, false, List, length, map, Option, Some, None, Ok, refl, sym, ap, subst, ◌∙◌}
+use Rattle.std.proofs.Common.{◌≡◌, ◌⊎◌, inl, inr, ⊎_elim, ℕ, ◌≤◌, arith, min, Bool, true, false, List, [], length, map, Option, Some, None, Ok, refl, sym, ap, subst, ◌∙◌}
 use Rattle.std.specs.List.{All}
 use Rattle.std.proofs.lemmas.List.Elements.{All-map}
 use Rattle.mi_script.specs.declared.rec.Rec.{Rec}
@@ -20,6 +20,7 @@ use Rattle.mi_base.specs.declared.answers.Fault.{Fault}
 use Rattle.mi_base.specs.declared.answers.Fault.TheVariants.{SizeDiffers}
 use Rattle.mi_base.specs.declared.answers.Cause.{Cause}
 use Rattle.mi_base.specs.declared.answers.Cause.TheVariants.{BadWords, VolumeFault, BadRollback, RecoveryFull, BadImage, SourceFault, Table, UnknownProduct, Launch, ErrorAction, Full}
+use Rattle.mi_base.specs.declared.answers.Pause.{Pause}
 use Rattle.mi_base.specs.declared.answers.Place.{Place}
 use Rattle.mi_base.specs.declared.answers.Place.TheVariants.{InRollback, InCommit}
 use Rattle.mi_base.specs.declared.answers.Kind.{Kind}
@@ -28,12 +29,13 @@ use Rattle.mi_model.specs.World.{Given}
 use Rattle.mi_model.specs.Assignments.{Assigned}
 use Rattle.mi_model.specs.Walk.{walk, last_machine}
 use Rattle.mi_model.specs.Plans.{Planned}
-use Rattle.mi_model.specs.Planning.{IsPlan}
+use Rattle.mi_model.specs.Planning.{IsPlan, kind_by}
 use Rattle.mi_model.specs.PackageOutcome.{Outcome, whole, by_refusal}
 use Rattle.mi_model.specs.PackageOutcome as o
 use Rattle.mi_model.specs.Words.{Package, walks}
 use Rattle.mi_model.specs.Causes.{BelowCount, IsDone, IsRefused, CausedRefusal, Met, Caused, AnswersCommand, IsNotWords}
-use Rattle.mi_model.specs.Leaves.{StandsAfter, MayStand, AtPause, AtExit, Cleans}
+use Rattle.mi_model.specs.Leaves.{StandsAfter, MayStand, AtExit, Cleans}
+use Rattle.mi_model.specs.Leaves as model
 use Rattle.mi_model.specs.Logs.{IsLog, RefusalTells}
 use Rattle.mi_model.specs.Report.{report_of}
 use Rattle.mi_model_laws.proofs.WalkLemmas.{walks_over}
@@ -43,6 +45,13 @@ use Rattle.mi_carry.specs.Segments.{after_segments}
 use Rattle.mi_carry.specs.Ends as carry
 use Rattle.mi_carry.specs.Causes as carried
 use Rattle.mi_carry.specs.OneMap.{LeavesOne}
+use Rattle.mi_carry.specs.Reached.{last_reached, AtOne, AtPause, IsReached}
+use Rattle.std.specs.Prelude.{IsSome}
+use Rattle.mi_carry.specs.declared.stop.Stop.TheVariants.{Refuse}
+use Rattle.mi_carry.proofs.ReachLemmas.{memory_reached}
+use Rattle.mi_commands.specs.Begun as told_of
+use Rattle.mi_commands.specs.Begun.{IsEnd, IsLastEnd}
+use Rattle.mi_commands.proofs.SegmentLemmas.{Good, walk_good, at_one_end, at_last_end, end_most}
 use Rattle.mi_commands.specs.Answers.{IsTold, IsOwnCause, Begins}
 use Rattle.mi_commands.specs.Looks.{Looks}
 use Rattle.mi_commands.specs.Replies.{SettledReads, Serves}
@@ -93,6 +102,11 @@ may_close told room s refusal begun reached n m (Refused cause) (inr met) = met_
 may_close told room s refusal begun reached n m (Suspended pause) c = inl tt
 may_close told room s refusal begun reached n m NoMemory c = inl tt
 
+-- a walk that calls nothing isn't suspended
+pub never_suspended : (refusal : Option Cause) (pause : Pause) → Suspended pause ≡ kind_by refusal → ⊥
+never_suspended None pause is = cc
+never_suspended (Some cause) pause is = cc
+
 -- ---- carried out over a settled volume: f and h are the source's counts
 
 module _ (volume source : Type 0) (recorded : Bool) (folder : Name) (sets : Assigned) (found : Settled) (f h : ℕ) (files : Files) (s u : State) (g : Given) (out : Outcome) (names : List Name) (plans : List Planned) (refusal : Option Cause)
@@ -140,7 +154,7 @@ module _ (volume source : Type 0) (recorded : Bool) (folder : Name) (sets : Assi
   may_stand : (rose : Type 0) (kind : Kind) (d : Map) → carry.MayStand source s.held A refusal rose kind d → MayStand told s.held out rose kind d
   may_stand rose kind d = ⊎_elim (λ stands. inl stands) (λ may. inr (may.0, stands_after d may.1))
 
-  pause_exit : (place : Place) (d : Map) → carry.AtPause source s.held A refusal place d → AtPause told s.held out place d
+  pause_exit : (place : Place) (d : Map) → carry.AtPause source s.held A refusal place d → model.AtPause told s.held out place d
   pause_exit InRollback d at = at
   pause_exit InCommit d at = ⊎_elim (λ stands. inl stands) (λ after. inr (stands_after d after)) at
 
@@ -254,14 +268,70 @@ module _ (volume source : Type 0) (recorded : Bool) (folder : Name) (sets : Assi
     device_own v (Table other) t met own = met
     device_own v other t met own = met
 
-    begins : (kind : Kind) → caused_so kind → told → Begins out (min reached (length names)) kind
-    begins Done c t = record { own = λ own. all_begun t c.1; most = all_begun t c.1 }
-    begins Listed c t = absurd c
-    begins (Recovered settled) c t = absurd c
-    begins (Refused cause) (inl own) t = record { own = λ is. all_begun t own.1; most = most_begun t }
-    begins (Refused cause) (inr met) t = record { own = λ is. absurd (device_own (room → BelowCount s.faults u.faults) cause t met is); most = most_begun t }
-    begins (Suspended pause) c t = record { own = λ own. absurd own; most = most_begun t }
-    begins NoMemory c t = record { own = λ own. absurd own; most = most_begun t }
+    -- where the segments of the walk end
+    good : told → Good out.begun (walk g).parts
+    good t = subst (λ (ns : List Name). Good ns (walk g).parts) (sym (ap (λ (x : Outcome). x.begun) (out_whole t))) (walk_good g)
+
+    one_end : told → AtOne plans reached → IsEnd out.begun (min reached (length names))
+    one_end t at =
+        let is = at_one_end files out.begun (walk g).world.given.former (walk g).parts plans reached (plan t.0 (sources t)).1.ended (good t) at in
+        let le = end_most out.begun reached is in
+        let same = ap (λ (ns : List Name). length ns) (out_begun t) in
+        let stays : reached ≡ min reached (length names) = omega (arith, le, same) in
+        subst (IsEnd out.begun) stays is
+
+    last_end : told → (plans ≡ [] → ⊥) → reached ≡ last_reached (length names) plans → IsLastEnd out.begun (min reached (length names))
+    last_end t some at =
+        let is = at_last_end files out.begun (length names) (walk g).world.given.former (walk g).parts plans (plan t.0 (sources t)).1.ended (good t) some in
+        let le = end_most out.begun (last_reached (length names) plans) is.is in
+        let same = ap (λ (ns : List Name). length ns) (out_begun t) in
+        let stays : last_reached (length names) plans ≡ min reached (length names) = omega (arith, le, same, at) in
+        subst (IsLastEnd out.begun) stays is
+
+    -- the walk's own refusal is no fault of a device
+    device_begun : (cause : Cause) → (IsWalkCause cause → ⊥) → ((refusal ≡ Some cause) × (reached ≡ length names)) ⊎ AtOne plans reached → told → IsEnd out.begun (min reached (length names))
+    device_begun cause isnt (inl own) t = absurd (isnt (own_cause cause own.0))
+    device_begun cause isnt (inr at) t = one_end t at
+
+    own_begun : (v : Type 0) (cause : Cause) → IsOwnCause cause → ((refusal ≡ Some cause) × (reached ≡ length names)) ⊎ carried.IsMet differs v (BelowCount f h) cause → told → min reached (length names) ≡ out.reached
+    own_begun v cause is (inl own) t = all_begun t own.1
+    own_begun v cause is (inr met) t = absurd (device_own v cause t met is)
+
+    abbrev reached_so : Kind → Type 0
+    reached_so kind = IsReached refusal (length names) plans reached kind
+
+    refused_begun : (cause : Cause) → caused_so (Refused cause) → reached_so (Refused cause) → told → told_of.AtRefusal out (min reached (length names)) cause
+    refused_begun VolumeFault c r t = inr (device_begun VolumeFault (λ is. is) r t)
+    refused_begun SourceFault c r t = inr (device_begun SourceFault (λ is. is) r t)
+    refused_begun other c r t = own_begun (room → BelowCount s.faults u.faults) other tt c t
+
+    paused_begun : (place : Place) (why : Option Cause) (fell : Type 0) → carried.MetAt differs room (BelowCount f h) refusal (length names) reached place fell why → AtPause refusal (length names) plans reached place why → (plans ≡ [] → ⊥) → told
+        → told_of.AtPause out (min reached (length names)) place why
+    paused_begun InRollback None fell met r some t = absurd met
+    paused_begun InRollback (Some VolumeFault) fell met r some t = device_begun VolumeFault (λ is. is) r t
+    paused_begun InRollback (Some SourceFault) fell met r some t = device_begun SourceFault (λ is. is) r t
+    paused_begun InRollback (Some other) fell met r some t = own_begun (room → fell) other tt met t
+    paused_begun InCommit why fell met r some t = last_end t some r
+
+    own_of : (r : Option Cause) → IsSome r → (cause : Cause) × (r ≡ Some cause)
+    own_of None is = absurd cc
+    own_of (Some cause) is = (cause, refl)
+
+    memory_begun : reached_so NoMemory → told → told_of.HasBegun out (min reached (length names)) NoMemory
+    memory_begun (inl own) t = let why = own_of refusal own.0 in inr (inr (why.0, refuses t why.0 why.1, all_begun t own.1))
+    memory_begun (inr at) t = inr (inl (one_end t at))
+
+    -- there is a segment, if it isn't known whether the commit holds
+    abbrev HasSegments : Kind → Type 0
+    HasSegments kind = (pause : Pause) → kind ≡ Suspended pause → plans ≡ [] → ⊥
+
+    begins : (kind : Kind) → caused_so kind → reached_so kind → HasSegments kind → told → Begins out (min reached (length names)) kind
+    begins Done c r some t = record { own = λ own. all_begun t c.1; most = all_begun t c.1; begun = all_begun t c.1 }
+    begins Listed c r some t = absurd c
+    begins (Recovered settled) c r some t = absurd c
+    begins (Refused cause) c r some t = record { own = λ is. own_begun (room → BelowCount s.faults u.faults) cause is c t; most = most_begun t; begun = refused_begun cause c r t }
+    begins (Suspended pause) c r some t = record { own = λ own. absurd own; most = most_begun t; begun = paused_begun pause.place pause.why (BelowCount pause.begun pause.again) c.met r (some pause refl) t }
+    begins NoMemory c r some t = record { own = λ own. absurd own; most = most_begun t; begun = memory_begun r t }
 
     tells_refusal : (cause : Cause) → carried.MayRefuse differs room (BelowCount f h) refusal (length names) reached (BelowCount s.faults u.faults) cause → RefusalTells (λ x. x ≡ found) cause found
     tells_refusal VolumeFault c = inl refl
@@ -284,10 +354,10 @@ module _ (volume source : Type 0) (recorded : Bool) (folder : Name) (sets : Assi
     -- ---- all of it
 
     pub walk_serves : s.faults ≤ u.faults → f ≤ h → (kind : Kind) (bytes : List ℕ) → caused_so kind
-        → (volume → GoesOn s u (carry.MayStand source s.held A refusal (BelowCount s.faults u.faults) kind)) → (volume → Each u (carry.AtExit source s.held A refusal kind)) → (volume → carry.Reads source s.held A kind (outside u.held)) → (volume → Cleans s u kind) → (volume → (B : Map) × LeavesOne s u s.held B kind)
+        → (volume → GoesOn s u (carry.MayStand source s.held A refusal (BelowCount s.faults u.faults) kind)) → (volume → Each u (carry.AtExit source s.held A refusal kind)) → (volume → carry.Reads source s.held A kind (outside u.held)) → (volume → Cleans s u kind) → (volume → (B : Map) × LeavesOne s u s.held B kind) → reached_so kind → HasSegments kind
         → bytes ≡ report_of kind found true names (min reached (length names))
         → Serves volume told s u out (Package recorded folder sets) (λ x. x ≡ found) fails kind (min reached (length names)) bytes
-    walk_serves le less kind bytes c stops leaves at cleans one is = record {
+    walk_serves le less kind bytes c stops leaves at cleans one r some is = record {
       stops = λ v. weaker s u (carry.MayStand source s.held A refusal (BelowCount s.faults u.faults) kind) (MayStand told s.held out (BelowCount s.faults u.faults) kind) (may_stand (BelowCount s.faults u.faults) kind) (stops v);
       leaves = λ v d image. at_exit kind d (leaves v d image);
       reads = λ v. reads kind u.held c (at v);
@@ -296,7 +366,7 @@ module _ (volume source : Type 0) (recorded : Bool) (folder : Name) (sets : Assi
       one_map = one;
       caused = caused le less kind c;
       answers = answers kind c;
-      begins = begins kind c;
+      begins = begins kind c r some;
       log = says_whole (IsLog volume told (λ x. x ≡ found) true out kind (min reached (length names))) kind bytes bytes refl (log kind (min reached (length names)) bytes c is);
     }
 
@@ -308,35 +378,35 @@ module _ (volume source : Type 0) (recorded : Bool) (folder : Name) (sets : Assi
     late_stand rose other is d may = absurd cc
 
     late_serves : s.faults ≤ u.faults → f ≤ h → (kind : Kind) (bytes : List ℕ) → IsSized kind
-        → (volume → GoesOn s u (carry.MayStand source s.held A refusal (BelowCount s.faults u.faults) kind)) → (volume → Each u (carry.AtExit source s.held A refusal kind)) → (volume → (B : Map) × LeavesOne s u s.held B kind)
+        → (volume → GoesOn s u (carry.MayStand source s.held A refusal (BelowCount s.faults u.faults) kind)) → (volume → Each u (carry.AtExit source s.held A refusal kind)) → (volume → (B : Map) × LeavesOne s u s.held B kind) → reached_so kind
         → bytes ≡ report_of NoMemory found true names (min reached (length names))
         → Serves volume told s u out (Package recorded folder sets) (λ x. x ≡ found) fails NoMemory (min reached (length names)) bytes
-    late_serves le less Done bytes is stops leaves one log_is = absurd is
-    late_serves le less Listed bytes is stops leaves one log_is = absurd is
-    late_serves le less (Recovered settled) bytes is stops leaves one log_is = absurd is
-    late_serves le less (Suspended pause) bytes is stops leaves one log_is = absurd is
-    late_serves le less NoMemory bytes is stops leaves one log_is = absurd is
-    late_serves le less (Refused cause) bytes is stops leaves one log_is =
+    late_serves le less Done bytes is stops leaves one r log_is = absurd is
+    late_serves le less Listed bytes is stops leaves one r log_is = absurd is
+    late_serves le less (Recovered settled) bytes is stops leaves one r log_is = absurd is
+    late_serves le less (Suspended pause) bytes is stops leaves one r log_is = absurd is
+    late_serves le less NoMemory bytes is stops leaves one r log_is = absurd is
+    late_serves le less (Refused cause) bytes is stops leaves one r log_is =
         walk_serves le less NoMemory bytes tt
         (λ v. weaker s u (carry.MayStand source s.held A refusal (BelowCount s.faults u.faults) (Refused cause)) (carry.MayStand source s.held A refusal (BelowCount s.faults u.faults) NoMemory) (late_stand (BelowCount s.faults u.faults) cause is) (stops v))
-        leaves (λ v. tt) (λ v. tt) (λ v. let map = one v in (map.0, one_late s u s.held map.0 cause is map.1)) log_is
+        leaves (λ v. tt) (λ v. tt) (λ v. let map = one v in (map.0, one_late s u s.held map.0 cause is map.1)) (memory_reached refusal (length names) plans reached (Refuse cause) r) (λ pause same none. cc) log_is
 
     -- the answer as it is said
     pub said_serves : s.faults ≤ u.faults → f ≤ h → (kind said : Kind) (n : ℕ) (bytes : List ℕ) → SaysKind kind said → n ≡ min reached (length names) → caused_so kind
-        → (volume → GoesOn s u (carry.MayStand source s.held A refusal (BelowCount s.faults u.faults) kind)) → (volume → Each u (carry.AtExit source s.held A refusal kind)) → (volume → carry.Reads source s.held A kind (outside u.held)) → (volume → Cleans s u kind) → (volume → (B : Map) × LeavesOne s u s.held B kind)
+        → (volume → GoesOn s u (carry.MayStand source s.held A refusal (BelowCount s.faults u.faults) kind)) → (volume → Each u (carry.AtExit source s.held A refusal kind)) → (volume → carry.Reads source s.held A kind (outside u.held)) → (volume → Cleans s u kind) → (volume → (B : Map) × LeavesOne s u s.held B kind) → reached_so kind → HasSegments kind
         → bytes ≡ report_of said found true names n
         → Serves volume told s u out (Package recorded folder sets) (λ x. x ≡ found) fails said n bytes
-    said_serves le less kind said n bytes says is c stops leaves at cleans one log_is =
+    said_serves le less kind said n bytes says is c stops leaves at cleans one r some log_is =
         subst (λ (k : ℕ). Serves volume told s u out (Package recorded folder sets) (λ x. x ≡ found) fails said k bytes) (sym is) (⊎_elim same late says)
       where
         log_at : (k : Kind) → said ≡ k → bytes ≡ report_of k found true names (min reached (length names))
         log_at k e = log_is ∙ ap (λ (x : Kind). report_of x found true names n) e ∙ ap (report_of k found true names) is
 
         same : said ≡ kind → Serves volume told s u out (Package recorded folder sets) (λ x. x ≡ found) fails said (min reached (length names)) bytes
-        same e = subst (λ (k : Kind). Serves volume told s u out (Package recorded folder sets) (λ x. x ≡ found) fails k (min reached (length names)) bytes) (sym e) (walk_serves le less kind bytes c stops leaves at cleans one (log_at kind e))
+        same e = subst (λ (k : Kind). Serves volume told s u out (Package recorded folder sets) (λ x. x ≡ found) fails k (min reached (length names)) bytes) (sym e) (walk_serves le less kind bytes c stops leaves at cleans one r some (log_at kind e))
 
         late : (said ≡ NoMemory) × IsSized kind → Serves volume told s u out (Package recorded folder sets) (λ x. x ≡ found) fails said (min reached (length names)) bytes
-        late e = subst (λ (k : Kind). Serves volume told s u out (Package recorded folder sets) (λ x. x ≡ found) fails k (min reached (length names)) bytes) (sym e.0) (late_serves le less kind bytes e.1 stops leaves one (log_at NoMemory e.0))
+        late e = subst (λ (k : Kind). Serves volume told s u out (Package recorded folder sets) (λ x. x ≡ found) fails k (min reached (length names)) bytes) (sym e.0) (late_serves le less kind bytes e.1 stops leaves one r (log_at NoMemory e.0))
 
 -- ---- planned segments in their written form
 
@@ -371,12 +441,12 @@ module _ (volume source : Type 0) (recorded : Bool) (folder : Name) (sets : Assi
 
       refused : bytes ≡ report_of (Refused (Full lacks free)) found true names n → Serves volume full_told s t out (Package recorded folder sets) (λ x. x ≡ found) fails (Refused (Full lacks free)) n bytes
       refused log = quiet_serves volume full_told s t out (Package recorded folder sets) (λ x. x ≡ found) found refl fails is_free looks (Refused (Full lacks free)) n bytes tt (λ t. (full_at t).end) tt
-          (λ t. record { own = λ own. sym (full_at t).reached; most = full_most t })
+          (λ t. record { own = λ own. sym (full_at t).reached; most = full_most t; begun = sym (full_at t).reached })
           (says_whole (IsFullLog (Refused (Full lacks free))) (Refused (Full lacks free)) bytes bytes refl (record { settled = found; begun = names; tells = refl; begins = λ t. sym (full_at t).begun; is = log }))
 
       wants : bytes ≡ report_of NoMemory found true names n → Serves volume full_told s t out (Package recorded folder sets) (λ x. x ≡ found) fails NoMemory n bytes
       wants log = quiet_serves volume full_told s t out (Package recorded folder sets) (λ x. x ≡ found) found refl fails is_free looks NoMemory n bytes tt tt tt
-          (λ t. record { own = λ own. absurd own; most = full_most t })
+          (λ t. record { own = λ own. absurd own; most = full_most t; begun = inr (inr (Full lacks free, (full_at t).end, sym (full_at t).reached)) })
           (says_whole (IsFullLog NoMemory) NoMemory bytes bytes refl (record { settled = found; begun = names; tells = refl; begins = λ t. sym (full_at t).begun; is = log }))
 
 -- ---- the log behind the walk

@@ -9,6 +9,7 @@ use Rattle.mi_base.specs.declared.answers.Kind.TheVariants.{Refused, Suspended, 
 use Rattle.mi_model.specs.Words.{Command, Installs}
 use Rattle.mi_model.specs.PackageOutcome.{Outcome}
 use Rattle.mi_model.specs.Causes.{SameCount, Reaches}
+use Rattle.mi_commands.specs.Begun.{HasBegun}
 
 -- The volume tells what it holds, and where the words ask for a package of the source, so does that.
 abbrev pub IsTold : Type 0 → Type 0 → Result Command ℕ → Type 0
@@ -40,3 +41,4 @@ IsOwn other = Unit {0}
 pub record Begins (out : Outcome) (reached : ℕ) (kind : Kind) : Type 0 where
   pub own : IsOwn kind → reached ≡ out.reached
   pub most : Reaches out reached kind
+  pub begun : HasBegun out reached kind

@@ -1,5 +1,6 @@
 pub mod Answers
 pub mod Asked
+pub mod Begun
 pub mod Calls
 pub mod Endings
 pub mod Looks

@@ -8,7 +8,9 @@ use Rattle.mi_model.specs.Walk.{walk}
 use Rattle.mi_carry.specs.Causes as carried
 use Rattle.mi_carry.specs.Causes.{Differs}
 use Rattle.mi_commands.specs.Replies.{log_in}
-use Rattle.mi_commands.proofs.WalkLemmas.{said_serves, may_close}
+use Rattle.mi_carry.specs.Reached.{IsReached}
+use Rattle.mi_carry.proofs.ReachLemmas.{not_none}
+use Rattle.mi_commands.proofs.WalkLemmas.{said_serves, may_close, never_suspended}
 use Rattle.mi_commands.proofs.walk.carry_ready.Goals as goal
 
 pub returns-clause-serves : goal.returns-clause-serves
@@ -33,4 +35,6 @@ returns-clause-serves g c recorded folder sets given out names settled made begu
     (λ v. c.carry_out-carried.ensures.recovers v (has v)) reached
     c.carry_out-carried.ensures.passes.faults c.carry_out-carried.ensures.source_counts kind r.kind r.reached (log_in r) c.answered.ensures.says (c.answered.ensures.reached ∙ ap (min reached) begun) caused
     c.carry_out-carried.ensures.stops c.carry_out-carried.ensures.leaves c.carry_out-carried.ensures.reads c.carry_out-carried.ensures.cleans (λ v. let one = c.carry_out-carried.ensures.one_map v in (one.0, one.2))
+    (subst (λ (b : ℕ). IsReached refusal b segments reached kind) (c.from.ensures ∙ begun) c.carry_out-carried.ensures.reached)
+    (λ pause is. not_none segments (λ none. never_suspended refusal pause (sym is ∙ c.carry_out-carried.ensures.idle_answer none)))
     (c.answered.ensures.log settled names refusal made (may_close differs room (BelowCount f h) refusal (length names) reached s.faults u.faults kind caused))
