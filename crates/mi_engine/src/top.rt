@@ -20,6 +20,7 @@ ghost use Rattle.mi_model.specs.TopCall.{handed, IsTold, IsStill};
 ghost use Rattle.mi_model.specs.Words.{Installs, command_of, walks};
 ghost use Rattle.mi_report.specs.WalkLogs.{log_text};
 ghost use Rattle.mi_carry.specs.OneMap.{LeavesOne};
+ghost use Rattle.mi_commands.specs.Begun.{HasBegun};
 
 use crate::answer::Answer;
 use mi_commands::{Reply, reply_to};
@@ -74,6 +75,9 @@ pub fn run<S: Source, V: Volume, K: Sink>(
     ensures passes { Passes (V.state vol.old) (V.state vol.new) }
     ensures counts { S.faults src.old ≤ S.faults src.new }
     ensures reached { (o : Outcome) → ComesTo (handed (texts_of words.now) (S.files src.old) (V.state vol.old) now) o → (IsTold V.told S.told (texts_of words.now)) → Reaches o result.reached result.kind }
+
+    // How many actions are begun, also if a count rose: all, none, or those at the end of a segment.
+    ensures begun { (o : Outcome) → ComesTo (handed (texts_of words.now) (S.files src.old) (V.state vol.old) now) o → (IsTold V.told S.told (texts_of words.now)) → HasBegun o result.reached result.kind }
 
     // The log.
     ensures log { (o : Outcome) → ComesTo (handed (texts_of words.now) (S.files src.old) (V.state vol.old) now) o → K.told

@@ -54,6 +54,9 @@ returns-clause-reads g c = λ o comes. (c.reply_to-reply.ensures.runs o comes).r
 pub returns-clause-reached : goal.returns-clause-reached
 returns-clause-reached g c = λ o comes told. ((c.reply_to-reply.ensures.runs o comes).begins told).most
 
+pub returns-clause-begun : goal.returns-clause-begun
+returns-clause-begun g c = λ o comes told. ((c.reply_to-reply.ensures.runs o comes).begins told).begun
+
 pub returns-clause-log : goal.returns-clause-log
 returns-clause-log g c = λ o comes told.
     let words = texts_of c.args.words.now in
