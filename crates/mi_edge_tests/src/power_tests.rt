@@ -83,7 +83,7 @@ const LONG: History = History {
         Deed::Sync,
     ],
     trips: &[Trip::Stop],
-    cuts_opening: 7,
+    cuts_opening: 3,
 };
 
 /// Names of two and of three parts, which share one, that are held when the process begins, which takes one away before it
@@ -106,7 +106,7 @@ const HELD: History = History {
         Deed::Sync,
     ],
     trips: &[Trip::Stop, Trip::Fail(Failure::Broken)],
-    cuts_opening: 3,
+    cuts_opening: 1,
 };
 
 /// Two names that are held, whose files are written as long as they were, one behind the other; the first is then marked,
@@ -136,7 +136,7 @@ const AS_LONG: History = History {
         Deed::Sync,
     ],
     trips: &[Trip::Stop, Trip::Fail(Failure::Broken)],
-    cuts_opening: 0,
+    cuts_opening: 1,
 };
 
 /// What the disk may have after the power was cut.
